@@ -1,0 +1,2 @@
+mod BoundaryLemmas
+mod FailureLemmas

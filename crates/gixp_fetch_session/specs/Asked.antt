@@ -1,5 +1,5 @@
 -- What a server is asked for.
-use Rattle.std.specs.Prelude.{◌≡◌, ℕ, Bool, true, false, List, Ok, map}
+use Rattle.std.specs.Prelude.{◌≡◌, ℕ, Bool, true, false, List, Option, Some, None, Ok, map}
 use Rattle.bstr.specs.Owned.{bstring_bytes}
 use Rattle.bstr.specs.declared.bstring.BString.{BString}
 use Rattle.gix_protocol.specs.Requests.{SetsFilter}
@@ -12,6 +12,11 @@ use Rattle.gix_protocol.specs.RefSpecType.{RefSpec}
 abbrev pub SetsFilterIf : Bool → List ℕ → Request → Request → Type 0
 SetsFilterIf true filter old new = SetsFilter filter old new
 SetsFilterIf false filter old new = new ≡ old
+
+-- the same for a filter that may be none
+abbrev pub SetsFilterWhere : Bool → Option (List ℕ) → Request → Request → Type 0
+SetsFilterWhere can (Some filter) old new = SetsFilterIf can filter old new
+SetsFilterWhere can None old new = new ≡ old
 
 -- refspecs are those of the texts, one for each, in their order
 abbrev pub AreSpecsOf : List BString → List RefSpec → Type 0

@@ -1,5 +1,5 @@
 -- What is told of a program that ends with an error.
-use Rattle.std.specs.Prelude.{◌≡◌, ◌≢◌, ℕ, ⊤, Bool, true, false, List, [], Option, Some, None, string_bytes, option_map, codes, if◌then◌else◌, Result, Ok, Err}
+use Rattle.std.specs.Prelude.{◌≡◌, ◌≢◌, ℕ, ⊤, Bool, true, false, List, Option, Some, None, string_bytes, option_map, codes, if◌then◌else◌, Result, Ok, Err}
 use Rattle.std.specs.Io.BufRead.{strip_last}
 use Rattle.std.specs.declared.io.ErrorKind.{ErrorKind}
 use Rattle.std.specs.declared.io.ErrorKind.TheVariants.{OutOfMemory}
@@ -24,6 +24,12 @@ abbrev pub TellsStep : Step → Option (List ℕ) → Failure → Type 0
 TellsStep step message (StepFails s why said) = (s ≡ step) × (option_map bstring_bytes said ≡ said_of message)
 TellsStep step message Memory = ⊤
 TellsStep step message _ = ⊥
+
+-- a step failed, of which no server said anything; or an allocation did
+abbrev pub TellsUnsaid : Step → Failure → Type 0
+TellsUnsaid step (StepFails s why said) = (s ≡ step) × (said ≡ None)
+TellsUnsaid step Memory = ⊤
+TellsUnsaid step _ = ⊥
 
 -- a step failed, as a text says; or an allocation did
 abbrev pub TellsStepText : Step → List ℕ → Failure → Type 0

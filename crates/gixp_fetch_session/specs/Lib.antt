@@ -4,4 +4,10 @@ pub mod Asked
 pub mod SystemWords
 pub mod Left
 pub mod Compared
+pub mod Unfetched
+pub mod Mapped
+pub mod Connected
+pub mod Kept
+pub mod Usage
+pub mod OfBoundary
 pub mod Tips

@@ -4,7 +4,7 @@ ghost use Rattle.std.specs.declared.io.ErrorKind.TheVariants.{OutOfMemory};
 ghost use Rattle.std.specs.Io.BufRead.{strip_last};
 ghost use Rattle.bstr.specs.Owned.{bstring_bytes};
 ghost use Rattle.gixp_fetch_session.specs.Compared.{TellsUpdate};
-ghost use Rattle.gixp_fetch_session.specs.Failures.{said_of, TellsStep, TellsStepText, TellsFile, TellsLine, is_said_by_git, speaker_of};
+ghost use Rattle.gixp_fetch_session.specs.Failures.{said_of, TellsStep, TellsStepText, TellsUnsaid, TellsFile, TellsLine, is_said_by_git, speaker_of};
 ghost use Rattle.gixp_fetch_session.specs.declared.failure.Failure.TheVariants.{Memory};
 
 use crate::kinds::words_of;
@@ -115,7 +115,8 @@ impl Failure {
 
     /// A step failed, as the text says.
     pub fn of_text(alloc: Global, step: Step, text: &str) -> Failure
-        ensures { TellsStepText step text.now result }
+        ensures text { TellsStepText step text.now result }
+        ensures unsaid { TellsUnsaid step result }
     {
         match String::from_str(alloc, text) {
             Ok(why) => Failure::Step {

@@ -1,8 +1,15 @@
 //! The program `gixp_fetch_pack`: it fetches from a server that speaks over two files or the standard streams.
 #![tactic(auto)]
 
-ghost use Rattle.std.specs.Prelude.{◌≡◌, IfOk, option_map, string_bytes};
+ghost use Rattle.std.specs.Prelude.{◌≡◌, ◌&&◌, [], None, is_some, Ok, Err, IfOk, IfErr, OnOk};
+ghost use Rattle.std.specs.Option.{option_map};
+ghost use Rattle.gix_protocol.specs.Filters.{offers_filter};
+ghost use Rattle.gix_protocol.specs.UpdateErrorType.{Error as UpdateError};
+ghost use Rattle.gixp_fetch_session.specs.Asked.{SetsFilterWhere};
+ghost use Rattle.gixp_fetch_session.specs.Compared.{TellsUpdate, knows_commits, local_side, SaysChanges};
 ghost use Rattle.gixp_fetch_session.specs.Failures.{TellsRefused, unless_failed};
+ghost use Rattle.gixp_fetch_session.specs.Kept.{KeepsOrDrops};
+ghost use Rattle.gixp_fetch_session.specs.Received.{DropsHeld};
 
 mod ends;
 pub mod failure;
@@ -25,7 +32,9 @@ use crate::shown::Shown;
 use crate::usage::{USAGE, VERSION, print_refusal};
 use gix_protocol::client::{Fetched, Listener, Request, Session, Silent};
 use gix_protocol::fetch::RefMap;
-use gix_protocol::fetch::negotiate::{Graph, Noop, Shared};
+use gix_protocol::fetch::negotiate::{
+    Find, Graph, Noop, RefStore, Shared, StoredObjects, StoredRefs,
+};
 use gix_protocol::transport::{Connection, NestedProgress, ObjectId, Transport};
 use gixp_fetch_local::listed::{ListedCommits, Refusal};
 use gixp_fetch_local::{
@@ -103,7 +112,9 @@ fn tell(rt: &HostRuntime, output: &Output<'_>, text: &[u8]) -> Result<(), Failur
 }
 
 // What shows the server's progress.
-fn shown_of<'a>(rt: &'a HostRuntime, output: &Output<'_>, has_failed: &'a Cell<bool>) -> Shown<'a> {
+fn shown_of<'a>(rt: &'a HostRuntime, output: &Output<'_>, has_failed: &'a Cell<bool>) -> Shown<'a>
+    ensures { result.shows_progress ≡ output.now.shows_progress }
+{
     Shown {
         rt,
         shows_progress: output.shows_progress,
@@ -192,7 +203,10 @@ fn take_pack<T: Transport + Drop>(
     asked: Asked<'_>,
     path: &str,
     shallow: Option<&str>,
-) -> Result<Option<PackSummary>, Failure> {
+) -> Result<Option<PackSummary>, Failure>
+    ensures { asked.entry.map.now.mappings.items ≡ [] → (result ≡ Ok None) × (session.new ≡ session.old)
+        × (repository.new ≡ repository.old) }
+{
     let alloc = rt.alloc();
     if asked.map.is_empty() {
         return Ok(None);
@@ -200,10 +214,26 @@ fn take_pack<T: Transport + Drop>(
     let mut pack = PackReceiver::new(alloc, PackFile::new(rt, alloc, path)?);
     let came = negotiate(rt, session, repository, asked, &mut pack);
     let came = unless_failed(came, session.progress().has_failed.get());
-    match settle(rt, shallow, &repository.boundary, came) {
-        Ok(()) => pack
-            .keep()
-            .map_err(|e| Failure::of_file(alloc, path, e.kind())),
+    let settled = settle(rt, shallow, &repository.boundary, came);
+    keep_settled(alloc, path, settled, &mut pack)
+}
+
+// Keeps the pack of a fetch whose boundary is kept, and takes that of any other away.
+fn keep_settled<P: PackPlace>(
+    alloc: Global,
+    path: &str,
+    settled: Result<(), Failure>,
+    pack: &mut PackReceiver<P>,
+) -> Result<Option<PackSummary>, Failure>
+    ensures settled { OnOk settled (KeepsOrDrops P.keeps P.gives_up path.now pack.old.whole pack.old.place result pack.new.place) }
+    ensures unsettled { IfErr settled (λ e. (result ≡ Err e) × DropsHeld P.gives_up pack.old.whole pack.old.place pack.new.place) }
+    ensures over { pack.new.whole ≡ None }
+{
+    match settled {
+        Ok(()) => match pack.keep() {
+            Ok(told) => Ok(told),
+            Err(e) => Err(Failure::of_file(alloc, path, e.kind())),
+        },
         Err(e) => {
             pack.give_up();
             Err(e)
@@ -232,9 +262,16 @@ fn settle(
     path: Option<&str>,
     old: &[ObjectId],
     came: Result<Fetched, Failure>,
-) -> Result<(), Failure> {
-    let boundary = came?.boundary.with_unasked(rt.alloc())?;
-    write_boundary(rt, path, old, &boundary)
+) -> Result<(), Failure>
+    ensures { IfErr came (λ e. result ≡ Err e) }
+{
+    match came {
+        Ok(fetched) => {
+            let boundary = fetched.boundary.with_unasked(rt.alloc())?;
+            write_boundary(rt, path, old, &boundary)
+        }
+        Err(why) => Err(why),
+    }
 }
 
 /// Has objects left out by a filter, if there is one, where the server can do that. Else the user is told that it can't, as git does.
@@ -243,7 +280,10 @@ pub fn ask_filter<T: Transport + Drop, L: Listener + Drop, S: NestedProgress + D
     session: &Session<T, L, S>,
     request: &mut Request,
     filter: Option<&str>,
-) -> Result<(), Failure> {
+) -> Result<(), Failure>
+    ensures { OnOk result (SetsFilterWhere (offers_filter session.now.shaken) (option_map (λ w. w.now) filter.entry) request.old
+        request.new) }
+{
     let Some(filter) = filter else {
         return Ok(());
     };
@@ -294,21 +334,38 @@ fn changes_in(
     repository: &Repository,
     options: &Options<'_>,
     wish: &Wish<'_>,
-) -> Result<Vec<Option<Change>>, Failure> {
-    if options.files.refs.is_none() || wish.haves == Haves::InOrder {
+) -> Result<Vec<Option<Change>>, Failure>
+    ensures changes { IfOk result (λ changes. SaysChanges (is_some options.now.files.refs && knows_commits wish.now.haves)
+        (local_side (⟦<StoredRefs as RefStore>⟧.refs repository.now.refs) (⟦<StoredObjects as Find>⟧.contents repository.now.objects))
+        wish.now.tags map.now changes.items) }
+    ensures refused { IfErr result (λ f. (e : UpdateError) × TellsUpdate e f) }
+{
+    if !says_changes(options, wish) {
         return Ok(Vec::new(alloc));
     }
     let objects = Shared::new(&repository.objects);
     let mut graph = Graph::new(alloc, Shared::new(&repository.objects));
-    changes(
+    match changes(
         alloc,
         map,
         &repository.refs,
         &objects,
         &mut graph,
         wish.tags,
-    )
-    .map_err(|e| Failure::of_update(alloc, e))
+    ) {
+        Ok(changes) => Ok(changes),
+        Err(e) => Err(Failure::of_update(alloc, e)),
+    }
+}
+
+// Whether it is said what becomes of the local refs.
+fn says_changes(options: &Options<'_>, wish: &Wish<'_>) -> bool
+    ensures { result ≡ (is_some options.now.files.refs && knows_commits wish.now.haves) }
+{
+    match (options.files.refs, wish.haves) {
+        (Some(_), Haves::By(_)) => true,
+        _ => false,
+    }
 }
 
 // Does what the options ask for.

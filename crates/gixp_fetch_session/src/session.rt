@@ -1,22 +1,45 @@
 //! What both programs do over a client's session: how it is opened, what is mapped and fetched over it, and what is said where that
 //! fails.
-ghost use Rattle.std.specs.Prelude.{◌≡◌, ◌≤◌, ◌<◌, Ok, IfOk, IfSome, OnOk, is_some, true};
+ghost use Rattle.std.specs.Prelude.{◌≡◌, ◌≤◌, ◌⊎◌, ⊤, true, [], List, length, Option, None, Ok, Result, IfOk, IfErr, IfSome, OnOk, string_bytes};
 ghost use Rattle.std.specs.Option.{option_map};
 ghost use Rattle.bstr.specs.Owned.{bstring_bytes};
+ghost use Rattle.gix_protocol.specs.Boundaries.{IsLeftBoundary, IsBoundaryAfter};
+ghost use Rattle.gix_protocol.specs.ClientCalls.{client_feature, session_call, session_knowledge, OpensSession, GivesRefs, FetchesInSession};
+ghost use Rattle.gix_protocol.specs.ClientError.{IsUnsent};
+ghost use Rattle.gix_protocol.specs.Connection.{connection_reading};
+ghost use Rattle.gix_protocol.specs.Fetch.{parties_of};
+ghost use Rattle.gix_protocol.specs.FetchOutcomeType.{Outcome as FetchOutcome};
+ghost use Rattle.gix_protocol.specs.FetchShallow.{shallow_value, is_change};
 ghost use Rattle.gix_protocol.specs.Filters.{offers_filter};
-ghost use Rattle.gix_protocol.specs.Shallow.{shallow_value};
+ghost use Rattle.gix_protocol.specs.ObjectIdType.{ObjectId as Id};
+ghost use Rattle.gix_protocol.specs.ServiceType.TheVariants.{UploadPack};
+ghost use Rattle.gix_protocol.specs.SessionStateType.TheVariants.{AtStop};
+ghost use Rattle.gix_protocol.specs.SessionStates.{behind_fetch, IsRefusedFetch};
+ghost use Rattle.gix_protocol.specs.ShakeProgress.{TellsShake};
+ghost use Rattle.gix_protocol.specs.Unshallowed.{KnowsAll};
 ghost use Rattle.gixp_fetch_session.specs.Asked.{AreSpecsOf, SetsFilterIf};
+ghost use Rattle.gixp_fetch_session.specs.Connected.{IsConnected};
+ghost use Rattle.gixp_fetch_session.specs.Failures.{TellsUnsaid};
+ghost use Rattle.gixp_fetch_session.specs.Mapped.{lists_all, ListsIf, MapsListed, IsUnlisted, IsUnmapped};
+ghost use Rattle.gixp_fetch_session.specs.OfBoundary.{OfBoundary};
+ghost use Rattle.gixp_fetch_session.specs.Unfetched.{left_failure, TellsItself, TellsSessionError, FailsWithin};
 
 use crate::failure::{Failure, Step};
 use crate::left::is_left;
 use crate::receive::PackReceiver;
 use crate::repository::Repository;
 use bstr::BString;
-use gix_protocol::client::{self, Error, Fetched, Listener, PackError, Request, Session};
-use gix_protocol::fetch::RefMap;
-use gix_protocol::fetch::negotiate::Negotiator;
+use gix_protocol::client::{
+    self, Error, Fetched, Listener, PackError, Request, Session, SessionNegotiation,
+};
+use gix_protocol::fetch::negotiate::{
+    Find, Negotiate, NegotiatesMap, Negotiator, RefStore, StoredObjects, StoredRefs,
+};
+use gix_protocol::fetch::{ConsumePack, RefMap, ShallowMemory, ShallowStore};
 use gix_protocol::handshake::Ref;
-use gix_protocol::transport::{Connection, NestedProgress, Opening, Transport};
+use gix_protocol::transport::{
+    Connection, Interrupt, NestedProgress, NeverInterrupt, Opening, Transport,
+};
 use gixp_fetch_local::{Haves, PackPlace, Server, Wish};
 use std::alloc::{AllocError, Global};
 use std::io::{Read, Write};
@@ -61,7 +84,10 @@ pub fn connect<R: Read + Drop, W: Write + Drop>(
     from: R,
     to: W,
     server: &Server<'_>,
-) -> Result<Connection<R, W>, AllocError> {
+) -> Result<Connection<R, W>, AllocError>
+    ensures { IfOk result (λ c. IsConnected (option_map (λ w. w.now) server.now.path) (option_map (λ w. w.now) server.now.host)
+        server.now.version (R.remaining from) (W.contents to) (connection_reading R.remaining W.contents c)) }
+{
     let opening = opening_of(alloc, server)?;
     let url = BString::from_slice(alloc, server.path.unwrap_or("").as_bytes())?;
     Connection::new(
@@ -118,24 +144,29 @@ pub fn set_filter<T: Transport + Drop, L: Listener + Drop, S: NestedProgress + D
 }
 
 // What has no sentence of this program's own.
-fn other_failure(alloc: Global, step: Step, error: &Error) -> Failure {
+fn other_failure(alloc: Global, step: Step, error: &Error) -> Failure
+    ensures { TellsUnsaid step result }
+{
     match format!(in alloc; "{error}") {
         Ok(why) => Failure::of_text(alloc, step, why.as_str()),
         Err(_) => Failure::Memory,
     }
 }
 
-// Why a call of the session failed within this step.
-fn failure_of(alloc: Global, step: Step, error: &Error) -> Failure {
-    if is_left(error) {
-        return match step {
-            Step::Handshake => Failure::NoContact,
-            _ => Failure::HungUp,
-        };
+// The server left within this step.
+fn left_failure(step: Step) -> Failure
+    ensures { result ≡ left_failure step }
+{
+    match step {
+        Step::Handshake => Failure::NoContact,
+        _ => Failure::HungUp,
     }
-    if let Some(why) = error.reason() {
-        return Failure::of_text(alloc, step, why);
-    }
+}
+
+// What the error is, where nothing is wrong with the connection.
+fn failure_itself(alloc: Global, step: Step, error: &Error) -> Failure
+    ensures { TellsItself step error.now result }
+{
     match error {
         Error::Handshake(e) => Failure::of_step(alloc, step, e),
         Error::Refs(e) => Failure::of_step(alloc, step, e),
@@ -148,6 +179,19 @@ fn failure_of(alloc: Global, step: Step, error: &Error) -> Failure {
     }
 }
 
+// Why a call of the session failed within this step.
+fn failure_of(alloc: Global, step: Step, error: &Error) -> Failure
+    ensures { TellsSessionError step error.now result }
+{
+    if is_left(error) {
+        return left_failure(step);
+    }
+    match error.reason() {
+        Some(why) => Failure::of_text(alloc, step, why),
+        None => failure_itself(alloc, step, error),
+    }
+}
+
 /// Shakes hands with the server.
 pub fn open<T: Transport + Drop, L: Listener + Drop, S: NestedProgress + Drop>(
     alloc: Global,
@@ -155,8 +199,14 @@ pub fn open<T: Transport + Drop, L: Listener + Drop, S: NestedProgress + Drop>(
     agent: &str,
     listener: L,
     shown: S,
-) -> Result<Session<T, L, S>, Failure> {
-    Session::open_with(
+) -> Result<Session<T, L, S>, Failure>
+    ensures opened { IfOk result (λ s. OpensSession [] T.is_plain (T.reading transport) (T.reading s.transport.inner) s.shaken) }
+    ensures named { IfOk result (λ s. string_bytes s.agent ≡ agent.now) }
+    ensures state { IfOk result (λ s. s.state ≡ AtStop) }
+    ensures told { IfOk result (λ s. TellsShake S.told UploadPack [] (T.reading transport) shown (Ok s.shaken) s.progress) }
+    ensures refused { IfErr result (FailsWithin Step.Handshake (λ _. ⊤)) }
+{
+    match Session::open_with(
         alloc,
         transport,
         agent,
@@ -164,15 +214,21 @@ pub fn open<T: Transport + Drop, L: Listener + Drop, S: NestedProgress + Drop>(
         |_| Ok(None),
         Vec::new(alloc),
         shown,
-    )
-    .map_err(|e| failure_of(alloc, Step::Handshake, &e))
+    ) {
+        Ok(session) => Ok(session),
+        Err(e) => Err(failure_of(alloc, Step::Handshake, &e)),
+    }
 }
 
 /// All refs of the server.
 pub fn refs<T: Transport + Drop, L: Listener + Drop, S: NestedProgress + Drop>(
     alloc: Global,
     session: &mut Session<T, L, S>,
-) -> Result<&[Ref], Failure> {
+) -> Result<&[Ref], Failure>
+    ensures given { IfOk result (λ refs. GivesRefs (client_feature (string_bytes session.old.agent)) session.old.shaken T.is_plain
+        (T.reading session.old.transport.inner) session.old.shaken.refs refs.now) }
+    ensures refused { IfErr result (FailsWithin Step.Listing IsUnlisted) }
+{
     match session.refs() {
         Ok(refs) => Ok(refs),
         Err(e) => Err(failure_of(alloc, Step::Listing, &e)),
@@ -186,7 +242,11 @@ fn list_for<T: Transport + Drop, L: Listener + Drop, S: NestedProgress + Drop>(
     count: usize,
 ) -> Result<(), Failure>
     ensures few { count ≤ MOST_PREFIXED → (result ≡ Ok tt) × (session.new ≡ session.old) }
-    ensures many { MOST_PREFIXED < count → OnOk result (is_some session.new.shaken.refs ≡ true) }
+    ensures listed { OnOk result (ListsIf (lists_all MOST_PREFIXED count session.old.shaken)
+        (client_feature (string_bytes session.old.agent)) session.old.shaken T.is_plain (T.reading session.old.transport.inner)
+        (T.reading session.new.transport.inner) session.new.shaken) }
+    ensures agent { session.new.agent ≡ session.old.agent }
+    ensures refused { IfErr result (FailsWithin Step.Listing IsUnlisted) }
 {
     if count <= MOST_PREFIXED {
         return Ok(());
@@ -198,12 +258,21 @@ fn list_for<T: Transport + Drop, L: Listener + Drop, S: NestedProgress + Drop>(
 }
 
 /// What the refspecs map of the refs of the server.
+#[tactic(auto, using(crate::proofs::FailureLemmas::unmapped))]
 pub fn map<T: Transport + Drop, L: Listener + Drop, S: NestedProgress + Drop>(
     alloc: Global,
     session: &mut Session<T, L, S>,
     request: &Request,
-) -> Result<RefMap, Failure> {
-    list_for(alloc, session, request.refspecs.len())?;
+) -> Result<RefMap, Failure>
+    ensures mapped { IfOk result (λ m. MapsListed (lists_all MOST_PREFIXED (length request.now.refspecs.items) session.old.shaken)
+        request.now (client_feature (string_bytes session.old.agent)) session.old.shaken T.is_plain
+        (T.reading session.old.transport.inner) (T.reading session.new.transport.inner) (Ok m)) }
+    ensures refused { IfErr result (FailsWithin Step.Listing IsUnmapped) }
+{
+    match list_for(alloc, session, request.refspecs.len()) {
+        Ok(()) => {}
+        Err(e) => return Err(e),
+    }
     match session.map(request) {
         Ok(map) => Ok(map),
         Err(e) => Err(failure_of(alloc, Step::Listing, &e)),
@@ -212,6 +281,7 @@ pub fn map<T: Transport + Drop, L: Listener + Drop, S: NestedProgress + Drop>(
 
 /// Fetches what is mapped.
 pub fn fetch<
+    'a,
     T: Transport + Drop,
     L: Listener + Drop,
     S: NestedProgress + Drop,
@@ -221,19 +291,53 @@ pub fn fetch<
     alloc: Global,
     session: &mut Session<T, L, S>,
     repository: &mut Repository,
-    negotiator: &mut N,
-    asked: Asked<'_>,
+    negotiator: &'a mut N,
+    asked: Asked<'a>,
     pack: &mut PackReceiver<P>,
 ) -> Result<Fetched, Failure>
 where
     S::SubProgress: Drop,
+    ensures fetched { IfOk result (λ f. OfBoundary (λ before. ((asked.entry.map.now.mappings.items ≡ []) × (f.outcome ≡ None)
+        × (session.new ≡ session.old) × (pack.new ≡ pack.old) × IsLeftBoundary before [] [] f.boundary)
+        ⊎ ((after : List Id) × FetchesInSession
+        (parties_of ⟦<SessionNegotiation<'a, StoredObjects, StoredRefs, N> as Negotiate>⟧.calls
+        ⟦<ShallowMemory as ShallowStore>⟧.calls ⟦<NeverInterrupt as Interrupt>⟧.says
+        ⟦<PackReceiver<P> as ConsumePack<S>>⟧.consumes T.is_plain)
+        ⟦<SessionNegotiation<'a, StoredObjects, StoredRefs, N> as NegotiatesMap>⟧.map_of
+        ⟦<SessionNegotiation<'a, StoredObjects, StoredRefs, N> as NegotiatesMap>⟧.knows
+        (session_call session.old.shaken (client_feature (string_bytes session.old.agent)) asked.entry.request.now)
+        asked.entry.map.now
+        (session_knowledge asked.entry.request.now (⟦<StoredObjects as Find>⟧.contents repository.old.objects)
+        (⟦<StoredRefs as RefStore>⟧.refs repository.old.refs))
+        before after (T.reading session.old.transport.inner) pack.old (Ok f.outcome) (T.reading session.new.transport.inner) pack.new
+        × IsBoundaryAfter (is_change (shallow_value asked.entry.request.now.shallow)) before after f.boundary))
+        repository.old.boundary.items) }
+    ensures stands { IfOk result (λ f. session.new.state ≡ behind_fetch session.old.shaken.server_protocol_version (Ok f.outcome)) }
+    ensures known { IfOk result (λ f. KnowsAll repository.old.boundary.items f.outcome) }
+    ensures refused { IfErr result (FailsWithin Step.Fetch (λ e. OfBoundary (λ before. (IsUnsent e × (session.new ≡ session.old)
+        × (pack.new ≡ pack.old))
+        ⊎ ((told : Result (Option FetchOutcome) Error) × (after : List Id) × FetchesInSession
+        (parties_of ⟦<SessionNegotiation<'a, StoredObjects, StoredRefs, N> as Negotiate>⟧.calls
+        ⟦<ShallowMemory as ShallowStore>⟧.calls ⟦<NeverInterrupt as Interrupt>⟧.says
+        ⟦<PackReceiver<P> as ConsumePack<S>>⟧.consumes T.is_plain)
+        ⟦<SessionNegotiation<'a, StoredObjects, StoredRefs, N> as NegotiatesMap>⟧.map_of
+        ⟦<SessionNegotiation<'a, StoredObjects, StoredRefs, N> as NegotiatesMap>⟧.knows
+        (session_call session.old.shaken (client_feature (string_bytes session.old.agent)) asked.entry.request.now)
+        asked.entry.map.now
+        (session_knowledge asked.entry.request.now (⟦<StoredObjects as Find>⟧.contents repository.old.objects)
+        (⟦<StoredRefs as RefStore>⟧.refs repository.old.refs))
+        before after (T.reading session.old.transport.inner) pack.old told (T.reading session.new.transport.inner) pack.new
+        × IsRefusedFetch session.old.shaken.server_protocol_version told e session.new.state))
+        repository.old.boundary.items)) }
+    ensures boundary { repository.new.boundary ≡ repository.old.boundary }
 {
     let known = client::Repository {
         objects: &repository.objects,
         refs: &mut repository.refs,
         boundary: &repository.boundary,
     };
-    session
-        .fetch_with(asked.map, known, asked.request, negotiator, pack)
-        .map_err(|e| failure_of(alloc, Step::Fetch, &e))
+    match session.fetch_with(asked.map, known, asked.request, negotiator, pack) {
+        Ok(fetched) => Ok(fetched),
+        Err(e) => Err(failure_of(alloc, Step::Fetch, &e)),
+    }
 }

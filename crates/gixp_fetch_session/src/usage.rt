@@ -1,4 +1,7 @@
 //! The usage, and what is said of a command line that can't be read.
+ghost use Rattle.std.specs.Prelude.{◌≡◌};
+ghost use Rattle.gixp_fetch_session.specs.Usage.{sentence_value, about, about_two, line_sentence, sentence_of};
+
 use gixp_fetch_local::{LineError, OptionError};
 
 /// The version of the program.
@@ -48,26 +51,91 @@ texts tell it, new, fast-forward, forced, same or refused comes first: what beco
 The status is 0, 1 where something was refused or a ref isn't there, or 2 where the words are none of these.
 ";
 
+// A sentence: its own words, and two others between them.
+struct Sentence<'a> {
+    before: &'static str,
+    one: &'a str,
+    between: &'static str,
+    other: &'a str,
+    behind: &'static str,
+    // Whether the other word stands in quotes, which show what each of its characters is.
+    is_quoted: bool,
+}
+
+// Before the first word stands this, then that word alone.
+fn about<'a>(before: &'static str, one: &'a str, between: &'static str) -> Sentence<'a>
+    ensures { sentence_value result ≡ about before.now one.now between.now }
+{
+    Sentence {
+        before,
+        one,
+        between,
+        other: "",
+        behind: "",
+        is_quoted: false,
+    }
+}
+
+// Two words, with this between and behind them.
+fn about_two<'a>(
+    one: &'a str,
+    between: &'static str,
+    other: &'a str,
+    behind: &'static str,
+    is_quoted: bool,
+) -> Sentence<'a>
+    ensures { sentence_value result ≡ about_two one.now between.now other.now behind.now is_quoted }
+{
+    Sentence {
+        before: "",
+        one,
+        between,
+        other,
+        behind,
+        is_quoted,
+    }
+}
+
+// What is said of an option, or of the value of one.
+fn line_sentence<'a>(e: &LineError<'a>) -> Sentence<'a>
+    ensures { sentence_value result ≡ line_sentence e.now }
+{
+    match e {
+        LineError::Unknown(word) => about("there is no option ", word, ""),
+        LineError::NoValue(name) => about("", name, " needs a word after it"),
+        LineError::Memory => about("out of memory", "", ""),
+    }
+}
+
+// Why a command line can't be read.
+fn sentence_of<'a>(e: &OptionError<'a>) -> Sentence<'a>
+    ensures { sentence_value result ≡ sentence_of e.now }
+{
+    match e {
+        OptionError::Line(e) => line_sentence(e),
+        OptionError::Value { name, value } => about_two(name, " can't be ", value, "", true),
+        OptionError::Conflict(one, other) => {
+            about_two(one, " and ", other, " can't be used together", false)
+        }
+        OptionError::Needs(one, other) => about_two(one, " needs ", other, "", false),
+        OptionError::Operands => about("too few words, or too many; --help tells which", "", ""),
+        OptionError::Memory => about("out of memory", "", ""),
+    }
+}
+
 /// Says why a command line can't be read.
 pub(crate) fn print_refusal(rt: &HostRuntime, e: OptionError<'_>) {
-    let _ = match e {
-        OptionError::Line(LineError::Unknown(word)) => {
-            eprintln!(rt; "gixp_fetch_pack: there is no option {word}")
-        }
-        OptionError::Line(LineError::NoValue(name)) => {
-            eprintln!(rt; "gixp_fetch_pack: {name} needs a word after it")
-        }
-        OptionError::Line(LineError::Memory) => eprintln!(rt; "gixp_fetch_pack: out of memory"),
-        OptionError::Value { name, value } => {
-            eprintln!(rt; "gixp_fetch_pack: {name} can't be {value:?}")
-        }
-        OptionError::Conflict(one, other) => {
-            eprintln!(rt; "gixp_fetch_pack: {one} and {other} can't be used together")
-        }
-        OptionError::Needs(one, other) => eprintln!(rt; "gixp_fetch_pack: {one} needs {other}"),
-        OptionError::Operands => eprintln!(rt;
-            "gixp_fetch_pack: too few words, or too many; --help tells which"
-        ),
-        OptionError::Memory => eprintln!(rt; "gixp_fetch_pack: out of memory"),
+    let Sentence {
+        before,
+        one,
+        between,
+        other,
+        behind,
+        is_quoted,
+    } = sentence_of(&e);
+    let _ = if is_quoted {
+        eprintln!(rt; "gixp_fetch_pack: {before}{one}{between}{other:?}{behind}")
+    } else {
+        eprintln!(rt; "gixp_fetch_pack: {before}{one}{between}{other}{behind}")
     };
 }
