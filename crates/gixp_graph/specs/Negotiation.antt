@@ -1,10 +1,12 @@
 -- What the calls of a negotiator do, and what it may answer.
 use Rattle.std.specs.Prelude.{◌≡◌, ⊤, ℕ, ◌⊎◌}
+use Rattle.gixp_graph.specs.declared.objects.ObjectError.{ObjectError}
 use Rattle.gixp_graph.specs.declared.objects.ObjectError.TheVariants as object
 use Rattle.gixp_graph.specs.declared.negotiator.NegotiatorError.{NegotiatorError}
 use Rattle.gixp_graph.specs.declared.negotiator.NegotiatorError.TheVariants.{Lookup, Memory}
 use Rattle.gixp_hash.specs.Failures.{HasRisen}
 use Rattle.gixp_graph.specs.GraphData.{GraphData}
+use Rattle.gixp_graph.specs.Refusals.{Written, TellsRefusal}
 use Rattle.gixp_graph.specs.Run.{Call, Offer, RefusedCall, RefusedOffer}
 
 -- what the calls of a negotiator do, what refused ones leave, how many haves it may still offer, and how many calls have failed so far
@@ -33,3 +35,12 @@ IsMemory Memory = ⊤
 -- why a call was refused: for an allocation failure, or since the negotiator or the graph's objects failed
 abbrev pub IsRefusal : ℕ → ℕ → ℕ → ℕ → NegotiatorError → Type 0
 IsRefusal old new graph_old graph_new e = IsMemory e ⊎ (HasRisen old new ⊎ HasRisen graph_old graph_new)
+
+-- why: the graph's objects refused a call with this error, and wrote it down; or an allocation failed, and they refused nothing
+abbrev pub TellsWhy : NegotiatorError → Written ObjectError → Written ObjectError → Type 0
+TellsWhy (Lookup e) old new = TellsRefusal e old new
+TellsWhy Memory old new = new ≡ old
+
+-- the same, unless the negotiator itself failed
+abbrev pub TellsCause : ℕ → ℕ → NegotiatorError → Written ObjectError → Written ObjectError → Type 0
+TellsCause old new e old_refusals new_refusals = HasRisen old new ⊎ TellsWhy e old_refusals new_refusals

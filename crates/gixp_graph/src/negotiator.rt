@@ -2,7 +2,7 @@
 ghost use Rattle.std.specs.Prelude.{◌≡◌, ◌≤◌, ◌<◌, Some, None, IfOk, IfErr, OnOk, OnErr, IfSome, IfNone};
 ghost use Rattle.gixp_hash.specs.declared.object_id.ObjectId.{ObjectId};
 ghost use Rattle.gixp_graph.specs.GraphData.{GraphData};
-ghost use Rattle.gixp_graph.specs.Negotiation.{IsRefusal, NegotiatorCalls};
+ghost use Rattle.gixp_graph.specs.Negotiation.{IsRefusal, TellsCause, NegotiatorCalls};
 
 use crate::graph::Graph;
 use crate::objects::{ObjectError, Objects};
@@ -58,6 +58,9 @@ impl From<ObjectError> for NegotiatorError {
 /// refused call leaves is a relation too, by its error; an implementation may leave all open there
 /// (`AnyCallLeft`, `AnyOfferLeft`). Contracts of the calls above say by it that nothing was done after a refusal.
 ///
+/// A look-up that the graph refuses is neither passed over nor put in other words: the call fails with that error.
+/// Only a negotiator that fails itself, and counts it, may say another.
+///
 /// The law: there is a count of the haves that it may still offer, which each offer lowers, and which
 /// neither `in_common_with_remote` nor a `next_have` with no offer raises.
 pub trait Negotiator {
@@ -80,7 +83,10 @@ pub trait Negotiator {
         ensures failures { calls.failures self.old ≤ calls.failures self.new }
         ensures graph_failures { graph.old.failures ≤ graph.new.failures }
         ensures failed { IfErr result (IsRefusal (calls.failures self.old)
-            (calls.failures self.new) graph.old.failures graph.new.failures) };
+            (calls.failures self.new) graph.old.failures graph.new.failures) }
+        ensures unrefused { OnOk result (graph.new.refusals ≡ graph.old.refusals) }
+        ensures cause { IfErr result (λ e. TellsCause (calls.failures self.old) (calls.failures self.new)
+            e graph.old.refusals graph.new.refusals) };
 
     /// Adds a commit to begin from.
     ///
@@ -98,7 +104,10 @@ pub trait Negotiator {
         ensures failures { calls.failures self.old ≤ calls.failures self.new }
         ensures graph_failures { graph.old.failures ≤ graph.new.failures }
         ensures failed { IfErr result (IsRefusal (calls.failures self.old)
-            (calls.failures self.new) graph.old.failures graph.new.failures) };
+            (calls.failures self.new) graph.old.failures graph.new.failures) }
+        ensures unrefused { OnOk result (graph.new.refusals ≡ graph.old.refusals) }
+        ensures cause { IfErr result (λ e. TellsCause (calls.failures self.old) (calls.failures self.new)
+            e graph.old.refusals graph.new.refusals) };
 
     /// Tells it of a have that the server has too.
     ///
@@ -117,7 +126,10 @@ pub trait Negotiator {
         ensures failures { calls.failures self.old ≤ calls.failures self.new }
         ensures graph_failures { graph.old.failures ≤ graph.new.failures }
         ensures failed { IfErr result (IsRefusal (calls.failures self.old)
-            (calls.failures self.new) graph.old.failures graph.new.failures) };
+            (calls.failures self.new) graph.old.failures graph.new.failures) }
+        ensures unrefused { OnOk result (graph.new.refusals ≡ graph.old.refusals) }
+        ensures cause { IfErr result (λ e. TellsCause (calls.failures self.old) (calls.failures self.new)
+            e graph.old.refusals graph.new.refusals) };
 
     /// The next commit to offer, none where it has no more.
     ///
@@ -136,7 +148,11 @@ pub trait Negotiator {
         ensures failures { calls.failures self.old ≤ calls.failures self.new }
         ensures graph_failures { graph.old.failures ≤ graph.new.failures }
         ensures failed { IfSome result (λ have. IfErr have
-            (IsRefusal (calls.failures self.old) (calls.failures self.new) graph.old.failures graph.new.failures)) };
+            (IsRefusal (calls.failures self.old) (calls.failures self.new) graph.old.failures graph.new.failures)) }
+        ensures unrefused { IfSome result (λ have. OnOk have (graph.new.refusals ≡ graph.old.refusals)) }
+        ensures unrefused_none { IfNone result (graph.new.refusals ≡ graph.old.refusals) }
+        ensures cause { IfSome result (λ have. IfErr have (λ e. TellsCause (calls.failures self.old) (calls.failures self.new)
+            e graph.old.refusals graph.new.refusals)) };
 
     /// Each offer lowers the count.
     ghost offer_lowers: { (n : Self) (g : GraphData) (id : ObjectId) (m : Self) (h : GraphData) → calls.offers n g (Some id) m h

@@ -5,7 +5,6 @@ pub mod Algorithm
 pub mod AlgorithmLaws
 pub mod Calls
 pub mod Distance
-pub mod Errors
 pub mod HaveList
 pub mod MarkLaws
 pub mod Marks

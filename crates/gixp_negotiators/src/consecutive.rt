@@ -4,7 +4,7 @@ ghost use Rattle.std.specs.Prelude.{IfOk, IfErr, IfSome, IfNone, OnOk, OnSome, I
 ghost use Rattle.std.specs.BinaryHeap.{heap_len, heap_items};
 ghost use Rattle.std.specs.List.Sorted.{IsPermutation};
 ghost use Rattle.gixp_graph.specs.GraphData.{parents_in};
-ghost use Rattle.gixp_graph.specs.Negotiation.{IsMemory, IsRefusal};
+ghost use Rattle.gixp_graph.specs.Negotiation.{IsMemory, IsRefusal, TellsWhy};
 ghost use Rattle.gixp_negotiators.specs.Marks.{COMMON, COMMON_REF, SEEN, POPPED, Grows, SeesNone, SeesOnly, SettlesNone, SettlesOnly, ListsNone, ListsOnly, PopsNone, StaysIfSeen, IsOffered, IsMarkedIfThere, IsMarkedIfNew, IsListedIfNew, has_mark, has_all, left};
 ghost use Rattle.gixp_negotiators.specs.Spread.{is_there, IsKnown, WhereOpen, WhereNew, AllCommonAmong, SeesCommon, SeesAmong, OpensParents, FindsCommon, HasCommonParents, SettlesFrom, SettlesWithin, OwesAmong};
 ghost use Rattle.gixp_negotiators.specs.Spread.{KeepsSpread, SpreadsFrom, SpreadsAllFrom, StaysSpread};
@@ -72,6 +72,8 @@ impl Consecutive {
         ensures grows { Grows graph.old.graph graph.new.graph }
         ensures failures { graph.old.failures ≤ graph.new.failures }
         ensures failed { IfErr result (IsRefusal 0 0 graph.old.failures graph.new.failures) }
+        ensures unrefused { OnOk result (graph.new.refusals ≡ graph.old.refusals) }
+        ensures refused { IfErr result (λ e. TellsWhy e graph.old.refusals graph.new.refusals) }
     {
         let Some((time, flags)) = claim(graph, id, Flags::SEEN, marks)? else {
             return Ok(());
@@ -131,6 +133,8 @@ impl Consecutive {
         ensures grows { Grows graph.old.graph graph.new.graph }
         ensures failures { graph.old.failures ≤ graph.new.failures }
         ensures failed { IfErr result (IsRefusal 0 0 graph.old.failures graph.new.failures) }
+        ensures unrefused { OnOk result (graph.new.refusals ≡ graph.old.refusals) }
+        ensures refused { IfErr result (λ e. TellsWhy e graph.old.refusals graph.new.refusals) }
     {
         let Some((_, flags)) = claim(graph, id, Flags::COMMON, Flags::COMMON)? else {
             return Ok(false);
@@ -162,6 +166,8 @@ impl Consecutive {
         ensures grows { Grows graph.old.graph graph.new.graph }
         ensures failures { graph.old.failures ≤ graph.new.failures }
         ensures failed { IfErr result (IsRefusal 0 0 graph.old.failures graph.new.failures) }
+        ensures unrefused { OnOk result (graph.new.refusals ≡ graph.old.refusals) }
+        ensures refused { IfErr result (λ e. TellsWhy e graph.old.refusals graph.new.refusals) }
     {
         if !self.settle(graph, id)? {
             return Ok(());
@@ -204,6 +210,8 @@ impl Consecutive {
         ensures grows { Grows graph.old.graph graph.new.graph }
         ensures failures { graph.old.failures ≤ graph.new.failures }
         ensures failed { IfErr result (IsRefusal 0 0 graph.old.failures graph.new.failures) }
+        ensures unrefused { OnOk result (graph.new.refusals ≡ graph.old.refusals) }
+        ensures refused { IfErr result (λ e. TellsWhy e graph.old.refusals graph.new.refusals) }
     {
         for id in ids {
             self.reach(graph, id, due)?;
@@ -235,6 +243,8 @@ impl Consecutive {
         ensures grows { Grows graph.old.graph graph.new.graph }
         ensures failures { graph.old.failures ≤ graph.new.failures }
         ensures failed { IfErr result (IsRefusal 0 0 graph.old.failures graph.new.failures) }
+        ensures unrefused { OnOk result (graph.new.refusals ≡ graph.old.refusals) }
+        ensures refused { IfErr result (λ e. TellsWhy e graph.old.refusals graph.new.refusals) }
     {
         let Some((_, flags)) = look(graph, id)? else {
             return Ok(());
@@ -267,6 +277,8 @@ impl Consecutive {
         ensures grows { Grows graph.old.graph graph.new.graph }
         ensures failures { graph.old.failures ≤ graph.new.failures }
         ensures failed { IfErr result (IsRefusal 0 0 graph.old.failures graph.new.failures) }
+        ensures unrefused { OnOk result (graph.new.refusals ≡ graph.old.refusals) }
+        ensures refused { IfErr result (λ e. TellsWhy e graph.old.refusals graph.new.refusals) }
     {
         let mut due = Vec::new(self.alloc);
         self.spread(graph, id, &mut due)?;
@@ -295,6 +307,8 @@ impl Consecutive {
         ensures grows { Grows graph.old.graph graph.new.graph }
         ensures failures { graph.old.failures ≤ graph.new.failures }
         ensures failed { IfErr result (IsRefusal 0 0 graph.old.failures graph.new.failures) }
+        ensures unrefused { OnOk result (graph.new.refusals ≡ graph.old.refusals) }
+        ensures refused { IfErr result (λ e. TellsWhy e graph.old.refusals graph.new.refusals) }
     {
         let Some((_, flags)) = look(graph, id)? else {
             return Ok(());
@@ -322,6 +336,8 @@ impl Consecutive {
         ensures common { OnOk result (IsMarkedIfThere COMMON graph.old.graph graph.new.graph id.now) }
         ensures failures { graph.old.failures ≤ graph.new.failures }
         ensures failed { IfErr result (IsRefusal 0 0 graph.old.failures graph.new.failures) }
+        ensures unrefused { OnOk result (graph.new.refusals ≡ graph.old.refusals) }
+        ensures refused { IfErr result (λ e. TellsWhy e graph.old.refusals graph.new.refusals) }
     {
         if !self.settle(graph, id)? {
             return Ok(());
@@ -350,6 +366,8 @@ impl Consecutive {
         ensures grows { Grows graph.old.graph graph.new.graph }
         ensures failures { graph.old.failures ≤ graph.new.failures }
         ensures failed { IfErr result (IsRefusal 0 0 graph.old.failures graph.new.failures) }
+        ensures unrefused { OnOk result (graph.new.refusals ≡ graph.old.refusals) }
+        ensures refused { IfErr result (λ e. TellsWhy e graph.old.refusals graph.new.refusals) }
     {
         if is_common {
             self.push(graph, parent, SEEN_COMMON)?;
@@ -380,6 +398,8 @@ impl Consecutive {
         ensures grows { Grows graph.old.graph graph.new.graph }
         ensures failures { graph.old.failures ≤ graph.new.failures }
         ensures failed { IfErr result (IsRefusal 0 0 graph.old.failures graph.new.failures) }
+        ensures unrefused { OnOk result (graph.new.refusals ≡ graph.old.refusals) }
+        ensures refused { IfErr result (λ e. TellsWhy e graph.old.refusals graph.new.refusals) }
     {
         for parent in parents {
             self.follow(graph, parent, is_common)?;
@@ -415,6 +435,8 @@ impl Consecutive {
         ensures grows { Grows graph.old.graph graph.new.graph }
         ensures failures { graph.old.failures ≤ graph.new.failures }
         ensures failed { IfErr result (IsRefusal 0 0 graph.old.failures graph.new.failures) }
+        ensures unrefused { OnOk result (graph.new.refusals ≡ graph.old.refusals) }
+        ensures refused { IfErr result (λ e. TellsWhy e graph.old.refusals graph.new.refusals) }
     {
         let Some((_, flags)) = claim(graph, &first.id, Flags::POPPED, Flags::POPPED)? else {
             return Ok(false);
@@ -463,6 +485,8 @@ impl Consecutive {
         ensures grows { Grows graph.old.graph graph.new.graph }
         ensures failures { graph.old.failures ≤ graph.new.failures }
         ensures failed { IfErr result (IsRefusal 0 0 graph.old.failures graph.new.failures) }
+        ensures unrefused { OnOk result (graph.new.refusals ≡ graph.old.refusals) }
+        ensures refused { IfErr result (λ e. TellsWhy e graph.old.refusals graph.new.refusals) }
     {
         while let Some(first) = self.pop() {
             if self.take(graph, &first)? {
@@ -492,6 +516,8 @@ impl Consecutive {
         ensures grows { Grows graph.old.graph graph.new.graph }
         ensures failures { graph.old.failures ≤ graph.new.failures }
         ensures failed { IfErr result (IsRefusal 0 0 graph.old.failures graph.new.failures) }
+        ensures unrefused { OnOk result (graph.new.refusals ≡ graph.old.refusals) }
+        ensures refused { IfErr result (λ e. TellsWhy e graph.old.refusals graph.new.refusals) }
     {
         let Some((_, flags)) = look(graph, id)? else {
             return Ok(());

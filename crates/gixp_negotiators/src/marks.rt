@@ -2,8 +2,7 @@
 ghost use Rattle.std.specs.Prelude.{◌≡◌, ℕ, ◌≤◌, ◌==◌, ◌||◌, IsTrue, IfOk, IfErr, IfSome, IfNone, OnOk, IsSome, Some, None, bit_and, true, false};
 ghost use Rattle.std.specs.FinMap as finite;
 ghost use Rattle.gixp_graph.specs.Object.{commit_at, time_at};
-ghost use Rattle.gixp_graph.specs.Negotiation.{IsRefusal};
-ghost use Rattle.gixp_negotiators.specs.Errors.{TellsWhy};
+ghost use Rattle.gixp_graph.specs.Negotiation.{IsRefusal, TellsWhy};
 ghost use Rattle.gixp_negotiators.specs.Marks.{COMMON, COMMON_REF, SEEN, POPPED, Grows, Claims, IsFoundWith, IsMarkedIfThere, IsMarkedIfSeen, AddsNone, SeesNone, SeesOnly, SettlesNone, SettlesOnly, ListsNone, ListsOnly, PopsNone, PopsOnly, has_mark, has_all, left};
 
 use gixp_graph::{Flags, Graph, NegotiatorError, Objects};

@@ -10,7 +10,7 @@ ghost use Rattle.std.specs.List.Sorted.{IsPermutation};
 ghost use Rattle.gixp_graph.specs.Object.{commit_at};
 ghost use Rattle.gixp_graph.specs.GraphData.{GraphData, parents_in};
 ghost use Rattle.gixp_negotiators.specs.declared.queue.Waiting.{Waiting};
-ghost use Rattle.gixp_graph.specs.Negotiation.{IsMemory, IsRefusal};
+ghost use Rattle.gixp_graph.specs.Negotiation.{IsMemory, IsRefusal, TellsWhy};
 ghost use Rattle.gixp_negotiators.specs.Marks.{COMMON, COMMON_REF, SEEN, POPPED, Grows, SeesNone, SeesOnly, SettlesNone, ListsNone, ListsOnly, PopsNone, StaysIfSeen, IsOffered, IsMarkedIfThere, IsListedIfNew, has_all, has_mark, left};
 ghost use Rattle.gixp_negotiators.specs.Spread.{was_seen, BecomesCommon, KeepsSpread, SpreadsFrom, StaysNewly, AllRead, AllHeld, MarksThrough, SettlesAmong, Spreads};
 ghost use Rattle.gixp_negotiators.specs.Waiting.{FitsOwing, AllCommon, IsNewest, IsNewestIn, QueuesNew, KeepsUnread, IsUnreadIfNew};
@@ -106,6 +106,8 @@ impl Skipping {
         ensures grows { Grows graph.old.graph graph.new.graph }
         ensures failures { graph.old.failures ≤ graph.new.failures }
         ensures failed { IfErr result (IsRefusal 0 0 graph.old.failures graph.new.failures) }
+        ensures unrefused { OnOk result (graph.new.refusals ≡ graph.old.refusals) }
+        ensures refused { IfErr result (λ e. TellsWhy e graph.old.refusals graph.new.refusals) }
     {
         let is_read = graph.get(id).is_some();
         let Some((time, _)) = claim(graph, id, Flags::SEEN, marks)? else {
@@ -185,6 +187,8 @@ impl Skipping {
         ensures grows { Grows graph.old.graph graph.new.graph }
         ensures failures { graph.old.failures ≤ graph.new.failures }
         ensures failed { IfErr result (IsRefusal 0 0 graph.old.failures graph.new.failures) }
+        ensures unrefused { OnOk result (graph.new.refusals ≡ graph.old.refusals) }
+        ensures refused { IfErr result (λ e. TellsWhy e graph.old.refusals graph.new.refusals) }
     {
         let parents = self.parents_of(graph, id)?;
         reach_all(graph, &parents, due)?;
@@ -227,6 +231,8 @@ impl Skipping {
         ensures grows { Grows graph.old.graph graph.new.graph }
         ensures failures { graph.old.failures ≤ graph.new.failures }
         ensures failed { IfErr result (IsRefusal 0 0 graph.old.failures graph.new.failures) }
+        ensures unrefused { OnOk result (graph.new.refusals ≡ graph.old.refusals) }
+        ensures refused { IfErr result (λ e. TellsWhy e graph.old.refusals graph.new.refusals) }
     {
         let mut due = Vec::new(self.alloc);
         reach(graph, id, &mut due)?;
@@ -285,6 +291,8 @@ impl Skipping {
         ensures grows { Grows graph.old.graph graph.new.graph }
         ensures failures { graph.old.failures ≤ graph.new.failures }
         ensures failed { IfErr result (IsRefusal 0 0 graph.old.failures graph.new.failures) }
+        ensures unrefused { OnOk result (graph.new.refusals ≡ graph.old.refusals) }
+        ensures refused { IfErr result (λ e. TellsWhy e graph.old.refusals graph.new.refusals) }
     {
         match legacy {
             Legacy::Common => {
@@ -321,6 +329,8 @@ impl Skipping {
         ensures grows { Grows graph.old.graph graph.new.graph }
         ensures failures { graph.old.failures ≤ graph.new.failures }
         ensures failed { IfErr result (IsRefusal 0 0 graph.old.failures graph.new.failures) }
+        ensures unrefused { OnOk result (graph.new.refusals ≡ graph.old.refusals) }
+        ensures refused { IfErr result (λ e. TellsWhy e graph.old.refusals graph.new.refusals) }
     {
         self.push(graph, parent, Flags::SEEN)?;
         if is_marked(graph, parent, Flags::POPPED) {
@@ -353,6 +363,8 @@ impl Skipping {
         ensures grows { Grows graph.old.graph graph.new.graph }
         ensures failures { graph.old.failures ≤ graph.new.failures }
         ensures failed { IfErr result (IsRefusal 0 0 graph.old.failures graph.new.failures) }
+        ensures unrefused { OnOk result (graph.new.refusals ≡ graph.old.refusals) }
+        ensures refused { IfErr result (λ e. TellsWhy e graph.old.refusals graph.new.refusals) }
     {
         let mut any = false;
         for parent in parents {
@@ -381,6 +393,8 @@ impl Skipping {
         ensures grows { Grows graph.old.graph graph.new.graph }
         ensures failures { graph.old.failures ≤ graph.new.failures }
         ensures failed { IfErr result (IsRefusal 0 0 graph.old.failures graph.new.failures) }
+        ensures unrefused { OnOk result (graph.new.refusals ≡ graph.old.refusals) }
+        ensures refused { IfErr result (λ e. TellsWhy e graph.old.refusals graph.new.refusals) }
     {
         let Some((_, flags)) = claim(graph, &first.id, Flags::POPPED, Flags::POPPED)? else {
             return Ok(false);
@@ -433,6 +447,8 @@ impl Skipping {
         ensures grows { Grows graph.old.graph graph.new.graph }
         ensures failures { graph.old.failures ≤ graph.new.failures }
         ensures failed { IfErr result (IsRefusal 0 0 graph.old.failures graph.new.failures) }
+        ensures unrefused { OnOk result (graph.new.refusals ≡ graph.old.refusals) }
+        ensures refused { IfErr result (λ e. TellsWhy e graph.old.refusals graph.new.refusals) }
     {
         while let Some(first) = self.pop() {
             if self.take(graph, &first)? {
@@ -463,6 +479,8 @@ fn reach<O: Objects>(
     ensures grows { Grows graph.old.graph graph.new.graph }
     ensures failures { graph.old.failures ≤ graph.new.failures }
     ensures failed { IfErr result (IsRefusal 0 0 graph.old.failures graph.new.failures) }
+    ensures unrefused { OnOk result (graph.new.refusals ≡ graph.old.refusals) }
+    ensures refused { IfErr result (λ e. TellsWhy e graph.old.refusals graph.new.refusals) }
 {
     if !is_due(graph, id) {
         return Ok(());
@@ -505,6 +523,8 @@ fn reach_all<O: Objects>(
     ensures grows { Grows graph.old.graph graph.new.graph }
     ensures failures { graph.old.failures ≤ graph.new.failures }
     ensures failed { IfErr result (IsRefusal 0 0 graph.old.failures graph.new.failures) }
+    ensures unrefused { OnOk result (graph.new.refusals ≡ graph.old.refusals) }
+    ensures refused { IfErr result (λ e. TellsWhy e graph.old.refusals graph.new.refusals) }
 {
     for id in ids {
         reach(graph, id, due)?;

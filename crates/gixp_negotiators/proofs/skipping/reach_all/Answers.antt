@@ -1,5 +1,5 @@
 -- Some commits become common.
-use Rattle.std.proofs.Common.{arith}
+use Rattle.std.proofs.Common.{◌∙◌, arith, refl}
 use Rattle.std.proofs.lemmas.List.Elements.{All-nil}
 use Rattle.gixp_negotiators.specs.Spread.{was_seen}
 use Rattle.gixp_negotiators.proofs.SpreadLemmas.{stays_seen, common_more, kept_none, kept_on}
@@ -21,6 +21,7 @@ loop-id-init g c = record {
   seen = omega arith;
   grows = grows_none _;
   failures = omega arith;
+  unrefused = refl;
 }
 
 pub loop-id-preserved : goal.loop-id-preserved
@@ -42,6 +43,7 @@ loop-id-preserved g c = record {
   seen = omega (arith, c.loop-id.invariant.seen, c.reach.ensures.seen);
   grows = grows_on _ _ _ c.loop-id.invariant.grows c.reach.ensures.grows;
   failures = omega (arith, c.loop-id.invariant.failures, c.reach.ensures.failures);
+  unrefused = c.in_ok-reach.ensures.unrefused ∙ c.loop-id.invariant.unrefused;
 }
 
 pub returns-in_err-reach-clause-grows : goal.returns-in_err-reach-clause-grows

@@ -1,5 +1,5 @@
 -- What the loop keeps.
-use Rattle.std.proofs.Common.{ℕ, ◌+◌, ◌≤◌, List, length, take}
+use Rattle.std.proofs.Common.{◌≡◌, ℕ, ◌+◌, ◌≤◌, List, length, take}
 use Rattle.std.specs.Prelude.{All}
 use Rattle.gixp_graph.specs.GraphData.{GraphData}
 use Rattle.gixp_negotiators.specs.declared.queue.Waiting.{Waiting}
@@ -24,4 +24,5 @@ invariant-loop-id g l = record {
   seen : left SEEN l.graph.graph ≤ left SEEN l.fn.graph.graph;
   grows : Grows l.fn.graph.graph l.graph.graph;
   failures : l.fn.graph.failures ≤ l.graph.failures;
+  unrefused : l.graph.refusals ≡ l.fn.graph.refusals;
 }

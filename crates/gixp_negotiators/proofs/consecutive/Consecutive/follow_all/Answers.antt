@@ -1,5 +1,5 @@
 -- Parents wait.
-use Rattle.std.proofs.Common.{arith}
+use Rattle.std.proofs.Common.{◌∙◌, arith, refl}
 use Rattle.std.proofs.lemmas.List.Elements.{All-nil}
 use Rattle.gixp_negotiators.proofs.GrowLemmas.{grows_none, grows_on}
 use Rattle.gixp_negotiators.proofs.FitLemmas.{timed_none, timed_on}
@@ -23,6 +23,7 @@ loop-parent-init g c =
       settles = λ f q m. m;
       grows = grows_none _;
       failures = omega arith;
+      unrefused = refl;
     }
 
 pub loop-parent-preserved : goal.loop-parent-preserved
@@ -43,6 +44,7 @@ loop-parent-preserved g c = record {
   settles = λ f q m. c.loop-parent.invariant.settles f q (c.in_ok-follow.ensures.settles f q m);
   grows = grows_on _ _ _ c.loop-parent.invariant.grows c.follow.ensures.grows;
   failures = omega (arith, c.loop-parent.invariant.failures, c.follow.ensures.failures);
+  unrefused = c.in_ok-follow.ensures.unrefused ∙ c.loop-parent.invariant.unrefused;
 }
 
 pub returns-in_err-follow-clause-grows : goal.returns-in_err-follow-clause-grows

@@ -21,4 +21,5 @@ invariant-loop-parent g l = record {
   settles : l.fn.is_common ≡ false → SettlesNone l.fn.graph.graph l.graph.graph;
   grows : Grows l.fn.graph.graph l.graph.graph;
   failures : l.fn.graph.failures ≤ l.graph.failures;
+  unrefused : l.graph.refusals ≡ l.fn.graph.refusals;
 }

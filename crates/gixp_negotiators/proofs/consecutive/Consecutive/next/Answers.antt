@@ -1,5 +1,5 @@
 -- The next is found.
-use Rattle.std.proofs.Common.{◌≡◌, ◌<◌, ℕ, ⊎_elim, arith, refl, subst}
+use Rattle.std.proofs.Common.{◌∙◌, ◌≡◌, ◌<◌, ℕ, ⊎_elim, arith, refl, subst}
 use Rattle.gixp_negotiators.specs.Waiting.{Fits}
 use Rattle.std.specs.BinaryHeap.{heap_items}
 use Rattle.gixp_negotiators.proofs.GrowLemmas.{grows_none, grows_on}
@@ -22,6 +22,7 @@ loop-first-init g c = record {
   rests = λ e. (e, refl);
   grows = grows_none _;
   failures = omega arith;
+  unrefused = refl;
 }
 
 pub loop-first-preserved : goal.loop-first-preserved
@@ -35,6 +36,7 @@ loop-first-preserved g c = record {
   rests = λ e. absurd (goes_on c.loop-first.self.uncommon (c.loop-first.invariant.rests e).0 c.in-Some.ensures.open);
   grows = grows_on _ _ _ c.loop-first.invariant.grows c.take.ensures.grows;
   failures = omega (arith, c.loop-first.invariant.failures, c.take.ensures.failures);
+  unrefused = c.in_ok-take.ensures.unrefused ∙ c.loop-first.invariant.unrefused;
 }
 
 pub returns-then-branch-clause-offered : goal.returns-then-branch-clause-offered

@@ -16,6 +16,7 @@ invariant-loop-first g l = record {
   rests : l.fn.self.uncommon ≡ 0 → (l.self.uncommon ≡ 0) × (l.graph.graph ≡ l.fn.graph.graph);
   grows : Grows l.fn.graph.graph l.graph.graph;
   failures : l.fn.graph.failures ≤ l.graph.failures;
+  unrefused : l.graph.refusals ≡ l.fn.graph.refusals;
 }
 
 -- the objects that weren't seen, and the commits that wait

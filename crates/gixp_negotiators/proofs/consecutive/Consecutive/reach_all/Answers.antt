@@ -25,6 +25,7 @@ loop-id-init g c = record {
   pops = λ q m. m;
   grows = grows_none _;
   failures = omega arith;
+  unrefused = refl;
 }
 
 pub loop-id-preserved : goal.loop-id-preserved
@@ -49,6 +50,7 @@ loop-id-preserved g c = record {
   pops = λ q m. c.loop-id.invariant.pops q (c.in_ok-reach.ensures.pops q m);
   grows = grows_on _ _ _ c.loop-id.invariant.grows c.reach.ensures.grows;
   failures = omega (arith, c.loop-id.invariant.failures, c.reach.ensures.failures);
+  unrefused = c.in_ok-reach.ensures.unrefused ∙ c.loop-id.invariant.unrefused;
 }
 
 pub returns-in_err-reach-clause-grows : goal.returns-in_err-reach-clause-grows

@@ -25,4 +25,5 @@ invariant-loop-id g l = record {
   pops : PopsNone l.fn.graph.graph l.graph.graph;
   grows : Grows l.fn.graph.graph l.graph.graph;
   failures : l.fn.graph.failures ≤ l.graph.failures;
+  unrefused : l.graph.refusals ≡ l.fn.graph.refusals;
 }

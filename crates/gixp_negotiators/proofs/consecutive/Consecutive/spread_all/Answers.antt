@@ -1,6 +1,6 @@
 -- What is common spreads on.
 use Rattle.gixp_negotiators.proofs.FromLemmas.{rises_first, rises_next, due_first, due_next}
-use Rattle.std.proofs.Common.{◌≡◌, ◌++◌, ◌∷◌, Some, arith, rules, true, []}
+use Rattle.std.proofs.Common.{◌∙◌, ◌≡◌, ◌++◌, ◌∷◌, Some, arith, rules, true, []}
 use Rattle.std.proofs.lemmas.Bool.{or_right}
 use Rattle.std.proofs.lemmas.List.Elements.{All-same, All-nil, All-pop}
 use Rattle.gixp_negotiators.specs.Marks.{COMMON, SEEN, has_mark}
@@ -27,6 +27,7 @@ loop-next-init g c = record {
   pops = c.in_ok-spread.ensures.pops;
   grows = c.spread.ensures.grows;
   failures = c.spread.ensures.failures;
+  unrefused = c.in_ok-spread.ensures.unrefused;
 }
 
 pub loop-next-preserved : goal.loop-next-preserved
@@ -63,6 +64,7 @@ loop-next-preserved g c =
       pops = λ q m. c.loop-next.invariant.pops q (c.in_ok-spread-2.ensures.pops q m);
       grows = grows_on _ _ _ c.loop-next.invariant.grows c.spread-in-Some.ensures.grows;
       failures = omega (arith, c.loop-next.invariant.failures, c.spread-in-Some.ensures.failures);
+      unrefused = c.in_ok-spread-2.ensures.unrefused ∙ c.loop-next.invariant.unrefused;
     }
 
 pub returns-clause-spreads : goal.returns-clause-spreads

@@ -1,5 +1,5 @@
 -- Parents wait.
-use Rattle.std.proofs.Common.{arith, refl, sym, true≢false}
+use Rattle.std.proofs.Common.{◌∙◌, arith, refl, sym, true≢false}
 use Rattle.gixp_negotiators.specs.Spread.{AllHeld}
 use Rattle.gixp_negotiators.proofs.UnreadLemmas.{unread_same, unread_on, held_first, held_then}
 use Rattle.std.proofs.lemmas.List.Elements.{All-nil}
@@ -26,6 +26,7 @@ loop-parent-init g c =
           hands_none c.args.legacy c.args.graph.now.graph c.args.self.now.skips.entries;
       grows = grows_none _;
       failures = omega arith;
+      unrefused = refl;
     }
 
 pub loop-parent-preserved : goal.loop-parent-preserved
@@ -64,6 +65,7 @@ loop-parent-preserved g c = record {
       c.loop-parent-test.true c.follow.ensures.grows c.loop-parent.invariant.hands c.in_ok-waits.ensures.hands;
   grows = grows_on _ _ _ c.loop-parent.invariant.grows c.follow.ensures.grows;
   failures = omega (arith, c.loop-parent.invariant.failures, c.follow.ensures.failures);
+  unrefused = c.in_ok-waits.ensures.unrefused ∙ c.loop-parent.invariant.unrefused;
 }
 
 pub returns-in_err-waits-clause-grows : goal.returns-in_err-waits-clause-grows

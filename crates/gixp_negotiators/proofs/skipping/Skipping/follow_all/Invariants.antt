@@ -25,4 +25,5 @@ invariant-loop-parent g l = record {
   hands : Hands l.legacy (take l.parent-index l.parents) l.graph.graph l.fn.self.skips.entries l.self.skips.entries;
   grows : Grows l.fn.graph.graph l.graph.graph;
   failures : l.fn.graph.failures ≤ l.graph.failures;
+  unrefused : l.graph.refusals ≡ l.fn.graph.refusals;
 }

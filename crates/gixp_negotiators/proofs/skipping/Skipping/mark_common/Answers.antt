@@ -32,6 +32,7 @@ loop-next-init g c = record {
   skips = refl;
   grows = c.reach.ensures.grows;
   failures = c.reach.ensures.failures;
+  unrefused = c.in_ok-reach.ensures.unrefused;
 }
 
 pub returns-in_err-spread-clause-grows : goal.returns-in_err-spread-clause-grows
@@ -73,6 +74,7 @@ loop-next-preserved g c =
       skips = c.discount.ensures.skips ∙ c.loop-next.invariant.skips;
       grows = grows_on _ _ _ c.loop-next.invariant.grows c.spread.ensures.grows;
       failures = omega (arith, c.loop-next.invariant.failures, c.spread.ensures.failures);
+      unrefused = c.in_ok-spread.ensures.unrefused ∙ c.loop-next.invariant.unrefused;
     }
 
 pub returns-then-contains-clause-fits : goal.returns-then-contains-clause-fits

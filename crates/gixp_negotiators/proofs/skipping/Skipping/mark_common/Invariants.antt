@@ -26,6 +26,7 @@ invariant-loop-next g l = record {
   skips : l.self.skips ≡ l.fn.self.skips;
   grows : Grows l.fn.graph.graph l.graph.graph;
   failures : l.fn.graph.failures ≤ l.graph.failures;
+  unrefused : l.graph.refusals ≡ l.fn.graph.refusals;
 }
 
 -- the commits that aren't common, and those that wait for their parents to be so

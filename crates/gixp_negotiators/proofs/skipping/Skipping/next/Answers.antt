@@ -1,5 +1,5 @@
 -- The next is found.
-use Rattle.std.proofs.Common.{⊎_elim, ◌+◌, arith, refl, subst, sym, ap}
+use Rattle.std.proofs.Common.{◌∙◌, ⊎_elim, ◌+◌, arith, refl, subst, sym, ap}
 use Rattle.gixp_negotiators.specs.Spread.{AllHeld}
 use Rattle.gixp_negotiators.proofs.UnreadLemmas.{unread_same, unread_on, held_first, held_then}
 use Rattle.gixp_negotiators.specs.Passing.{Skipped, TakesUnoffered}
@@ -20,6 +20,7 @@ loop-first-init g c = record {
   passes = TakesUnoffered.none;
   grows = grows_none _;
   failures = omega arith;
+  unrefused = refl;
 }
 
 pub loop-first-preserved : goal.loop-first-preserved
@@ -47,6 +48,7 @@ loop-first-preserved g c = record {
       (taken_popped _ _ _ _ _ _ _ (ap (λ m. m.entries) c.pop.ensures.skips) c.if-branch.false c.in_ok-take.ensures.takes);
   grows = grows_on _ _ _ c.loop-first.invariant.grows c.take.ensures.grows;
   failures = omega (arith, c.loop-first.invariant.failures, c.take.ensures.failures);
+  unrefused = c.in_ok-take.ensures.unrefused ∙ c.loop-first.invariant.unrefused;
 }
 
 pub returns-then-branch-clause-offered : goal.returns-then-branch-clause-offered

@@ -1,5 +1,5 @@
 -- What the loop keeps.
-use Rattle.std.proofs.Common.{◌+◌, ◌≤◌}
+use Rattle.std.proofs.Common.{◌≡◌, ◌+◌, ◌≤◌}
 use Rattle.std.specs.BinaryHeap.{heap_len, heap_items}
 use Rattle.gixp_negotiators.specs.Marks.{SEEN, Grows, ListsNone, left}
 use Rattle.gixp_negotiators.specs.Spread.{AllHeld}
@@ -17,6 +17,7 @@ invariant-loop-first g l = record {
   passes : TakesUnoffered l.fn.self.skips.entries l.fn.graph.graph l.self.skips.entries l.graph.graph;
   grows : Grows l.fn.graph.graph l.graph.graph;
   failures : l.fn.graph.failures ≤ l.graph.failures;
+  unrefused : l.graph.refusals ≡ l.fn.graph.refusals;
 }
 
 -- the objects that weren't seen, and the commits that wait
