@@ -1,12 +1,13 @@
 /* git-remote-floor REMOTE PATH: the least that a remote helper of git may do (gitremote-helpers). It has one git upload-pack list the
-   refs and send a pack of all that git asks for, and git index-pack take that: no settings, no checks, no haves, no lock, no errors. */
+   refs and send a pack of all that git asks for, and git index-pack take that: no settings, no checks, no lock, no errors. Its haves
+   are what packed refs hold, all in the only request, so that it has no rounds, and asks git for nothing. */
 #include <stdio.h>
 #include <stdlib.h>
 #include <string.h>
 #include <sys/wait.h>
 #include <unistd.h>
 
-static char text[1 << 16], wants[1 << 22];
+static char text[1 << 16], wants[1 << 22], haves[1 << 22];
 
 static void refuse(void) { exit(128); }
 
@@ -53,10 +54,22 @@ static void list(FILE *to, FILE *from) {
     putchar('\n');
 }
 
+/* Reads what packed refs hold. */
+static void offer(void) {
+    char path[4096], line[4096];
+    size_t length = 0;
+    snprintf(path, sizeof path, "%s/packed-refs", getenv("GIT_DIR") ? getenv("GIT_DIR") : ".git");
+    FILE *refs = fopen(path, "r");
+    while (refs && length + 64 < sizeof haves && fgets(line, sizeof line, refs))
+        if (line[0] != '#' && line[0] != '^') length += (size_t)sprintf(haves + length, "0032have %.40s\n", line);
+    if (refs) fclose(refs);
+}
+
 static void fetch(FILE *to, FILE *from) {
     char *words[] = {"git", "index-pack", "--stdin", "--fix-thin", NULL};
     FILE *pack, *told;
-    fprintf(to, "0012command=fetch\n0001000eofs-delta\n%s0009done\n0000", wants);
+    offer();
+    fprintf(to, "0012command=fetch\n0001000ethin-pack\n000eofs-delta\n%s%s0009done\n0000", wants, haves);
     fflush(to);
     pid_t begun = start(words, &pack, &told);
     packet(from);

@@ -11,8 +11,10 @@ alone. Actions: a clone of 2,000 commits, a fetch of the same with nothing new, 
 of our own, whichever is here: a clone of 2,000 commits, one without file contents, a fetch with nothing new, a clone of 50,000
 refs, and one of 300 MiB.
 
-Where there is a C compiler, the first two are done in the same turns through `floor.c` too, the least that a remote helper may do:
-what git's own way of calling helpers costs, whatever one does.
+Where there is a C compiler, the first three are done in the same turns through `floor.c` too, the least that a remote helper may
+do: what git's own way of calling helpers costs, whatever one does. A program that may start no other needs a shell, so there are
+two more floors: `shell` is bash that does nothing but become that, and `pipes` bash that makes a folder and pipes first, by the
+programs that there are for it, and takes the folder away behind it.
 """
 import argparse
 import os
@@ -30,6 +32,14 @@ MIB = 1 << 20
 sys.path.insert(0, str(TOP / "scripts"))
 
 from live_httpd import web_of, web_servers  # noqa: E402
+
+
+# The least helpers, by their names.
+FLOORS = {
+    "floor": None,
+    "shell": '#!/bin/bash\nexec git-remote-floor "$@"\n',
+    "pipes": '#!/bin/bash\nroom=$(mktemp -d) && mkfifo "$room"/{1..9} && git-remote-floor "$@"\nrm -rf "$room"\n',
+}
 
 
 def history(count, first, begin, parent=None):
@@ -71,6 +81,10 @@ class Bench:
         self.has_floor = bool(shutil.which("cc"))
         if self.has_floor:
             subprocess.run(["cc", "-O2", "-o", tools / "git-remote-floor", TOP / "bench" / "floor.c"], check=True)
+        for kind, text in FLOORS.items():
+            if text and self.has_floor:
+                (tools / f"git-remote-{kind}").write_text(text)
+                (tools / f"git-remote-{kind}").chmod(0o755)
 
     # What web servers are begun by
 
@@ -106,12 +120,12 @@ class Bench:
 
     def by_path(self, server, floor=False):
         urls = {"git": f"file://{server}", "ours": f"gixp::{server}"}
-        return {**urls, "floor": f"floor::{server}"} if floor and self.has_floor else urls
+        return {**urls, **{kind: f"{kind}::{server}" for kind in FLOORS}} if floor and self.has_floor else urls
 
     # What is compared
 
     def compare(self, name, target, kinds, prepare, words):
-        """Times git, the program and the floor in turn, and tells the best of each."""
+        """Times git, the program and the floors in turn, and tells the best of each."""
         best = dict.fromkeys(kinds, float("inf"))
         for _ in range(self.runs):
             for kind in kinds:
@@ -125,8 +139,8 @@ class Bench:
             memory = f"{max(map(int, self.memory.read_text().split()))} KiB"
         git, ours = best["git"], best["ours"]
         times = f"git {git:.4f} s, ours {ours:.4f} s, ratio {ours / git:.2f}, at most {target}"
-        floor = f"; floor {best['floor']:.4f} s, ratio {best['floor'] / git:.2f}" if "floor" in best else ""
-        print(f"{name}: {times}{floor}; memory of the program {memory}", flush=True)
+        floors = "".join(f"; {kind} {best[kind]:.4f} s, ratio {best[kind] / git:.2f}" for kind in FLOORS if kind in best)
+        print(f"{name}: {times}{floors}; memory of the program {memory}", flush=True)
 
     def clone(self, name, target, urls, *more):
         """Clones of a server, each into a folder that isn't there."""
@@ -169,7 +183,8 @@ class Bench:
     def commits(self):
         server = self.repository("long", [history(200_000, 1, 1_500_000_000)])
         more = history(100, 300_000, 1_500_000_000, "refs/heads/main^0")
-        self.fetch("a fetch of 100 commits into 200,000", 1.2, self.by_path(server), server, lambda server: self.load(server, [more]))
+        urls = self.by_path(server, floor=True)
+        self.fetch("a fetch of 100 commits into 200,000", 1.2, urls, server, lambda server: self.load(server, [more]))
         shutil.rmtree(server)
 
     def many_refs(self, count):

@@ -137,7 +137,7 @@ class Row:
         for name in {"url", "name", "terminal"} & told.keys():
             (self.room / name).write_bytes(told[name][-1])
         self.begun = subprocess.Popen(
-            [self.program, FOLDER], cwd=self.room, env=variables, stdin=subprocess.PIPE, stdout=subprocess.PIPE,
+            [self.program, FOLDER, "requests", "answers"], cwd=self.room, env=variables, stdin=subprocess.PIPE, stdout=subprocess.PIPE,
             stderr=(self.room / "errors").open("wb"))
         if "bare" not in told:
             self.request(b"status settings")

@@ -149,20 +149,25 @@ fn failure_of(alloc: Global, path: &str, refusal: Option<Refusal>, failure: Fail
     }
 }
 
-// Fetches what is mapped, and offers the commits of a text in its order.
-fn offer_in_order<T: Transport + Drop, L: Listener + Drop, S: NestedProgress + Drop, P: PackPlace>(
-    rt: &HostRuntime,
+/// Fetches what is mapped, and offers the commits of a text in its order. Where that is a pipe, whoever writes it begins once it is
+/// open, so that may be done before.
+pub fn offer_in_order<
+    T: Transport + Drop,
+    L: Listener + Drop,
+    S: NestedProgress + Drop,
+    P: PackPlace,
+>(
+    alloc: Global,
     session: &mut Session<T, L, S>,
     repository: &mut Repository,
     asked: Asked<'_>,
     path: &str,
+    file: File,
     pack: &mut PackReceiver<P>,
 ) -> Result<Fetched, Failure>
 where
     S::SubProgress: Drop,
 {
-    let alloc = rt.alloc();
-    let file = File::open(rt, path).map_err(|e| Failure::of_file(alloc, path, e.kind()))?;
     let text = BufReader::new(alloc, file).map_err(|_| Failure::Memory)?;
     let mut negotiator = ListedCommits::new(alloc, text, repository.tips.take());
     match fetch_over(alloc, session, repository, &mut negotiator, asked, pack) {
@@ -189,7 +194,8 @@ where
             fetch_over(alloc, session, repository, &mut negotiator, asked, pack)
         }
         (Haves::InOrder, Some(path)) => {
-            offer_in_order(rt, session, repository, asked, path, pack)
+            let file = File::open(rt, path).map_err(|e| Failure::of_file(alloc, path, e.kind()))?;
+            offer_in_order(alloc, session, repository, asked, path, file, pack)
         }
         (Haves::InOrder, None) => fetch_over(alloc, session, repository, &mut Noop, asked, pack),
     }

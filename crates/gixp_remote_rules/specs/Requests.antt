@@ -34,6 +34,7 @@ abbrev pub task_name : Task → List ℕ
 task_name Server = codes "server"
 task_name Probe = codes "probe"
 task_name Question = codes "question"
+task_name Refs = codes "refs"
 task_name Listing = codes "listing"
 task_name Pack = codes "pack"
 task_name Watch = codes "watch"

@@ -14,6 +14,8 @@ pub enum Task {
     Server,
     /// A question that git answers.
     Question,
+    /// What tells what the refs hold, beside a question.
+    Refs,
     /// A question whether a program is OpenSSH.
     Probe,
     /// The list of the commits.
@@ -135,6 +137,7 @@ fn task_name(task: Task) -> &'static [u8]
         Task::Server => b"server",
         Task::Probe => b"probe",
         Task::Question => b"question",
+        Task::Refs => b"refs",
         Task::Listing => b"listing",
         Task::Pack => b"pack",
         Task::Watch => b"watch",

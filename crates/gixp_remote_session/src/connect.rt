@@ -289,14 +289,13 @@ fn start_server(reach: Reach<'_>, shell: &mut Shell) -> Result<(), Trouble> {
     }
 }
 
-/// Starts the server, and shakes hands with it. One that was started before is ended.
+/// Starts the server, and shakes hands with it. The shell ends one that was started before.
 pub(crate) fn connect<'a>(
     reach: Reach<'a>,
     shell: &mut Shell,
     is_quiet: bool,
 ) -> Result<Talk<'a>, Trouble> {
     check_policy(reach)?;
-    shell.end(Task::Server)?;
     start_server(reach, shell)?;
     reach.has_failed.set(false);
     forget(reach.bounds);

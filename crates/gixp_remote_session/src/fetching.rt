@@ -8,7 +8,7 @@ use crate::checks::checks_of;
 use crate::connect::{Reach, connect, leave};
 use crate::history::shallow_of;
 use crate::local::Places;
-use crate::order::{Order, filter_of, haves_for, known, list_commits, map_of, request_of};
+use crate::order::{Order, begin, filter_of, haves_for, known, list_commits, map_of, request_of};
 use crate::pack::{Came, IndexedPack, PackPlan, PackState, place};
 use crate::shell::Shell;
 use crate::trouble::Trouble;
@@ -22,9 +22,10 @@ use gixp_fetch_session::failure::Failure;
 use gixp_fetch_session::receive::PackReceiver;
 use gixp_fetch_session::repository::Repository;
 use gixp_fetch_session::session::Asked;
-use gixp_fetch_session::{ask_filter, negotiate, unless_failed};
+use gixp_fetch_session::{ask_filter, negotiate, offer_in_order, unless_failed};
 use gixp_remote_rules::{Boundary, Task, tells_closed};
 use std::alloc::Global;
+use std::fs::File;
 use std::io::ErrorKind;
 
 /// A session that may be there.
@@ -38,8 +39,6 @@ struct Plan<'a, 'b, 'c> {
     filter: Option<&'c str>,
     haves: Haves,
     pack: &'c PackPlan,
-    // Whether commits of other repositories are offered too, whose objects are borrowed.
-    has_alternates: bool,
 }
 
 // Fetches over a session, and gives the new boundary.
@@ -48,11 +47,19 @@ fn fetch_over<P: PackPlace + Drop>(
     session: &mut Talk<'_>,
     asked: Asked<'_>,
     repository: &mut Repository,
+    commits: Option<File>,
     place: P,
 ) -> Result<Vec<ObjectId>, Failure> {
     let alloc = reach.rt.alloc();
     let mut pack = PackReceiver::new(alloc, place);
-    let came = negotiate(reach.rt, session, repository, asked, &mut pack);
+    let came = match commits {
+        Some(file) => {
+            offer_in_order(
+                alloc, session, repository, asked, "commits", file, &mut pack,
+            )
+        }
+        None => negotiate(reach.rt, session, repository, asked, &mut pack),
+    };
     match unless_failed(came, reach.has_failed.get()) {
         Ok(fetched) => keep_pack(alloc, &mut pack, &fetched.boundary),
         Err(e) => {
@@ -89,6 +96,7 @@ fn fetch_by(
     shell: &mut Shell,
     session: &mut Talk<'_>,
     repository: &mut Repository,
+    commits: Option<File>,
 ) -> Result<Came, Trouble> {
     let order = plan.order;
     let rt = order.reach.rt;
@@ -99,14 +107,14 @@ fn fetch_by(
         map: &map,
         request: &request,
         haves: plan.haves,
-        commits: Some("commits"),
+        commits: None,
     };
     let pack = plan.pack.copy(rt.alloc())?;
     if session.version() == Protocol::V2 {
         forget(order.reach.bounds);
     }
     let place = IndexedPack::new(rt.clone()?, shell, pack, order.reach.bounds);
-    let boundary = fetch_over(order.reach, session, asked, repository, place)?;
+    let boundary = fetch_over(order.reach, session, asked, repository, commits, place)?;
     let kept = match shell.pack {
         PackState::Kept(kept) => Some(kept),
         PackState::Begun | PackState::Unbegun => None,
@@ -132,18 +140,20 @@ fn fetch_once_more<'a>(
     shell: &mut Shell,
     open: &mut Open<'a>,
     repository: &mut Repository,
+    commits: Option<File>,
 ) -> Result<Came, Trouble> {
     let reach = plan.order.reach;
+    let mut commits = commits;
     if let Some(mut session) = open.take() {
-        let came = fetch_by(plan, shell, &mut session, repository);
+        let came = fetch_by(plan, shell, &mut session, repository, commits.take());
         if !was_left(reach, &came, shell) {
             settle(reach, session, open, came.is_ok());
             return came;
         }
-        list_commits(plan.order, shell, plan.haves, plan.has_alternates)?;
+        commits = list_commits(plan.order, shell, plan.haves)?;
     }
     let mut session = connect(reach, shell, plan.order.choices.is_quiet)?;
-    let came = fetch_by(plan, shell, &mut session, repository);
+    let came = fetch_by(plan, shell, &mut session, repository, commits);
     settle(reach, session, open, came.is_ok());
     came
 }
@@ -206,16 +216,17 @@ pub(crate) fn fetch<'a>(
 ) -> Result<Fetched, Trouble> {
     let rt = order.reach.rt;
     let alloc = rt.alloc();
+    let mut commits = begin(order, shell)?;
     let places = Places::ask(rt, shell)?;
     let old = places.boundary(rt)?;
     if order.choices.has_depth() {
         lock_boundary(alloc, shell, &places)?;
     }
     let shallow = shallow_of(rt, shell, order.choices)?;
-    let has_alternates = places.has_alternates(rt);
-    let haves = haves_for(order, has_alternates);
-    // git lists them while it answers questions
-    list_commits(order, shell, haves, has_alternates)?;
+    let haves = haves_for(order, places.has_alternates(rt));
+    if commits.is_none() {
+        commits = list_commits(order, shell, haves)?;
+    }
     let mut repository = known(order, shell, &old, haves)?;
     let checks = checks_of(order, shell)?;
     let pack = PackPlan::new(rt, &places, folder, order.choices, &checks, &old)?;
@@ -226,11 +237,7 @@ pub(crate) fn fetch<'a>(
         filter: filter.as_deref(),
         haves,
         pack: &pack,
-        has_alternates,
     };
-    let came = fetch_once_more(plan, shell, open, &mut repository)?;
-    if haves == Haves::InOrder {
-        shell.end(Task::Listing)?;
-    }
+    let came = fetch_once_more(plan, shell, open, &mut repository, commits)?;
     finish(plan, shell, &places, &old, &came)
 }

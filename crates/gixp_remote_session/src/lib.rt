@@ -24,8 +24,8 @@ use crate::trouble::Trouble;
 use std::process::ExitCode;
 
 /// Speaks with git on standard input and output, in the folder of the shell's pipes, whose files `url` and `name` have the URL and
-/// the name that git has for the server; the word after the program's name is the folder's name. The status is 0, or 128 where
-/// something failed, which a sentence on standard error says.
+/// the name that git has for the server; the words after the program's name are the folder's name, the pipe to the shell and the
+/// one from it. The status is 0, or 128 where something failed, which a sentence on standard error says.
 pub fn run(rt: &HostRuntime) -> ExitCode {
     match converse(rt) {
         Ok(()) => ExitCode::SUCCESS,

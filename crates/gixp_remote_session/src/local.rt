@@ -6,14 +6,14 @@ ghost use Rattle.bstr.specs.BStr.{bstr_bytes};
 ghost use Rattle.gixp_remote_session.specs.ShownRefs.{id_and_name, shown_in, objects_shown, IsUnshown, with_shown, kind_shown};
 ghost use Rattle.gixp_remote_session.specs.Troubles.{TellsOther};
 
-use crate::shell::Shell;
+use crate::shell::{NOTHING, Shell};
 use crate::trouble::Trouble;
 use bstr::{BStr, ByteSlice};
 use gix_protocol::fetch::negotiate::{ObjectKind, StoredObjects, StoredRefs, TextError};
 use gix_protocol::fetch::shallow_ids;
 use gix_protocol::transport::ObjectId;
 use gixp_fetch_session::repository::{Repository, tips_of};
-use gixp_remote_rules::Question;
+use gixp_remote_rules::{Program, Question, Request, Start, Task, question_words};
 use std::alloc::{AllocError, Global};
 use std::fs;
 use std::io::ErrorKind;
@@ -180,7 +180,21 @@ pub(crate) fn new_repository(alloc: Global, boundary: Vec<ObjectId>) -> Reposito
     }
 }
 
-/// What the refs of the repository hold and lead to.
+/// Has git tell what the refs hold and lead to, into a file, so that nothing waits for it meanwhile.
+pub(crate) fn ask_refs(alloc: Global, shell: &mut Shell) -> Result<(), Trouble> {
+    let words = question_words(alloc, Question::Refs)?;
+    shell.ask(&Request::Start(Start {
+        task: Task::Refs,
+        program: Program::Git,
+        input: NOTHING,
+        output: "refs",
+        variables: &[],
+        words: &words,
+    }))?;
+    Ok(())
+}
+
+/// What the refs of the repository hold and lead to, which git was asked for.
 pub(crate) fn repository(
     rt: &HostRuntime,
     shell: &mut Shell,
@@ -190,13 +204,13 @@ pub(crate) fn repository(
     ensures boundary { IfOk result (λ r. r.boundary ≡ boundary) }
 {
     let alloc = rt.alloc();
-    let told = shell.git(rt, Question::Refs)?;
-    if told.status > 1 {
+    if shell.ask(&Request::Status(Task::Refs))? > 1 {
         return Err(Trouble::Other("the repository can't be read"));
     }
+    let text = fs::read(rt, "refs")?;
     let mut refs = StoredRefs::new(alloc);
-    refs.read_refs(alloc, &told.text).map_err(unread)?;
-    let objects = objects_of(alloc, &told.text)?;
+    refs.read_refs(alloc, &text).map_err(unread)?;
+    let objects = objects_of(alloc, &text)?;
     let tips = Some(tips_of(alloc, &mut refs, &objects)?);
     Ok(Repository {
         objects,

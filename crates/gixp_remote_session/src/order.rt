@@ -9,7 +9,7 @@ ghost use Rattle.gixp_fetch_local.specs.declared.options.Haves.TheVariants.{By};
 ghost use Rattle.gixp_remote_session.specs.Wanted.{wanted};
 
 use crate::connect::Reach;
-use crate::local::{new_repository, repository};
+use crate::local::{ask_refs, new_repository, repository};
 use crate::setup::{bytes_of, haves_of, variable};
 use crate::shell::{NOTHING, Shell};
 use crate::trouble::Trouble;
@@ -23,6 +23,7 @@ use gixp_fetch_local::Haves;
 use gixp_fetch_session::repository::Repository;
 use gixp_remote_rules::{Choices, Program, Question, Request, Start, Task, listing_words};
 use std::alloc::{AllocError, Global};
+use std::fs::File;
 
 /// What a fetch is for.
 #[derive(Clone, Copy)]
@@ -100,15 +101,12 @@ pub(crate) fn filter_of(alloc: Global, choices: &Choices) -> Result<Option<Strin
     }
 }
 
-// Lets git list the commits, which are read as they are offered.
-fn start_listing(
-    order: Order<'_, '_>,
-    shell: &mut Shell,
-    has_alternates: bool,
-) -> Result<(), Trouble> {
+// Lets git list the commits, which are read as they are offered. It finds out whether there are repositories whose objects are
+// borrowed.
+fn start_listing(order: Order<'_, '_>, shell: &mut Shell) -> Result<(), Trouble> {
     let alloc = order.reach.rt.alloc();
     let most = variable(order.reach.rt, "GIXP_COMMITS");
-    let words = listing_words(alloc, has_alternates, bytes_of(&most))?;
+    let words = listing_words(alloc, true, bytes_of(&most))?;
     shell.ask(&Request::Start(Start {
         task: Task::Listing,
         program: Program::Git,
@@ -139,18 +137,34 @@ pub(crate) fn haves_for(order: Order<'_, '_>, has_alternates: bool) -> Haves
     }
 }
 
-/// Begins a list of the commits anew, where they are offered in its order.
+/// Begins a list of the commits, where they are offered in its order. It is opened at once, since git begins once it is.
 pub(crate) fn list_commits(
     order: Order<'_, '_>,
     shell: &mut Shell,
     haves: Haves,
-    has_alternates: bool,
-) -> Result<(), Trouble> {
-    if haves == Haves::InOrder {
-        shell.end(Task::Listing)?;
-        start_listing(order, shell, has_alternates)?;
+) -> Result<Option<File>, Trouble> {
+    if haves != Haves::InOrder {
+        return Ok(None);
     }
-    Ok(())
+    start_listing(order, shell)?;
+    Ok(Some(File::open(order.reach.rt, "commits")?))
+}
+
+// Whether nothing of the repository is known, or counts.
+fn is_new(choices: &Choices) -> bool
+    ensures { result ≡ (choices.now.is_cloning || choices.now.is_refetch) }
+{
+    choices.is_cloning || choices.is_refetch
+}
+
+/// Has git begin with what takes its time, while it is asked for the rest: with the list of the commits, as far as it is known that
+/// they are offered, and with the refs.
+pub(crate) fn begin(order: Order<'_, '_>, shell: &mut Shell) -> Result<Option<File>, Trouble> {
+    let commits = list_commits(order, shell, haves_for(order, false))?;
+    if !is_new(order.choices) {
+        ask_refs(order.reach.rt.alloc(), shell)?;
+    }
+    Ok(commits)
 }
 
 /// What is known of the repository that fetches: what its refs hold, and its commits where a negotiator chooses among them.
@@ -162,7 +176,7 @@ pub(crate) fn known(
 ) -> Result<Repository, Trouble> {
     let alloc = order.reach.rt.alloc();
     let boundary = Vec::from_slice(alloc, boundary)?;
-    if order.choices.is_cloning || order.choices.is_refetch {
+    if is_new(order.choices) {
         return Ok(new_repository(alloc, boundary));
     }
     let mut found = repository(order.reach.rt, shell, boundary)?;

@@ -186,7 +186,7 @@ fn serve(begun: &Begun, shell: Shell) -> Result<(), Trouble> {
 pub(crate) fn converse(rt: &HostRuntime) -> Result<(), Trouble> {
     let alloc = rt.alloc();
     let given = read_given(rt)?;
-    let mut shell = Shell::open(rt)?;
+    let mut shell = Shell::open(rt, given.requests.as_str(), given.answers.as_str())?;
     let address = Address::read(alloc, &given.url)?;
     let text = settings_text(rt, &mut shell)?;
     let settings = Settings::read(alloc, &text)?;

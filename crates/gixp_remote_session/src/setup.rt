@@ -39,6 +39,10 @@ pub(crate) struct Given {
     pub(crate) url: Vec<u8>,
     /// The name of the helper's folder.
     pub(crate) folder: String,
+    /// The pipe to the shell.
+    pub(crate) requests: String,
+    /// The pipe from it.
+    pub(crate) answers: String,
     /// Whether standard error is a terminal in which the rest of a line can be erased.
     pub(crate) erases: bool,
 }
@@ -53,13 +57,17 @@ fn can_erase(rt: &HostRuntime) -> bool {
 
 /// What the shell says before anything is asked.
 pub(crate) fn read_given(rt: &HostRuntime) -> Result<Given, Trouble> {
-    let Some(folder) = env::args(rt)?.skip(1).next() else {
-        return Err(Trouble::Other("there is no folder"));
+    let mut words = env::args(rt)?.skip(1);
+    let (Some(folder), Some(requests), Some(answers)) = (words.next(), words.next(), words.next())
+    else {
+        return Err(Trouble::Other("there is no folder, or there are no pipes"));
     };
     Ok(Given {
         name: fs::read(rt, "name")?,
         url: fs::read(rt, "url")?,
         folder,
+        requests,
+        answers,
         erases: can_erase(rt),
     })
 }

@@ -32,11 +32,11 @@ pub(crate) struct Told {
 }
 
 impl Shell {
-    /// Opens the pipes to the shell.
-    pub(crate) fn open(rt: &HostRuntime) -> Result<Shell, Trouble> {
+    /// Opens the pipes to the shell and from it.
+    pub(crate) fn open(rt: &HostRuntime, requests: &str, answers: &str) -> Result<Shell, Trouble> {
         let alloc = rt.alloc();
-        let requests = OpenOptions::new().write(true).open(rt, "requests")?;
-        let answers = BufReader::new(alloc, File::open(rt, "answers")?)?;
+        let requests = OpenOptions::new().write(true).open(rt, requests)?;
+        let answers = BufReader::new(alloc, File::open(rt, answers)?)?;
         Ok(Shell {
             alloc,
             requests,
