@@ -1,6 +1,5 @@
 -- The questions to git, by the words of its programs.
-use Rattle.std.specs.Prelude.{ℕ, Bool, List, [], ◌∷◌, ◌++◌, codes, Option, Some, None}
-use Rattle.gixp_remote_rules.specs.Programs.{flag}
+use Rattle.std.specs.Prelude.{ℕ, List, [], ◌∷◌, ◌++◌, codes, Option, Some, None}
 use Rattle.gixp_remote_rules.specs.declared.question.Question.{Question}
 use Rattle.gixp_remote_rules.specs.declared.question.Question.TheVariants.{Places, Refs, Commits, SkipList, Time, Check, Kinds}
 
@@ -29,6 +28,7 @@ abbrev pub most_words : Option (List ℕ) → List (List ℕ)
 most_words None = []
 most_words (Some most) = codes "-n" ∷ most ∷ []
 
--- the list of the commits that are offered: with those of repositories whose objects are borrowed, and no more than so many
-abbrev pub listing_words : Bool → Option (List ℕ) → List (List ℕ)
-listing_words has_alternates most = commit_words ++ (flag has_alternates (codes "--alternate-refs") ++ most_words most)
+-- the list of the commits that are offered: with those of repositories whose objects are borrowed (git-rev-list,
+-- "--alternate-refs"), and no more than so many
+abbrev pub listing_words : Option (List ℕ) → List (List ℕ)
+listing_words most = commit_words ++ (codes "--alternate-refs" ∷ most_words most)

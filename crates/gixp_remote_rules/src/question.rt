@@ -4,7 +4,7 @@ ghost use Rattle.std.specs.Option.{option_map};
 ghost use Rattle.bstr.specs.Owned.{bstring_bytes};
 ghost use Rattle.gixp_remote_rules.specs.Asked.{commit_words, time_words, check_words, question_words, most_words, listing_words};
 
-use crate::words::{add, add_if, add_names, joined};
+use crate::words::{add, add_names, joined};
 use bstr::BString;
 use std::alloc::{AllocError, Global};
 
@@ -111,22 +111,17 @@ fn add_most(alloc: Global, words: &mut Vec<BString>, most: Option<&[u8]>) -> Res
     Ok(())
 }
 
-/// The words of git that lists the commits which are offered: with those of repositories whose objects are borrowed, and no more
-/// than so many.
+/// The words of git that lists the commits which are offered: with those of repositories whose objects are borrowed, if there are
+/// any, and no more than so many.
 ///
 /// # Errors
 ///
 /// An allocation failure alone.
-pub fn listing_words(
-    alloc: Global,
-    has_alternates: bool,
-    most: Option<&[u8]>,
-) -> Result<Vec<BString>, AllocError>
-    ensures { IfOk result (λ words. map bstring_bytes words.items
-        ≡ listing_words has_alternates (option_map (λ m. m.now) most.entry)) }
+pub fn listing_words(alloc: Global, most: Option<&[u8]>) -> Result<Vec<BString>, AllocError>
+    ensures { IfOk result (λ words. map bstring_bytes words.items ≡ listing_words (option_map (λ m. m.now) most.entry)) }
 {
     let mut words = commit_words(alloc)?;
-    add_if(alloc, &mut words, has_alternates, b"--alternate-refs")?;
+    add(alloc, &mut words, b"--alternate-refs")?;
     add_most(alloc, &mut words, most)?;
     Ok(words)
 }

@@ -106,7 +106,7 @@ pub(crate) fn filter_of(alloc: Global, choices: &Choices) -> Result<Option<Strin
 fn start_listing(order: Order<'_, '_>, shell: &mut Shell) -> Result<(), Trouble> {
     let alloc = order.reach.rt.alloc();
     let most = variable(order.reach.rt, "GIXP_COMMITS");
-    let words = listing_words(alloc, true, bytes_of(&most))?;
+    let words = listing_words(alloc, bytes_of(&most))?;
     shell.ask(&Request::Start(Start {
         task: Task::Listing,
         program: Program::Git,
