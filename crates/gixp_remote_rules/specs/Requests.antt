@@ -3,7 +3,7 @@ use Rattle.std.specs.Prelude.{ℕ, ◌==◌, if◌then◌else◌, List, [], ◌�
 use Rattle.bstr.specs.declared.bstring.BString.{BString}
 use Rattle.bstr.specs.Owned.{bstring_bytes}
 use Rattle.gixp_remote_rules.specs.declared.request.Task.{Task}
-use Rattle.gixp_remote_rules.specs.declared.request.Task.TheVariants.{Server, Question, Probe, Listing, Pack, Watch, Settings}
+use Rattle.gixp_remote_rules.specs.declared.request.Task.TheVariants.{Server, Question, Refs, Probe, Listing, Pack, Watch, Settings}
 use Rattle.gixp_remote_rules.specs.declared.request.Program.{Program}
 use Rattle.gixp_remote_rules.specs.declared.request.Program.TheVariants.{Git, Command, Shell, Socket, Watch as WatchProgram}
 use Rattle.gixp_remote_rules.specs.declared.request.Start.{Start}
