@@ -67,6 +67,7 @@ pub use Rattle.gixp_graph.specs.Negotiation
 pub use Rattle.gixp_graph.specs.Node
 pub use Rattle.gixp_graph.specs.Object
 pub use Rattle.gixp_graph.specs.Queue
+pub use Rattle.gixp_graph.specs.Refusals
 pub use Rattle.gixp_graph.specs.Run
 pub use Rattle.gixp_graph.specs.Table
 pub use Rattle.gixp_graph.specs.Visited
@@ -158,7 +159,6 @@ pub use Rattle.gixp_negotiators.specs.Algorithm as NegotiatorAlgorithm
 pub use Rattle.gixp_negotiators.specs.AlgorithmLaws as NegotiatorAlgorithmLaws
 pub use Rattle.gixp_negotiators.specs.Calls as NegotiatorCalls
 pub use Rattle.gixp_negotiators.specs.Distance as NegotiatorDistance
-pub use Rattle.gixp_negotiators.specs.Errors as NegotiatorErrors
 pub use Rattle.gixp_negotiators.specs.Marks as NegotiatorMarks
 pub use Rattle.gixp_negotiators.specs.MarkLaws as NegotiatorMarkLaws
 pub use Rattle.gixp_negotiators.specs.Passing as NegotiatorPassing
