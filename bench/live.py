@@ -12,9 +12,9 @@ of our own, whichever is here: a clone of 2,000 commits, one without file conten
 refs, and one of 300 MiB.
 
 Where there is a C compiler, the first three are done in the same turns through `floor.c` too, the least that a remote helper may
-do: what git's own way of calling helpers costs, whatever one does. A program that may start no other needs a shell, so there are
-two more floors: `shell` is bash that does nothing but become that, and `pipes` bash that makes a folder and pipes first, by the
-programs that there are for it, and takes the folder away behind it.
+do: what git's own way of calling helpers costs, whatever one does. A program that may start no other needs a shell, and no server may
+be started before it is known which the user allows, so there are two more floors: `shell` is bash that does nothing but become that,
+and `settings` bash that has git list the settings first.
 """
 import argparse
 import os
@@ -38,7 +38,7 @@ from live_httpd import web_of, web_servers  # noqa: E402
 FLOORS = {
     "floor": None,
     "shell": '#!/bin/bash\nexec git-remote-floor "$@"\n',
-    "pipes": '#!/bin/bash\nroom=$(mktemp -d) && mkfifo "$room"/{1..9} && git-remote-floor "$@"\nrm -rf "$room"\n',
+    "settings": '#!/bin/bash\ngit config --list --null > /dev/null && exec git-remote-floor "$@"\n',
 }
 
 

@@ -4,7 +4,8 @@
 Usage: dialogue.py [--remote PATH] [--only WORD] [FILE..]
 
 PATH is the program, else what `rt run` left in crates/gixp_remote/out; the FILEs are those of scripts/dialogue. It stands in a
-folder with two pipes and with plain files in place of the others, so that what a server says is there before it is started.
+folder with two pipes and with plain files in place of the others, so that what a server says is there before it is started. In a row
+a pipe has a name in place of its number: hears, says, told, refs, commits, pack, kept.
 crates/gixp_remote/README.md has the requests, gitremote-helpers(7) git's commands. What a row expects is written from these two
 and from git's own documents, never from what the program printed. A row's lines are done one after the other:
 
@@ -15,7 +16,7 @@ and from git's own documents, never from what the program printed. A row's lines
     set NAME=VALUE      a variable of its environment
     setting NAME=VALUE  one that `git config --list` tells; `setting NAME` has no value
     terminal NAME       standard error is a terminal of this name
-    bare                the row has the question for the settings itself; else it is answered before the first line
+    bare                the row has the question for the settings itself; else it is answered wherever it comes
     > LINE              git says a line
     >> TEXT             git says bytes, and no line end
     end                 git says nothing more, as at the end of each row
@@ -53,12 +54,15 @@ ROWS = TOP / "scripts" / "dialogue"
 LOCAL = """GIT_ALTERNATE_OBJECT_DIRECTORIES GIT_CONFIG GIT_CONFIG_PARAMETERS GIT_CONFIG_COUNT GIT_OBJECT_DIRECTORY GIT_DIR GIT_WORK_TREE
 GIT_IMPLICIT_WORK_TREE GIT_GRAFT_FILE GIT_INDEX_FILE GIT_NO_REPLACE_OBJECTS GIT_REPLACE_REF_BASE GIT_PREFIX GIT_INTERNAL_SUPER_PREFIX
 GIT_SHALLOW_FILE GIT_COMMON_DIR""".split()
-FOLDER = "gixp.row"
+MARK = "gixp.row"
+# The files of the shell that the program opens, by what they are for.
+GIVEN, PIPES = "9", {"hears": "20", "says": "21", "told": "22", "refs": "23", "commits": "24", "pack": "25", "kept": "26"}
 WAIT = 60
 ESCAPE = re.compile(rb"\\(x[0-9a-fA-F]{2}|.)")
 # one in a request, whose words have their own escapes
 BYTE = re.compile(rb"(?<!\\)\\x([0-9a-fA-F]{2})")
 NAMED = {b"n": b"\n", b"t": b"\t", b"0": b"\0", b"\\": b"\\"}
+SETTINGS = b"status settings\n.\n"
 SPECIAL = {b"0000", b"0001", b"0002"}
 
 
@@ -114,8 +118,8 @@ class Row:
         self.room, self.program, self.lines = room, program, lines
         self.replies, self.requests, self.errors, self.heard = b"", b"", [], []
         self.says, self.first_heard, self.status, self.waits, self.begun = b"", b"", 0, False, None
-        for name in ("hears", "says", "told", "pack", "kept", "commits"):
-            (room / name).write_bytes(b"")
+        for name in PIPES:
+            self.path(name).write_bytes(b"")
         for name in ("requests", "answers"):
             os.mkfifo(room / name)
         # both ends are held, so that no open waits
@@ -126,22 +130,22 @@ class Row:
         read = ESCAPE.sub(lambda m: NAMED.get(m[1]) or bytes([int(m[1][1:], 16)]), given)
         return read.replace(b"@room", str(self.room).encode())
 
+    def path(self, name):
+        """The path of a file, of a pipe by what it is for."""
+        return self.room / PIPES.get(name, name)
+
     def begin(self):
         """Starts the program as the lines before any action have it."""
-        told = {"url": [b"/srv/x"], "name": [b"origin"], "set": [], "setting": []}
+        told = {"url": [b"/srv/x"], "name": [b"origin"], "terminal": [b""], "set": [], "setting": []}
         for _, word, rest in self.lines:
             told.setdefault(word, []).append(self.text(rest))
         variables = {"PATH": os.environ["PATH"], **dict(one.decode("latin1").split("=", 1) for one in told["set"])}
-        settings = [one.replace(b"=", b"\n", 1) + b"\0" for one in told["setting"]]
-        (self.room / "settings").write_bytes(b"".join(settings))
-        for name in {"url", "name", "terminal"} & told.keys():
-            (self.room / name).write_bytes(told[name][-1])
+        settings = [one.replace(b"=", b"\n", 1) for one in told["setting"]]
+        (self.room / GIVEN).write_bytes(b"".join(field + b"\0" for field in (told["name"][-1], told["url"][-1], *settings)))
         self.begun = subprocess.Popen(
-            [self.program, FOLDER, "requests", "answers"], cwd=self.room, env=variables, stdin=subprocess.PIPE, stdout=subprocess.PIPE,
-            stderr=(self.room / "errors").open("wb"))
-        if "bare" not in told:
-            self.request(b"status settings")
-            self.answer(b"0")
+            [self.program, MARK, told["terminal"][-1], "requests", "answers"], cwd=self.room, env=variables, stdin=subprocess.PIPE,
+            stdout=subprocess.PIPE, stderr=(self.room / "errors").open("wb"))
+        self.has_settings = "bare" in told
 
     # What is waited for
 
@@ -153,7 +157,10 @@ class Row:
             asked = os.read(self.asked, 1 << 16) if self.asked in ready else b""
             told = os.read(pipe, 1 << 16) if pipe in ready else b""
             self.requests, self.replies = self.requests + asked, self.replies + told
-            if ready:
+            if not self.has_settings and self.requests == SETTINGS:
+                self.requests, self.has_settings = b"", True
+                self.answer(b"0")
+            elif ready:
                 return bool(told if is_reply else asked)
         raise Wrong(f"nothing came in {WAIT} s")
 
@@ -177,14 +184,15 @@ class Row:
             raise Wrong(f"the shell is asked {found + dot!r}, wanted {text!r}; git is told {self.replies!r}")
         if text.startswith(b"start server "):
             for name, content in (("hears", b""), ("says", self.says)):
-                (self.room / name).unlink()
-                (self.room / name).write_bytes(content)
+                self.path(name).unlink()
+                self.path(name).write_bytes(content)
             self.says = b""
         self.waits = True
 
     def request_text(self, wanted):
         first, *more = wanted.split(b" | ")
-        lines = [self.text(first)]
+        verb, *names = self.text(first).decode().split(" ")
+        lines = [" ".join([verb, *names[:2], *(PIPES.get(name, name) for name in names[2:])]).encode()]
         for one in more:
             if one == b"=@local":
                 lines += [b"=" + name.encode() for name in LOCAL]
@@ -242,12 +250,12 @@ class Row:
             raise Wrong(f"no such word: {word}")
 
     def write(self, name, text=b""):
-        path = self.room / name.decode()
+        path = self.path(name.decode())
         path.parent.mkdir(parents=True, exist_ok=True)
         path.write_bytes(self.text(text))
 
     def look(self, name, text=None):
-        path, wanted = self.room / name.decode(), text and self.text(text)
+        path, wanted = self.path(name.decode()), text and self.text(text)
         found = path.read_bytes() if path.exists() else None
         if found != wanted:
             raise Wrong(f"{path.name} holds {found!r}, wanted {wanted!r}")
@@ -257,6 +265,8 @@ class Row:
         self.settle()
         if not self.begun.stdin.closed:
             self.begun.stdin.close()
+        while not self.has_settings and self.fill(False):
+            pass
         try:
             status = self.begun.wait(WAIT)
         except subprocess.TimeoutExpired:
@@ -270,7 +280,7 @@ class Row:
             raise Wrong(f"status {status}: {errors}")
         if len(errors) != len(self.errors) or not all(part in line for part, line in zip(self.errors, errors)):
             raise Wrong(f"standard error has {errors}, wanted {self.errors}")
-        told = (self.room / "hears").read_bytes()
+        told = self.path("hears").read_bytes()
         if not told.startswith(self.first_heard):
             raise Wrong(f"the server heard {told}")
         if self.heard and (heard := packets_of(told.removeprefix(self.first_heard))) != self.heard:

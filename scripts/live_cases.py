@@ -519,10 +519,17 @@ def dates(name, t):
         same(t, f"{name}: {since}", by_git, by_us, first, second)
 
 
+def older_bash(name, t):
+    """A bash that makes a file of a word, and no pipe, as 5.0 does."""
+    server = make(t, "server", 30, tags=True)
+    for words in ([], ["--depth", "3"]):
+        same(t, f"{name}: {words}", *clone_both(t, server, *words, urls=by_both(server), more={"BASH_COMPAT": "5.0"}))
+
+
 def try_harm(t):
     for name, action in (
         ("a linked work tree", work_trees), ("a shallow server", shallow_servers), ("a spoiled boundary", spoiled_boundaries),
         ("a locked boundary", locked_boundary), ("evil objects", evil_objects), ("locks of packs", locks_of_packs),
-        ("the server's environment", environments), ("dates", dates),
+        ("the server's environment", environments), ("dates", dates), ("an older bash", older_bash),
     ):
         t.case(name, action)

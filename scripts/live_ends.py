@@ -37,12 +37,12 @@ def frozen(name, t):
     t.check(f"{name}: no repository", status != 0 and leaves_nothing(t), err)
 
 
-def left_by(t, client):
+def left_by(t, client, files=FILES):
     """What a fetch that was ended left behind: processes, folders, locks."""
     until = time.monotonic() + 6
     while True:
         processes = [id for word in (*PROCESSES, t.remote.name) for id in running(word, t.room)]
-        left = [*t.room.glob("gixp.*"), *(path for pattern in FILES for path in client.glob(pattern))]
+        left = [*t.room.glob("gixp.*"), *(path for pattern in files for path in client.glob(pattern))]
         if not (processes or left) or time.monotonic() > until:
             return f"{processes} {left}" if processes or left else ""
         time.sleep(0.05)
@@ -117,6 +117,22 @@ def killed(name, t, who, signals, over="path"):
             t.check(what, not left and clean and works and took < AT_ONCE, f"{signal.Signals(sent).name} {took:.1f} s {left} {clean} {err}")
 
 
+def orphaned(name, t):
+    """The shell is killed at once, at moments of a fetch. What it began ends by itself, and what stays hinders nothing."""
+    server, mark = make(t, "server", 400), slowly(t)
+    tip = t.git("rev-parse", "main", at=server)
+    for number in range(MOMENTS):
+        client, words = make(t, "client", 0), ["git", "fetch", "-q", f"gixp::file://{server}", "main:refs/x/m"]
+        mark.touch()
+        took = kill_at(t, t.begin(*words, at=client), "git-remote-gixp", number, signal.SIGKILL, 0.015)
+        mark.unlink()
+        left = left_by(t, client, ())
+        clean = t.run("git", "fsck", "--connectivity-only", at=client)[0] == 0
+        status, out, err = t.run(*words, at=client)
+        works = status == 0 and t.run("git", "rev-parse", "refs/x/m", at=client)[1] == tip
+        t.check(f"{name}, moment {number}", took is not None and not left and clean and works, f"{took} {left} {clean} {err}")
+
+
 def try_ends(t):
     t.case("a server that freezes", frozen)
     ours, term, kill = t.remote.name, signal.SIGTERM, signal.SIGKILL
@@ -125,6 +141,7 @@ def try_ends(t):
         ("git", term), ("git", kill),
     ):
         t.case(f"a kill of {who}{', at once' if sent == kill else ''}", killed, who, [sent])
+    t.case("a kill of git-remote-gixp, at once", orphaned)
     for over in ("path", "ssh", "git://") if has_loopback() else ("path", "ssh"):
         for who in ("git-remote-gixp", ours, "index-pack", "upload-pack"):
             t.case(f"signals to {who} over {over}", killed, who, SIGNALS, over)

@@ -1,4 +1,4 @@
-//! `gixp_remote FOLDER REQUESTS ANSWERS`, which `git-remote-gixp` starts in its folder: a remote helper of git.
+//! `gixp_remote MARK TERMINAL REQUESTS ANSWERS`, which `git-remote-gixp` starts in the folder of its open files: a remote helper of git.
 #![tactic(auto)]
 
 use gixp_remote_session::run;

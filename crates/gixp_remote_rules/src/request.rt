@@ -50,9 +50,9 @@ pub struct Start<'a> {
     pub task: Task,
     /// Which it is.
     pub program: Program,
-    /// What it reads, by its name in the helper's folder.
+    /// What it reads: a path, the number of a new pipe from this program, or a name in the last folder.
     pub input: &'a str,
-    /// What it writes, by its name there.
+    /// What it writes into: a path, or the number of a new pipe to this program.
     pub output: &'a str,
     /// Variables of its environment: `NAME=VALUE` sets one, and `NAME` takes one away.
     pub variables: &'a [BString],
@@ -71,11 +71,11 @@ pub enum Request<'a> {
     End(Task),
     /// Make a file that isn't there, and take it away at the end unless somebody else changed it.
     Hold(&'a [u8]),
-    /// Write a file of the helper's folder over one that is held, and give it another name.
+    /// Write the file `boundary` of the last folder over one that is held, and give it another name.
     Replace(&'a [u8], &'a [u8]),
     /// Take a file away that is held.
     Free(&'a [u8]),
-    /// Take a folder for objects away at the end.
+    /// Take a folder for objects away at the end, where it is there still.
     Folder(&'a [u8]),
 }
 

@@ -6,7 +6,7 @@ ghost use Rattle.gixp_remote_session.specs.Boundaries.{boundary_then, ChangesTo}
 use crate::checks::here;
 use crate::local::Places;
 use crate::order::Order;
-use crate::pack::{Came, PackPlan};
+use crate::pack::{Came, PackPlan, make_folder};
 use crate::shell::Shell;
 use crate::trouble::Trouble;
 use bstr::BString;
@@ -33,13 +33,13 @@ pub(crate) fn boundary_of(
     let mut before = BTreeSet::new(alloc);
     let mut commits = BTreeSet::new(alloc);
     if !ids.is_empty() && taking != Taking::Nothing {
-        before = here(order, shell, &[], &ids, false)?;
+        before = here(order, shell, plan, &[], &ids, false)?;
         let variables: &[BString] = if came.kept.is_some() {
             &plan.variables
         } else {
             &[]
         };
-        commits = here(order, shell, variables, &ids, true)?;
+        commits = here(order, shell, plan, variables, &ids, true)?;
     }
     let boundary = boundary_after(alloc, taking, &known, &came.boundary, &before, &commits)?;
     Ok((boundary, !before.is_empty()))
@@ -63,11 +63,12 @@ pub(crate) fn lock_boundary(
     }
 }
 
-// Puts a new boundary in the place of the old one, whose lock is held.
+// Puts a new boundary in the place of the old one, whose lock is held. It is written into the folder of the pack.
 fn write_boundary(
     rt: &HostRuntime,
     shell: &mut Shell,
     places: &Places,
+    plan: &PackPlan,
     ids: &[ObjectId],
 ) -> Result<(), Trouble> {
     let lock = places.shallow_lock.as_bytes();
@@ -77,7 +78,9 @@ fn write_boundary(
         shell.ask(&Request::Free(lock))?;
         return Ok(());
     }
-    fs::write(rt, "boundary", text.as_slice())?;
+    make_folder(rt, shell, plan)?;
+    let path = format!(in rt.alloc(); "{}/boundary", plan.folder)?;
+    fs::write(rt, path.as_str(), text.as_slice())?;
     if shell.ask(&Request::Replace(lock, places.shallow.as_bytes()))? == 0 {
         Ok(())
     } else {
@@ -136,6 +139,7 @@ pub(crate) fn change_boundary(
     order: Order<'_, '_>,
     shell: &mut Shell,
     places: &Places,
+    plan: &PackPlan,
     old: &[ObjectId],
     boundary: &Boundary,
 ) -> Result<(), Trouble> {
@@ -150,5 +154,5 @@ pub(crate) fn change_boundary(
     if !has_lock {
         lock_boundary(rt.alloc(), shell, places)?;
     }
-    write_boundary(rt, shell, places, &ids)
+    write_boundary(rt, shell, places, plan, &ids)
 }

@@ -1,5 +1,7 @@
 //! What git checks of the objects that come (git-config, "fetch.fsckObjects", "fetch.fsck.<msg-id>"), and which are here.
 use crate::order::Order;
+use crate::pack::{PackPlan, make_folder};
+use crate::pipes::IDS;
 use crate::shell::{NOTHING, Shell};
 use crate::trouble::Trouble;
 use bstr::{BString, ByteSlice};
@@ -69,10 +71,12 @@ fn add_check(
     Ok(())
 }
 
-/// Those of the ids whose objects are here, or the commits among them, as git sees them with these variables.
+/// Those of the ids whose objects are here, or the commits among them, as git sees them with these variables. It reads the ids from
+/// the folder of the pack.
 pub(crate) fn here(
     order: Order<'_, '_>,
     shell: &mut Shell,
+    plan: &PackPlan,
     variables: &[BString],
     ids: &[ObjectId],
     commits_alone: bool,
@@ -80,9 +84,11 @@ pub(crate) fn here(
     let rt = order.reach.rt;
     let alloc = rt.alloc();
     let text = shallow_text(alloc, ids)?;
-    fs::write(rt, "ids", text.as_slice())?;
+    make_folder(rt, shell, plan)?;
+    let path = format!(in alloc; "{}/{IDS}", plan.folder)?;
+    fs::write(rt, path.as_str(), text.as_slice())?;
     let words = question_words(alloc, Question::Kinds)?;
-    let told = shell.tell(rt, Task::Question, Program::Git, "ids", variables, &words)?;
+    let told = shell.tell(rt, Task::Question, Program::Git, IDS, variables, &words)?;
     let mut found = BTreeSet::new(alloc);
     for line in told.text.as_slice().lines() {
         if let Some((kind, id)) = line.split_once_str(b" ") {

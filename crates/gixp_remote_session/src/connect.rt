@@ -3,10 +3,11 @@ ghost use Rattle.std.specs.Prelude.{◌≡◌, ◌≢◌, ◌↔◌, IfOk, IsOk,
 ghost use Rattle.std.specs.Option.{option_map};
 ghost use Rattle.bstr.specs.Owned.{bstring_bytes};
 ghost use Rattle.gixp_remote_rules.specs.declared.ssh.Variant.TheVariants.{Auto};
-ghost use Rattle.gixp_remote_session.specs.UserChoices.{IsProbed};
+ghost use Rattle.gixp_remote_session.specs.UserChoices.{IsProbed, is_begun_at_once};
 
 use crate::bounded::{Bounded, Bounds, forget};
 use crate::chosen::{check_allowed, opening_by, probed, ssh_by, variant_by};
+use crate::pipes::{HEARS, SAYS};
 use crate::setup::{bytes_of, variable, version_word};
 use crate::shell::{NOTHING, Shell, owned};
 use crate::trouble::Trouble;
@@ -221,8 +222,8 @@ fn start_with(
     let status = shell.ask(&Request::Start(Start {
         task: Task::Server,
         program,
-        input: "hears",
-        output: "says",
+        input: HEARS,
+        output: SAYS,
         variables,
         words,
     }))?;
@@ -259,11 +260,11 @@ fn says_of(
     Ok(Says::Answers(Answers::new(from)))
 }
 
-// The transport over the two pipes. What the server hears is opened first.
+// The transport over the two pipes.
 fn open_wire<'a>(reach: Reach<'a>, is_quiet: bool) -> Result<Wire<'a>, Trouble> {
     let alloc = reach.rt.alloc();
-    let to = OpenOptions::new().write(true).open(reach.rt, "hears")?;
-    let from = File::open(reach.rt, "says")?;
+    let to = OpenOptions::new().write(true).open(reach.rt, HEARS)?;
+    let from = File::open(reach.rt, SAYS)?;
     let mut to = BufWriter::new(alloc, to)?;
     let says = says_of(reach, from, &mut to, is_quiet)?;
     let url = reach.address.path.clone()?;
@@ -279,8 +280,19 @@ fn open_wire<'a>(reach: Reach<'a>, is_quiet: bool) -> Result<Wire<'a>, Trouble> 
     Ok(Bounded::new(connection, reach.bounds))
 }
 
-// Starts the server.
-fn start_server(reach: Reach<'_>, shell: &mut Shell) -> Result<(), Trouble> {
+/// Whether a server is begun without a program of the user's, and without a connection that the shell waits for.
+pub(crate) fn is_begun_at_once(transport: Transport) -> bool
+    ensures { result ≡ is_begun_at_once transport }
+{
+    match transport {
+        Transport::File | Transport::Http | Transport::Https => true,
+        Transport::Ssh | Transport::Git => false,
+    }
+}
+
+/// Starts the server, where the user allows its transport. The shell ends one that was started before.
+pub(crate) fn start_server(reach: Reach<'_>, shell: &mut Shell) -> Result<(), Trouble> {
+    check_policy(reach)?;
     match reach.address.transport {
         Transport::File => start_here(reach, shell),
         Transport::Ssh => start_ssh(reach, shell),
@@ -289,14 +301,8 @@ fn start_server(reach: Reach<'_>, shell: &mut Shell) -> Result<(), Trouble> {
     }
 }
 
-/// Starts the server, and shakes hands with it. The shell ends one that was started before.
-pub(crate) fn connect<'a>(
-    reach: Reach<'a>,
-    shell: &mut Shell,
-    is_quiet: bool,
-) -> Result<Talk<'a>, Trouble> {
-    check_policy(reach)?;
-    start_server(reach, shell)?;
+/// Shakes hands with the server that was started.
+pub(crate) fn shake_hands<'a>(reach: Reach<'a>, is_quiet: bool) -> Result<Talk<'a>, Trouble> {
     reach.has_failed.set(false);
     forget(reach.bounds);
     let wire = open_wire(reach, is_quiet)?;

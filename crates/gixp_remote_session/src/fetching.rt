@@ -5,7 +5,7 @@ ghost use Rattle.gixp_remote_session.specs.Leaving.{was_left};
 use crate::boundary::{boundary_of, change_boundary, lock_boundary};
 use crate::bounded::forget;
 use crate::checks::checks_of;
-use crate::connect::{Reach, connect, leave};
+use crate::connect::{Reach, leave, shake_hands, start_server};
 use crate::history::shallow_of;
 use crate::local::Places;
 use crate::order::{Order, begin, filter_of, haves_for, known, list_commits, map_of, request_of};
@@ -152,7 +152,8 @@ fn fetch_once_more<'a>(
         }
         commits = list_commits(plan.order, shell, plan.haves)?;
     }
-    let mut session = connect(reach, shell, plan.order.choices.is_quiet)?;
+    start_server(reach, shell)?;
+    let mut session = shake_hands(reach, plan.order.choices.is_quiet)?;
     let came = fetch_by(plan, shell, &mut session, repository, commits);
     settle(reach, session, open, came.is_ok());
     came
@@ -169,11 +170,19 @@ fn settle<'a>(reach: Reach<'a>, session: Talk<'a>, open: &mut Open<'a>, is_well:
 
 /// What is reported to git of a fetch.
 #[derive(Drop)]
-pub(crate) struct Fetched {
+pub(crate) struct Reply {
     /// The lock of the pack.
     pub(crate) lock: Option<BString>,
     /// Whether all that the pack leads to is in it.
     pub(crate) is_closed: bool,
+}
+
+/// What comes of a fetch.
+#[derive(Drop)]
+pub(crate) struct Fetched {
+    pub(crate) reply: Reply,
+    /// Where the pack was indexed.
+    pub(crate) pack: PackPlan,
 }
 
 // Puts the pack and the boundary where git finds them.
@@ -183,7 +192,7 @@ fn finish(
     places: &Places,
     old: &[ObjectId],
     came: &Came,
-) -> Result<Fetched, Trouble> {
+) -> Result<Reply, Trouble> {
     let order = plan.order;
     let rt = order.reach.rt;
     let (boundary, was_here) = boundary_of(order, shell, plan.pack, old, came)?;
@@ -199,12 +208,12 @@ fn finish(
         Some(kept) => place(rt, shell, places, plan.pack, &kept.hash)?,
         None => None,
     };
-    change_boundary(order, shell, places, old, &boundary)?;
+    change_boundary(order, shell, places, plan.pack, old, &boundary)?;
     let is_closed = match &came.kept {
         Some(kept) => tells_closed(order.choices, kept.is_bounded, was_here, kept.status),
         None => false,
     };
-    Ok(Fetched { lock, is_closed })
+    Ok(Reply { lock, is_closed })
 }
 
 /// Fetches the objects of these ids. The pack is indexed in a folder of this name.
@@ -217,7 +226,7 @@ pub(crate) fn fetch<'a>(
     let rt = order.reach.rt;
     let alloc = rt.alloc();
     let mut commits = begin(order, shell)?;
-    let places = Places::ask(rt, shell)?;
+    let places = Places::read(rt, shell)?;
     let old = places.boundary(rt)?;
     if order.choices.has_depth() {
         lock_boundary(alloc, shell, &places)?;
@@ -239,5 +248,6 @@ pub(crate) fn fetch<'a>(
         pack: &pack,
     };
     let came = fetch_once_more(plan, shell, open, &mut repository, commits)?;
-    finish(plan, shell, &places, &old, &came)
+    let reply = finish(plan, shell, &places, &old, &came)?;
+    Ok(Fetched { reply, pack })
 }

@@ -12,6 +12,7 @@ mod listing;
 mod local;
 mod order;
 mod pack;
+mod pipes;
 mod remote;
 mod setup;
 mod shell;
@@ -23,9 +24,9 @@ use crate::remote::converse;
 use crate::trouble::Trouble;
 use std::process::ExitCode;
 
-/// Speaks with git on standard input and output, in the folder of the shell's pipes, whose files `url` and `name` have the URL and
-/// the name that git has for the server; the words after the program's name are the folder's name, the pipe to the shell and the
-/// one from it. The status is 0, or 128 where something failed, which a sentence on standard error says.
+/// Speaks with git on standard input and output, in the folder of the shell's open files, of which one has the name that git has for
+/// the server, the URL and git's settings; the words after the program's name are the helper's mark, the name of the terminal, the
+/// pipe to the shell and the one from it. The status is 0, or 128 where something failed, which a sentence on standard error says.
 pub fn run(rt: &HostRuntime) -> ExitCode {
     match converse(rt) {
         Ok(()) => ExitCode::SUCCESS,

@@ -6,6 +6,7 @@ ghost use Rattle.bstr.specs.BStr.{bstr_bytes};
 ghost use Rattle.gixp_remote_session.specs.ShownRefs.{id_and_name, shown_in, objects_shown, IsUnshown, with_shown, kind_shown};
 ghost use Rattle.gixp_remote_session.specs.Troubles.{TellsOther};
 
+use crate::pipes::REFS;
 use crate::shell::{NOTHING, Shell};
 use crate::trouble::Trouble;
 use bstr::{BStr, ByteSlice};
@@ -43,11 +44,11 @@ fn path_of(alloc: Global, line: Option<&[u8]>) -> Result<String, Trouble>
 }
 
 impl Places {
-    /// Asks git for them.
-    pub(crate) fn ask(rt: &HostRuntime, shell: &mut Shell) -> Result<Places, Trouble>
+    /// Those that git was asked for.
+    pub(crate) fn read(rt: &HostRuntime, shell: &mut Shell) -> Result<Places, Trouble>
         ensures { IfOk result (λ places. string_bytes places.shallow_lock ≡ string_bytes places.shallow ++ codes ".lock") }
     {
-        let told = shell.git(rt, Question::Places)?;
+        let told = shell.told(rt, Task::Question)?;
         let mut lines = told.text.as_slice().lines();
         let shallow = path_of(rt.alloc(), lines.next())?;
         let objects = path_of(rt.alloc(), lines.next())?;
@@ -180,14 +181,14 @@ pub(crate) fn new_repository(alloc: Global, boundary: Vec<ObjectId>) -> Reposito
     }
 }
 
-/// Has git tell what the refs hold and lead to, into a file, so that nothing waits for it meanwhile.
+/// Has git tell what the refs hold and lead to, over a pipe of its own, so that nothing waits for it meanwhile.
 pub(crate) fn ask_refs(alloc: Global, shell: &mut Shell) -> Result<(), Trouble> {
     let words = question_words(alloc, Question::Refs)?;
     shell.ask(&Request::Start(Start {
         task: Task::Refs,
         program: Program::Git,
         input: NOTHING,
-        output: "refs",
+        output: REFS,
         variables: &[],
         words: &words,
     }))?;
@@ -204,10 +205,10 @@ pub(crate) fn repository(
     ensures boundary { IfOk result (λ r. r.boundary ≡ boundary) }
 {
     let alloc = rt.alloc();
+    let text = fs::read(rt, REFS)?;
     if shell.ask(&Request::Status(Task::Refs))? > 1 {
         return Err(Trouble::Other("the repository can't be read"));
     }
-    let text = fs::read(rt, "refs")?;
     let mut refs = StoredRefs::new(alloc);
     refs.read_refs(alloc, &text).map_err(unread)?;
     let objects = objects_of(alloc, &text)?;

@@ -10,6 +10,7 @@ ghost use Rattle.gixp_remote_session.specs.Wanted.{wanted};
 
 use crate::connect::Reach;
 use crate::local::{ask_refs, new_repository, repository};
+use crate::pipes::COMMITS;
 use crate::setup::{bytes_of, haves_of, variable};
 use crate::shell::{NOTHING, Shell};
 use crate::trouble::Trouble;
@@ -111,7 +112,7 @@ fn start_listing(order: Order<'_, '_>, shell: &mut Shell) -> Result<(), Trouble>
         task: Task::Listing,
         program: Program::Git,
         input: NOTHING,
-        output: "commits",
+        output: COMMITS,
         variables: &[],
         words: &words,
     }))?;
@@ -137,7 +138,7 @@ pub(crate) fn haves_for(order: Order<'_, '_>, has_alternates: bool) -> Haves
     }
 }
 
-/// Begins a list of the commits, where they are offered in its order. It is opened at once, since git begins once it is.
+/// Begins a list of the commits, where they are offered in its order.
 pub(crate) fn list_commits(
     order: Order<'_, '_>,
     shell: &mut Shell,
@@ -147,7 +148,7 @@ pub(crate) fn list_commits(
         return Ok(None);
     }
     start_listing(order, shell)?;
-    Ok(Some(File::open(order.reach.rt, "commits")?))
+    Ok(Some(File::open(order.reach.rt, COMMITS)?))
 }
 
 // Whether nothing of the repository is known, or counts.
@@ -157,13 +158,15 @@ fn is_new(choices: &Choices) -> bool
     choices.is_cloning || choices.is_refetch
 }
 
-/// Has git begin with what takes its time, while it is asked for the rest: with the list of the commits, as far as it is known that
-/// they are offered, and with the refs.
+/// Has git begin with all that it is asked for, each beside the others: the list of the commits, as far as it is known that they are
+/// offered, the places of the repository, and its refs. Behind these comes the watcher.
 pub(crate) fn begin(order: Order<'_, '_>, shell: &mut Shell) -> Result<Option<File>, Trouble> {
     let commits = list_commits(order, shell, haves_for(order, false))?;
+    shell.begin_git(Question::Places)?;
     if !is_new(order.choices) {
         ask_refs(order.reach.rt.alloc(), shell)?;
     }
+    shell.watch()?;
     Ok(commits)
 }
 

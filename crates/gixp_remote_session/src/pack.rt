@@ -8,6 +8,7 @@ ghost use Rattle.gixp_remote_session.specs.Troubles.{kind_of};
 
 use crate::bounded::Bounds;
 use crate::local::Places;
+use crate::pipes::{IDS, KEPT, PACK};
 use crate::setup::variable;
 use crate::shell::Shell;
 use crate::trouble::Trouble;
@@ -58,8 +59,8 @@ fn start_git(shell: &mut Shell, variables: &[BString], words: &[BString]) -> Res
     let start = Start {
         task: Task::Pack,
         program: Program::Git,
-        input: "pack",
-        output: "kept",
+        input: PACK,
+        output: KEPT,
         variables,
         words,
     };
@@ -86,13 +87,13 @@ fn copied(alloc: Global, words: &[BString]) -> Result<Vec<BString>, Trouble>
     Ok(all)
 }
 
-// The name of the helper's folder, as files are opened by.
+// The name of the folder, as files are opened by.
 fn room_of(name: &[u8]) -> Result<&str, Trouble>
     ensures { IfOk result (λ r. r.now ≡ name.now) }
 {
     match name.to_str() {
         Ok(room) => Ok(room),
-        Err(_) => Err(Trouble::Other("the helper's folder is no UTF-8")),
+        Err(_) => Err(Trouble::Other("the helper's mark is no UTF-8")),
     }
 }
 
@@ -108,6 +109,31 @@ fn boundary_in(alloc: Global, folder: &str) -> Result<String, Trouble>
     ensures { IfOk result (λ f. string_bytes f ≡ folder.now ++ codes "/shallow") }
 {
     Ok(format!(in alloc; "{folder}/shallow")?)
+}
+
+/// Makes the folder of a plan, unless a pack is in it already. The shell takes it away at the end.
+pub(crate) fn make_folder(
+    rt: &HostRuntime,
+    shell: &mut Shell,
+    plan: &PackPlan,
+) -> Result<(), Trouble> {
+    if shell.pack == PackState::Unbegun {
+        shell.ask(&Request::Folder(plan.folder.as_bytes()))?;
+        fs::create_dir_all(rt, plan.folder.as_str())?;
+    }
+    Ok(())
+}
+
+/// Takes the folder away once nothing is wanted of it. What can't be taken away so is left to the shell, which needs a program more.
+pub(crate) fn clear_folder(rt: &HostRuntime, plan: &PackPlan) -> Result<(), Trouble> {
+    let folder = &plan.folder;
+    let _ = fs::remove_file(rt, plan.shallow.as_str());
+    for name in [IDS, "boundary"] {
+        let _ = fs::remove_file(rt, format!(in rt.alloc(); "{folder}/{name}")?.as_str());
+    }
+    let _ = fs::remove_dir(rt, format!(in rt.alloc(); "{folder}/pack")?.as_str());
+    let _ = fs::remove_dir(rt, folder.as_str());
+    Ok(())
 }
 
 impl PackPlan {
@@ -286,14 +312,14 @@ impl<'a> IndexedPack<'a> {
 
     // Starts git, and opens the two pipes.
     fn start(&mut self) -> Result<File, Trouble> {
-        self.shell
-            .ask(&Request::Folder(self.plan.folder.as_bytes()))?;
-        fs::create_dir_all(&self.rt, self.plan.folder.as_str())?;
+        make_folder(&self.rt, self.shell, &self.plan)?;
         self.is_bounded = self.write_boundary()?;
         let words = words_by(&self.plan.words, &self.plan.bounded_words, self.is_bounded);
         start_git(self.shell, &self.plan.variables, words)?;
-        let writer = OpenOptions::new().write(true).open(&self.rt, "pack")?;
-        self.told = Some(File::open(&self.rt, "kept")?);
+        // what is offered is offered: the list takes its time to end, and nothing waits for that now
+        self.shell.end(Task::Listing)?;
+        let writer = OpenOptions::new().write(true).open(&self.rt, PACK)?;
+        self.told = Some(File::open(&self.rt, KEPT)?);
         self.shell.pack = PackState::Begun;
         Ok(writer)
     }
@@ -404,6 +430,7 @@ pub(crate) fn place(
         let other = pack_file(alloc, to, hash, end)?;
         move_file(rt, &one, &other, end)?;
     }
+    let _ = fs::remove_file(rt, path_of(&pack_file(alloc, from, hash, b".keep")?)?);
     if status == 0 {
         Ok(Some(BString::from(lock)))
     } else {

@@ -1,19 +1,51 @@
 //! The conversation with git.
 use crate::bounded::Bounds;
-use crate::connect::{Reach, connect, leave};
+use crate::connect::{Reach, is_begun_at_once, leave, shake_hands, start_server};
 use crate::fetching::{Open, fetch};
 use crate::listing::{RefsTold, refs_told};
 use crate::order::Order;
-use crate::setup::{Given, read_given, settings_text, version_of};
-use crate::shell::{NOTHING, Shell};
+use crate::pack::clear_folder;
+use crate::setup::{Given, read_given, read_settings, version_of};
+use crate::shell::Shell;
 use crate::trouble::Trouble;
 use bstr::{BString, ByteSlice};
 use gixp_fetch_session::session::refs;
-use gixp_remote_rules::{Conversation, Program, Request, Settings, Start, Step, Task, batch_told};
+use gixp_remote_rules::{Conversation, Settings, Step, Task, batch_told};
 use gixp_url::Address;
 use std::cell::{Cell, RefCell};
 use std::io;
 use std::io::{BufRead, BufReader, Input, Write};
+
+// Tells git something.
+fn say(rt: &HostRuntime, text: &[u8]) -> Result<(), Trouble> {
+    let mut writer = io::writer(rt);
+    writer.write_all(text)?;
+    writer.flush()?;
+    Ok(())
+}
+
+// Answers git's lines up to the first that needs a server, or the last one.
+fn next_step<R: BufRead>(
+    rt: &HostRuntime,
+    talk: &mut Conversation,
+    lines: &mut R,
+) -> Result<Step, Trouble> {
+    let alloc = rt.alloc();
+    let mut line = Vec::new(alloc);
+    for _ in 0..u64::MAX {
+        line.clear();
+        if lines.read_until(b'\n', &mut line)? == 0 {
+            return Ok(Step::Stop);
+        }
+        let text = line.strip_suffix(b"\n").unwrap_or(&line);
+        match talk.step(alloc, text)? {
+            Step::Say(said) => say(rt, said)?,
+            Step::Refuse => return Err(Trouble::Command(BString::from_slice(alloc, text)?)),
+            step => return Ok(step),
+        }
+    }
+    Ok(Step::Stop)
+}
 
 // The helper between two commands.
 #[derive(Drop)]
@@ -25,30 +57,20 @@ struct Helper<'a> {
     talk: Conversation,
     // How many batches were fetched.
     batches: u64,
-    // The name of the helper's folder.
-    folder: Vec<u8>,
+    // The mark of the helper.
+    mark: Vec<u8>,
 }
 
 impl Helper<'_> {
-    // Tells git something.
-    fn say(&self, text: &[u8]) -> Result<(), Trouble> {
-        let mut writer = io::writer(self.reach.rt);
-        writer.write_all(text)?;
-        writer.flush()?;
-        Ok(())
-    }
-
-    // Has the shell look whether git is there, while git waits.
-    fn watch(&mut self) -> Result<(), Trouble> {
-        self.shell.ask(&Request::Start(Start {
-            task: Task::Watch,
-            program: Program::Watch,
-            input: NOTHING,
-            output: NOTHING,
-            variables: &[],
-            words: &[],
-        }))?;
-        Ok(())
+    // Starts the server, and the watcher beside it, or before it where that may take its time.
+    fn begin_server(&mut self) -> Result<(), Trouble> {
+        if is_begun_at_once(self.reach.address.transport) {
+            start_server(self.reach, &mut self.shell)?;
+            self.shell.watch()
+        } else {
+            self.shell.watch()?;
+            start_server(self.reach, &mut self.shell)
+        }
     }
 
     // What git is told of the refs of the server, over a session that stays. What is no server of git's, but answers, has none, as git
@@ -56,7 +78,8 @@ impl Helper<'_> {
     fn refs(&mut self) -> Result<RefsTold, Trouble> {
         let alloc = self.reach.rt.alloc();
         let tells_format = self.talk.choices.tells_format;
-        match connect(self.reach, &mut self.shell, self.talk.choices.is_quiet) {
+        self.begin_server()?;
+        match shake_hands(self.reach, self.talk.choices.is_quiet) {
             Ok(mut session) => {
                 let told = refs_told(alloc, refs(alloc, &mut session)?, tells_format)?;
                 self.open = Some(session);
@@ -69,28 +92,21 @@ impl Helper<'_> {
 
     // Lists the refs.
     fn list(&mut self) -> Result<(), Trouble> {
-        self.watch()?;
         let told = self.refs()?;
         for name in &told.funny {
             let _ = eprintln!(self.reach.rt; "warning: ignoring ref with broken name {name:?}");
         }
         self.shell.end(Task::Watch)?;
-        self.say(&told.text)
-    }
-
-    // A line that is none of git's.
-    fn refuse(&self, line: &[u8]) -> Result<(), Trouble> {
-        Err(Trouble::Command(BString::from_slice(self.reach.rt.alloc(), line)?))
+        say(self.reach.rt, &told.text)
     }
 
     // Fetches a batch.
     fn fetch_batch(&mut self) -> Result<(), Trouble> {
         let alloc = self.reach.rt.alloc();
-        self.watch()?;
         self.batches = self.batches.saturating_add(1);
         let count = self.batches;
         let number = format!(in alloc; "-{count}")?;
-        let mut folder = Vec::from_slice(alloc, &self.folder)?;
+        let mut folder = Vec::from_slice(alloc, &self.mark)?;
         folder.extend_from_slice(number.as_bytes())?;
         let ids = self.talk.batch.take(alloc)?;
         let order = Order {
@@ -100,37 +116,36 @@ impl Helper<'_> {
         };
         let fetched = fetch(order, &mut self.shell, &mut self.open, &folder)?;
         self.shell.end(Task::Watch)?;
-        let lock = match &fetched.lock {
+        let lock = match &fetched.reply.lock {
             Some(lock) => Some(lock.as_bytes()),
             None => None,
         };
-        self.say(&batch_told(alloc, lock, fetched.is_closed)?)
+        say(
+            self.reach.rt,
+            &batch_told(alloc, lock, fetched.reply.is_closed)?,
+        )?;
+        // git looks at what came meanwhile
+        clear_folder(self.reach.rt, &fetched.pack)
     }
 
-    // Does what a line asks for. Returns whether the conversation goes on.
-    fn obey(&mut self, line: &[u8]) -> Result<bool, Trouble> {
-        match self.talk.step(self.reach.rt.alloc(), line)? {
-            Step::Say(text) => self.say(text)?,
+    // Does what a step asks for. Returns whether the conversation goes on.
+    fn obey(&mut self, step: Step) -> Result<bool, Trouble> {
+        match step {
             Step::List => self.list()?,
             Step::Fetch => self.fetch_batch()?,
-            Step::Stop => return Ok(false),
-            Step::Refuse => self.refuse(line)?,
+            Step::Stop | Step::Say(_) | Step::Refuse => return Ok(false),
         }
         Ok(true)
     }
 
-    // Does what all lines ask for.
-    fn obey_all<R: BufRead>(&mut self, lines: &mut R) -> Result<(), Trouble> {
-        let mut line = Vec::new(self.reach.rt.alloc());
+    // Does what this step and all others ask for.
+    fn obey_all<R: BufRead>(&mut self, first: Step, lines: &mut R) -> Result<(), Trouble> {
+        let mut step = first;
         for _ in 0..u64::MAX {
-            line.clear();
-            if lines.read_until(b'\n', &mut line)? == 0 {
+            if !self.obey(step)? {
                 return Ok(());
             }
-            let text = line.strip_suffix(b"\n").unwrap_or(&line);
-            if !self.obey(text)? {
-                return Ok(());
-            }
+            step = next_step(self.reach.rt, &mut self.talk, lines)?;
         }
         Ok(())
     }
@@ -156,10 +171,15 @@ struct Begun {
     bounds: RefCell<Bounds>,
 }
 
-// Speaks with git.
-fn serve(begun: &Begun, shell: Shell) -> Result<(), Trouble> {
+// Speaks with git from this step on.
+fn serve<R: BufRead>(
+    begun: &Begun,
+    shell: Shell,
+    talk: Conversation,
+    first: Step,
+    lines: &mut R,
+) -> Result<(), Trouble> {
     let alloc = begun.rt.alloc();
-    let mut lines = BufReader::new(alloc, begun.rt.reader())?;
     let mut helper = Helper {
         reach: Reach {
             rt: &begun.rt,
@@ -173,23 +193,28 @@ fn serve(begun: &Begun, shell: Shell) -> Result<(), Trouble> {
         },
         shell,
         open: None,
-        talk: Conversation::new(alloc),
+        talk,
         batches: 0,
-        folder: Vec::from_slice(alloc, begun.given.folder.as_bytes())?,
+        mark: Vec::from_slice(alloc, begun.given.mark.as_bytes())?,
     };
-    let done = helper.obey_all(&mut lines);
+    let done = helper.obey_all(first, lines);
     helper.close();
     done
 }
 
-/// Speaks with git until it has nothing more to ask.
+/// Speaks with git until it has nothing more to ask. The settings are waited for once a server is needed.
 pub(crate) fn converse(rt: &HostRuntime) -> Result<(), Trouble> {
     let alloc = rt.alloc();
-    let given = read_given(rt)?;
+    let mut given = read_given(rt)?;
     let mut shell = Shell::open(rt, given.requests.as_str(), given.answers.as_str())?;
     let address = Address::read(alloc, &given.url)?;
-    let text = settings_text(rt, &mut shell)?;
-    let settings = Settings::read(alloc, &text)?;
+    let mut lines = BufReader::new(alloc, rt.reader())?;
+    let mut talk = Conversation::new(alloc);
+    let first = next_step(rt, &mut talk, &mut lines)?;
+    if matches!(first, Step::Stop) {
+        return Ok(());
+    }
+    let settings = read_settings(alloc, &mut given, &mut shell)?;
     let begun = Begun {
         rt: rt.clone()?,
         given,
@@ -198,5 +223,5 @@ pub(crate) fn converse(rt: &HostRuntime) -> Result<(), Trouble> {
         has_failed: Cell::new(false),
         bounds: RefCell::new(Bounds::new(alloc)),
     };
-    serve(&begun, shell)
+    serve(&begun, shell, talk, first, &mut lines)
 }

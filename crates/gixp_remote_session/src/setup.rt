@@ -1,16 +1,21 @@
 //! What the helper begins with: the URL, variables and settings.
 ghost use Rattle.std.specs.Prelude.{◌≡◌, string_bytes};
 ghost use Rattle.std.specs.Option.{option_map};
+ghost use Rattle.gixp_remote_session.specs.UserChoices.{can_erase};
 ghost use Rattle.gixp_remote_session.specs.UserChoices.{version_by, IsNamedHaves, haves_set};
 ghost use Rattle.gixp_remote_session.specs.Version.{protocol_of, version_word};
 
+use crate::pipes::GIVEN;
 use crate::shell::Shell;
 use crate::trouble::Trouble;
 use gix_protocol::fetch::negotiate::Algorithm;
 use gix_protocol::transport::Protocol;
 use gixp_fetch_local::Haves;
 use gixp_remote_rules::{Request, Settings, Task};
-use std::{env, fs};
+use std::alloc::Global;
+use std::env;
+use std::fs::File;
+use std::io::{BufRead, BufReader, Read};
 
 /// A variable of the environment, none where it isn't set.
 pub(crate) fn variable(rt: &HostRuntime, name: &str) -> Option<String> {
@@ -30,15 +35,17 @@ pub(crate) fn bytes_of(value: &Option<String>) -> Option<&[u8]>
     }
 }
 
-/// What the shell says before anything is asked: the words that git started it with, and the name of its folder.
+/// What the shell says before anything is asked: the words that git started it with, and those of this program.
 #[derive(Drop)]
 pub(crate) struct Given {
     /// The name that git has for the server.
     pub(crate) name: Vec<u8>,
-    /// The URL. It comes in a file, since others see a program's words.
+    /// The URL. It comes over a pipe, since others see a program's words.
     pub(crate) url: Vec<u8>,
-    /// The name of the helper's folder.
-    pub(crate) folder: String,
+    // The pipe over which these came, and git's settings come.
+    told: BufReader<File>,
+    /// The mark of the helper, which is in the names of its folders and in its locks.
+    pub(crate) mark: String,
     /// The pipe to the shell.
     pub(crate) requests: String,
     /// The pipe from it.
@@ -47,35 +54,55 @@ pub(crate) struct Given {
     pub(crate) erases: bool,
 }
 
-// Whether there is a terminal that isn't dumb, as git has it: a file has its name.
-fn can_erase(rt: &HostRuntime) -> bool {
-    match fs::read(rt, "terminal") {
-        Ok(name) => name.as_slice() != b"dumb".as_slice(),
-        Err(_) => false,
-    }
+// Whether a terminal of this name can erase the rest of a line, as git has it. Standard error that is none has no name.
+fn can_erase(terminal: &[u8]) -> bool
+    ensures { result ≡ can_erase terminal.now }
+{
+    !terminal.is_empty() && terminal != b"dumb".as_slice()
+}
+
+// A field, which a zero byte ends.
+fn field(alloc: Global, told: &mut BufReader<File>) -> Result<Vec<u8>, Trouble> {
+    let mut field = Vec::new(alloc);
+    told.read_until(0, &mut field)?;
+    field.pop();
+    Ok(field)
 }
 
 /// What the shell says before anything is asked.
 pub(crate) fn read_given(rt: &HostRuntime) -> Result<Given, Trouble> {
+    let alloc = rt.alloc();
     let mut words = env::args(rt)?.skip(1);
-    let (Some(folder), Some(requests), Some(answers)) = (words.next(), words.next(), words.next())
-    else {
-        return Err(Trouble::Other("there is no folder, or there are no pipes"));
+    let (Some(mark), Some(terminal), Some(requests), Some(answers)) = (
+        words.next(),
+        words.next(),
+        words.next(),
+        words.next(),
+    ) else {
+        return Err(Trouble::Other("this program is started by git-remote-gixp"));
     };
+    let mut told = BufReader::new(alloc, File::open(rt, GIVEN)?)?;
     Ok(Given {
-        name: fs::read(rt, "name")?,
-        url: fs::read(rt, "url")?,
-        folder,
+        name: field(alloc, &mut told)?,
+        url: field(alloc, &mut told)?,
+        told,
+        mark,
         requests,
         answers,
-        erases: can_erase(rt),
+        erases: can_erase(terminal.as_bytes()),
     })
 }
 
-/// The text of the user's settings, which git tells meanwhile.
-pub(crate) fn settings_text(rt: &HostRuntime, shell: &mut Shell) -> Result<Vec<u8>, Trouble> {
+/// The user's settings, which git tells behind the words.
+pub(crate) fn read_settings(
+    alloc: Global,
+    given: &mut Given,
+    shell: &mut Shell,
+) -> Result<Settings, Trouble> {
+    let mut text = Vec::new(alloc);
+    given.told.read_to_end(&mut text)?;
     if shell.ask(&Request::Status(Task::Settings))? == 0 {
-        Ok(fs::read(rt, "settings")?)
+        Ok(Settings::read(alloc, &text)?)
     } else {
         Err(Trouble::Other("git can't read its settings"))
     }

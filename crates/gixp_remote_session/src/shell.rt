@@ -3,6 +3,7 @@ ghost use Rattle.std.specs.Prelude.{◌≡◌, IfOk, map};
 ghost use Rattle.bstr.specs.Owned.{bstring_bytes};
 
 use crate::pack::PackState;
+use crate::pipes::TOLD;
 use crate::trouble::Trouble;
 use bstr::BString;
 use gixp_remote_rules::{Program, Question, Request, Start, Task, ask, question_words};
@@ -50,9 +51,43 @@ impl Shell {
         Ok(ask(self.alloc, &mut self.answers, &mut self.requests, request)?)
     }
 
+    /// Has the shell look whether git is there, while git waits.
+    pub(crate) fn watch(&mut self) -> Result<(), Trouble> {
+        self.ask(&Request::Start(Start {
+            task: Task::Watch,
+            program: Program::Watch,
+            input: NOTHING,
+            output: NOTHING,
+            variables: &[],
+            words: &[],
+        }))?;
+        Ok(())
+    }
+
     /// Ends a program, if it runs.
     pub(crate) fn end(&mut self, task: Task) -> Result<(), Trouble> {
         self.ask(&Request::End(task))?;
+        Ok(())
+    }
+
+    /// Reads what a program says that was begun for it, and waits for its status.
+    pub(crate) fn told(&mut self, rt: &HostRuntime, task: Task) -> Result<Told, Trouble> {
+        let text = fs::read(rt, TOLD)?;
+        let status = self.ask(&Request::Status(task))?;
+        Ok(Told { status, text })
+    }
+
+    /// Has git begin to tell something.
+    pub(crate) fn begin_git(&mut self, question: Question<'_>) -> Result<(), Trouble> {
+        let words = question_words(self.alloc, question)?;
+        self.ask(&Request::Start(Start {
+            task: Task::Question,
+            program: Program::Git,
+            input: NOTHING,
+            output: TOLD,
+            variables: &[],
+            words: &words,
+        }))?;
         Ok(())
     }
 
@@ -70,14 +105,12 @@ impl Shell {
             task,
             program,
             input,
-            output: "told",
+            output: TOLD,
             variables,
             words,
         };
         self.ask(&Request::Start(start))?;
-        let text = fs::read(rt, "told")?;
-        let status = self.ask(&Request::Status(task))?;
-        Ok(Told { status, text })
+        self.told(rt, task)
     }
 
     /// Asks git, and waits for what it says and its status.
@@ -86,8 +119,8 @@ impl Shell {
         rt: &HostRuntime,
         question: Question<'_>,
     ) -> Result<Told, Trouble> {
-        let words = question_words(self.alloc, question)?;
-        self.tell(rt, Task::Question, Program::Git, NOTHING, &[], &words)
+        self.begin_git(question)?;
+        self.told(rt, Task::Question)
     }
 }
 
