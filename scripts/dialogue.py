@@ -5,7 +5,8 @@ Usage: dialogue.py [--remote PATH] [--only WORD] [FILE..]
 
 PATH is the program, else what `rt run` left in crates/gixp_remote/out; the FILEs are those of scripts/dialogue. It stands in a
 folder with two pipes and with plain files in place of the others, so that what a server says is there before it is started. In a row
-a pipe has a name in place of its number: hears, says, told, refs, commits, pack, kept.
+a pipe has a name in place of its number: hears, says, told, refs, commits, pack, kept. Before the shell is asked for anything but the
+settings the watcher is told to watch, and before git is told something it is told to rest: each row looks at that.
 crates/gixp_remote/README.md has the requests, gitremote-helpers(7) git's commands. What a row expects is written from these two
 and from git's own documents, never from what the program printed. A row's lines are done one after the other:
 
@@ -57,12 +58,11 @@ GIT_SHALLOW_FILE GIT_COMMON_DIR""".split()
 MARK = "gixp.row"
 # The files of the shell that the program opens, by what they are for.
 GIVEN, PIPES = "9", {"hears": "20", "says": "21", "told": "22", "refs": "23", "commits": "24", "pack": "25", "kept": "26"}
+WATCHER, WATCHES = "27", (b"rest", b"watch")
 WAIT = 60
 ESCAPE = re.compile(rb"\\(x[0-9a-fA-F]{2}|.)")
-# one in a request, whose words have their own escapes
-BYTE = re.compile(rb"(?<!\\)\\x([0-9a-fA-F]{2})")
 NAMED = {b"n": b"\n", b"t": b"\t", b"0": b"\0", b"\\": b"\\"}
-SETTINGS = b"status settings\n.\n"
+SETTINGS = b"16\nstatus settings\n"
 SPECIAL = {b"0000", b"0001", b"0002"}
 
 
@@ -117,8 +117,8 @@ class Row:
     def __init__(self, room, program, lines):
         self.room, self.program, self.lines = room, program, lines
         self.replies, self.requests, self.errors, self.heard = b"", b"", [], []
-        self.says, self.first_heard, self.status, self.waits, self.begun = b"", b"", 0, False, None
-        for name in PIPES:
+        self.says, self.first_heard, self.status, self.waits, self.begun, self.rested = b"", b"", 0, False, None, 0
+        for name in (*PIPES, WATCHER):
             self.path(name).write_bytes(b"")
         for name in ("requests", "answers"):
             os.mkfifo(room / name)
@@ -164,6 +164,13 @@ class Row:
                 return bool(told if is_reply else asked)
         raise Wrong(f"nothing came in {WAIT} s")
 
+    def look_at_watcher(self, rests):
+        """Looks whether the watcher rests, or else whether it was told to watch since git was told something last."""
+        lines = self.path(WATCHER).read_bytes().splitlines()
+        if lines != [WATCHES[at % 2] for at in range(1, len(lines) + 1)] or (len(lines) % 2 if rests else len(lines) <= self.rested):
+            raise Wrong(f"the watcher is told {lines}")
+        self.rested = len(lines) if rests else self.rested
+
     def reply(self, wanted):
         """Takes a line that git is told."""
         self.settle()
@@ -172,22 +179,30 @@ class Row:
         line, end, self.replies = self.replies.partition(b"\n")
         if line != wanted or not end:
             raise Wrong(f"git is told {line + end!r}, wanted {wanted!r}; the shell is asked {self.requests!r}")
+        self.look_at_watcher(True)
 
     def request(self, wanted):
         """Takes a request, which is answered later."""
         self.settle()
         text = self.request_text(wanted)
-        while b"\n.\n" not in self.requests and self.fill(False):
+        while not self.is_whole() and self.fill(False):
             pass
-        found, dot, self.requests = self.requests.partition(b"\n.\n")
-        if found + dot != text:
-            raise Wrong(f"the shell is asked {found + dot!r}, wanted {text!r}; git is told {self.replies!r}")
-        if text.startswith(b"start server "):
+        found, self.requests = self.requests[:len(text)], self.requests[len(text):]
+        if found != text:
+            raise Wrong(f"the shell is asked {found!r}, wanted {text!r}; git is told {self.replies!r}")
+        if found != SETTINGS:
+            self.look_at_watcher(False)
+        if wanted.startswith(b"start server "):
             for name, content in (("hears", b""), ("says", self.says)):
                 self.path(name).unlink()
                 self.path(name).write_bytes(content)
             self.says = b""
         self.waits = True
+
+    def is_whole(self):
+        """Whether a request came: a line with its size, and so many bytes."""
+        size, end, lines = self.requests.partition(b"\n")
+        return end and len(lines) >= int(size)
 
     def request_text(self, wanted):
         first, *more = wanted.split(b" | ")
@@ -197,9 +212,9 @@ class Row:
             if one == b"=@local":
                 lines += [b"=" + name.encode() for name in LOCAL]
             else:
-                word = BYTE.sub(lambda m: bytes([int(m[1], 16)]), one).replace(b"@room", str(self.room).encode())
-                lines.append((b"" if one.startswith(b"=") else b" ") + word)
-        return b"\n".join(lines) + b"\n.\n"
+                lines.append((b"" if one.startswith(b"=") else b" ") + one.replace(b"@room", str(self.room).encode()))
+        text = b"\n".join(lines) + b"\n"
+        return str(len(text)).encode() + b"\n" + text
 
     def answer(self, given):
         if given == b"end":

@@ -526,10 +526,20 @@ def older_bash(name, t):
         same(t, f"{name}: {words}", *clone_both(t, server, *words, urls=by_both(server), more={"BASH_COMPAT": "5.0"}))
 
 
+def locales(name, t):
+    """A path that is no ASCII, in locales whose characters are bytes and aren't, and in one that isn't there, of which bash warns once."""
+    server = make(t, "sërvér 中", 30, tags=True)
+    for locale in ("C", "C.UTF-8", "xx_YY.UTF-8"):
+        by_git, by_us, first, second = clone_both(t, server, urls=by_both(server), more={"LC_ALL": locale})
+        same(t, f"{name}: {locale}", by_git, by_us, first, second)
+        t.check(f"{name}: {locale}, warnings", second[2].count("setlocale") == locale.startswith("xx"), second[2])
+
+
 def try_harm(t):
     for name, action in (
         ("a linked work tree", work_trees), ("a shallow server", shallow_servers), ("a spoiled boundary", spoiled_boundaries),
         ("a locked boundary", locked_boundary), ("evil objects", evil_objects), ("locks of packs", locks_of_packs),
         ("the server's environment", environments), ("dates", dates), ("an older bash", older_bash),
+        ("locales", locales),
     ):
         t.case(name, action)

@@ -131,6 +131,11 @@ def orphaned(name, t):
         status, out, err = t.run(*words, at=client)
         works = status == 0 and t.run("git", "rev-parse", "refs/x/m", at=client)[1] == tip
         t.check(f"{name}, moment {number}", took is not None and not left and clean and works, f"{took} {left} {clean} {err}")
+    # the program waits for a server that waits for it: the watcher ends it
+    begun = t.begin("git", "ls-remote", "gixp::ssh://nowhere/x", more=shell_ssh(t, "exec cat"))
+    took = kill_at(t, begun, "git-remote-gixp", 1, signal.SIGKILL, 0.3)
+    left = left_by(t, t.room, ())
+    t.check(f"{name}, a silent server", took is not None and not left, f"{took} {left}")
 
 
 def try_ends(t):

@@ -1,8 +1,8 @@
-//! A request to the shell beside the program, and its answer.
+//! Requests to the shell beside the program, and their answers.
 ghost use Rattle.std.specs.Prelude.{◌≡◌, OnOk, IfOk, IfSome, Some};
 ghost use Rattle.std.specs.Io.KnownBytes.{Appends};
 ghost use Rattle.std.specs.Io.BufRead.{take_through};
-ghost use Rattle.gixp_remote_rules.specs.Requests.{request_lines};
+ghost use Rattle.gixp_remote_rules.specs.Requests.{request_text};
 ghost use Rattle.gixp_remote_rules.specs.Answered.{answer_of};
 
 use crate::dialogue::number_of;
@@ -22,8 +22,12 @@ fn answer_of(line: &[u8]) -> Option<u32>
     }
 }
 
-// Reads an answer.
-fn read_answer<R: BufRead>(alloc: Global, answers: &mut R) -> io::Result<u32>
+/// Reads an answer: a number on a line of its own.
+///
+/// # Errors
+///
+/// A read failed, the answer is no number (`UnexpectedEof`), or an allocation failed (`OutOfMemory`).
+pub fn read_answer<R: BufRead>(alloc: Global, answers: &mut R) -> io::Result<u32>
     ensures { IfOk result (λ number. IfSome (R.remaining answers.old) (λ bytes. answer_of (take_through 10 bytes) ≡ Some number)) }
 {
     let mut line = Vec::new(alloc);
@@ -34,24 +38,17 @@ fn read_answer<R: BufRead>(alloc: Global, answers: &mut R) -> io::Result<u32>
     }
 }
 
-/// Makes a request, and waits for its answer: a number on a line of its own.
+/// Makes a request. Each gets an answer, in their order.
 ///
 /// # Errors
 ///
-/// A write or a read failed, the answer is no number (`UnexpectedEof`), or an allocation failed (`OutOfMemory`).
-pub fn ask<R: BufRead, W: Write>(
-    alloc: Global,
-    answers: &mut R,
-    requests: &mut W,
-    request: &Request<'_>,
-) -> io::Result<u32>
-    ensures asked { OnOk result (Appends (W.contents requests.old) (W.contents requests.new) (request_lines request.now)) }
-    ensures answered { IfOk result (λ number. IfSome (R.remaining answers.old) (λ bytes. answer_of (take_through 10 bytes) ≡ Some number)) }
+/// A write or an allocation (`OutOfMemory`) failed.
+pub fn send<W: Write>(alloc: Global, requests: &mut W, request: &Request<'_>) -> io::Result<()>
+    ensures { OnOk result (Appends (W.contents requests.old) (W.contents requests.new) (request_text request.now)) }
 {
     let text = match request_text(alloc, request) {
         Ok(text) => text,
         Err(_) => return Err(io::Error::from(ErrorKind::OutOfMemory)),
     };
-    requests.write_all(&text)?;
-    read_answer(alloc, answers)
+    requests.write_all(&text)
 }

@@ -26,7 +26,7 @@ pub use bounds::bound_said;
 pub use config::{Setting, Settings, is_true};
 pub use conversation::{Conversation, Step};
 pub use dialogue::{Choices, Command, Depth, Reply, number_of, read_command};
-pub use exchange::ask;
+pub use exchange::{read_answer, send};
 pub use indexed::{kept_pack, pack_file, told_pack};
 pub use policy::{Policy, is_allowed, is_from_user};
 pub use proxy::proxy_for;

@@ -1,10 +1,11 @@
-//! What the shell beside the program is asked to do, as text: a line that says it, a line for each variable and each word, and a
-//! line that ends it.
+//! What the shell beside the program is asked to do, as text: a line with the size of what follows in bytes, a line that says it, and
+//! a line for each variable and each word.
 ghost use Rattle.std.specs.Prelude.{◌≡◌, ◌++◌, IfOk, OnOk, flat_map};
 ghost use Rattle.bstr.specs.Owned.{bstring_bytes};
-ghost use Rattle.gixp_remote_rules.specs.Requests.{shown_byte, marked_line, marked_lines, named, named_two, task_name, program_name, start_line, started, asked_path, asked_paths, asked, request_lines};
+ghost use Rattle.gixp_remote_rules.specs.Requests.{shown_code, shown_byte, marked_line, marked_lines, named, named_two, task_name, program_name, start_line, started, asked_path, asked_paths, asked, sized, request_text};
 
 use bstr::BString;
+use gixp_hash::digits::digit_of;
 use std::alloc::{AllocError, Global};
 
 /// What was started, by the name that the shell knows it by.
@@ -22,8 +23,6 @@ pub enum Task {
     Listing,
     /// What indexes the pack.
     Pack,
-    /// What looks whether git is still there.
-    Watch,
     /// The user's settings, which the shell has git tell before the program begins.
     Settings,
 }
@@ -39,8 +38,6 @@ pub enum Program {
     Shell,
     /// A connection with a host and a port.
     Socket,
-    /// One that ends the helper where git ends.
-    Watch,
 }
 
 /// A program that is to be started.
@@ -79,7 +76,15 @@ pub enum Request<'a> {
     Folder(&'a [u8]),
 }
 
-// The byte that ends a line can't stand in one: it is written as a backslash and an n, and a backslash as two.
+// A byte by its two hexadecimal digits.
+fn shown_code(byte: u8) -> [u8; 4]
+    ensures { result ≡ shown_code byte }
+{
+    [b'\\', b'x', digit_of(byte / 16), digit_of(byte % 16)]
+}
+
+// The byte that ends a line can't stand in one: it is written as a backslash and an n, a backslash as two, and what is no ASCII as a
+// backslash, an x and two digits, so that a shell counts bytes in any locale.
 fn append_shown(text: &mut Vec<u8>, byte: u8) -> Result<(), AllocError>
     ensures { OnOk result (text.new.items ≡ text.old.items ++ shown_byte byte) }
 {
@@ -87,8 +92,10 @@ fn append_shown(text: &mut Vec<u8>, byte: u8) -> Result<(), AllocError>
         text.extend_from_slice(b"\\n")
     } else if byte == b'\\' {
         text.extend_from_slice(b"\\\\")
-    } else {
+    } else if byte < 128 {
         text.extend_from_slice(&[byte])
+    } else {
+        text.extend_from_slice(&shown_code(byte))
     }
 }
 
@@ -140,7 +147,6 @@ fn task_name(task: Task) -> &'static [u8]
         Task::Refs => b"refs",
         Task::Listing => b"listing",
         Task::Pack => b"pack",
-        Task::Watch => b"watch",
         Task::Settings => b"settings",
     }
 }
@@ -154,7 +160,6 @@ fn program_name(program: Program) -> &'static [u8]
         Program::Command => b"command",
         Program::Shell => b"shell",
         Program::Socket => b"socket",
-        Program::Watch => b"watch",
     }
 }
 
@@ -184,7 +189,7 @@ fn append_start_line(text: &mut Vec<u8>, start: &Start<'_>) -> Result<(), AllocE
     append_names(text, start.input.as_bytes(), start.output.as_bytes(), b'\n')
 }
 
-// A program that is to be started, but for the last line.
+// A program that is to be started.
 fn append_start(text: &mut Vec<u8>, start: &Start<'_>) -> Result<(), AllocError>
     ensures { OnOk result (text.new.items ≡ text.old.items ++ started start.now) }
 {
@@ -193,14 +198,14 @@ fn append_start(text: &mut Vec<u8>, start: &Start<'_>) -> Result<(), AllocError>
     append_lines(text, b' ', start.words)
 }
 
-// A request about a task, but for the last line.
+// A request about a task.
 fn append_task(text: &mut Vec<u8>, verb: &[u8], task: Task) -> Result<(), AllocError>
     ensures { OnOk result (text.new.items ≡ text.old.items ++ named_two verb.now (task_name task) 10) }
 {
     append_names(text, verb, task_name(task), b'\n')
 }
 
-// A request about a path, but for the last line.
+// A request about a path.
 fn append_path(text: &mut Vec<u8>, verb: &[u8], path: &[u8]) -> Result<(), AllocError>
     ensures { OnOk result (text.new.items ≡ text.old.items ++ asked_path verb.now path.now) }
 {
@@ -208,7 +213,7 @@ fn append_path(text: &mut Vec<u8>, verb: &[u8], path: &[u8]) -> Result<(), Alloc
     append_line(text, b' ', path)
 }
 
-// A request about two paths, but for the last line.
+// A request about two paths.
 fn append_paths(text: &mut Vec<u8>, verb: &[u8], from: &[u8], to: &[u8]) -> Result<(), AllocError>
     ensures { OnOk result (text.new.items ≡ text.old.items ++ asked_paths verb.now from.now to.now) }
 {
@@ -216,7 +221,7 @@ fn append_paths(text: &mut Vec<u8>, verb: &[u8], from: &[u8], to: &[u8]) -> Resu
     append_line(text, b' ', to)
 }
 
-// A request, but for the last line.
+// A request.
 fn append_request(text: &mut Vec<u8>, request: &Request<'_>) -> Result<(), AllocError>
     ensures { OnOk result (text.new.items ≡ text.old.items ++ asked request.now) }
 {
@@ -231,12 +236,21 @@ fn append_request(text: &mut Vec<u8>, request: &Request<'_>) -> Result<(), Alloc
     }
 }
 
-/// The text of a request. It names no program but the five of `Program`, and a line end in a word doesn't end its line.
-pub fn request_text(alloc: Global, request: &Request<'_>) -> Result<Vec<u8>, AllocError>
-    ensures { IfOk result (λ text. text.items ≡ request_lines request.now) }
+// Lines, after a line with their size in bytes.
+fn sized(alloc: Global, lines: &[u8]) -> Result<Vec<u8>, AllocError>
+    ensures { IfOk result (λ text. text.items ≡ sized lines.now) }
 {
-    let mut text = Vec::new(alloc);
-    append_request(&mut text, request)?;
-    text.extend_from_slice(b".\n")?;
+    let size = format!(in alloc; "{}\n", lines.len())?;
+    let mut text = Vec::from_slice(alloc, size.as_bytes())?;
+    text.extend_from_slice(lines)?;
     Ok(text)
+}
+
+/// The text of a request. It names no program but the four of `Program`, and a line end in a word doesn't end its line.
+pub fn request_text(alloc: Global, request: &Request<'_>) -> Result<Vec<u8>, AllocError>
+    ensures { IfOk result (λ text. text.items ≡ request_text request.now) }
+{
+    let mut lines = Vec::new(alloc);
+    append_request(&mut lines, request)?;
+    sized(alloc, &lines)
 }

@@ -9,7 +9,7 @@ use Rattle.gix_protocol.specs.NegotiatorAlgorithm.{IsNameOf}
 use Rattle.gixp_fetch_local.specs.declared.options.Haves.{Haves}
 use Rattle.gixp_fetch_local.specs.declared.options.Haves.TheVariants.{By, InOrder}
 use Rattle.gixp_url.specs.declared.address.Transport.{Transport}
-use Rattle.gixp_url.specs.declared.address.Transport.TheVariants.{File, Git, Http, Https}
+use Rattle.gixp_url.specs.declared.address.Transport.TheVariants.{Git}
 use Rattle.gixp_remote_rules.specs.Proxy.{or_else}
 use Rattle.gixp_remote_rules.specs.Ssh.{first_word, variant_of}
 use Rattle.gixp_remote_rules.specs.declared.request.Program.{Program}
@@ -66,14 +66,6 @@ IsProbed variant = (status : ℕ) × (variant ≡ probed status)
 abbrev pub opening_by : Transport → List ℕ → List ℕ → Option (List ℕ) → Option (List ℕ × Option (List ℕ))
 opening_by Git path authority host = Some (path, Some (unwrap_or host authority))
 opening_by _ path authority host = None
-
--- a server of this machine and a web server are begun by git's own programs, which are begun at once; the others by a program of the
--- user's, or by a connection
-abbrev pub is_begun_at_once : Transport → Bool
-is_begun_at_once File = true
-is_begun_at_once Http = true
-is_begun_at_once Https = true
-is_begun_at_once _ = false
 
 -- git erases the rest of a line in any terminal that isn't dumb (git, "TERM"); standard error that is none has no name
 abbrev pub can_erase : List ℕ → Bool

@@ -7,6 +7,7 @@ use crate::checks::here;
 use crate::local::Places;
 use crate::order::Order;
 use crate::pack::{Came, PackPlan, make_folder};
+use crate::pipes::BOUNDARY;
 use crate::shell::Shell;
 use crate::trouble::Trouble;
 use bstr::BString;
@@ -79,7 +80,7 @@ fn write_boundary(
         return Ok(());
     }
     make_folder(rt, shell, plan)?;
-    let path = format!(in rt.alloc(); "{}/boundary", plan.folder)?;
+    let path = format!(in rt.alloc(); "{}/{BOUNDARY}", plan.folder)?;
     fs::write(rt, path.as_str(), text.as_slice())?;
     if shell.ask(&Request::Replace(lock, places.shallow.as_bytes()))? == 0 {
         Ok(())

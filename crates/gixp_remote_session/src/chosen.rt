@@ -78,7 +78,7 @@ fn program_of(program: Program, command: &[u8]) -> &[u8]
 {
     match program {
         Program::Shell => first_word(command),
-        Program::Git | Program::Command | Program::Socket | Program::Watch => command,
+        Program::Git | Program::Command | Program::Socket => command,
     }
 }
 

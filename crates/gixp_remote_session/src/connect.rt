@@ -3,7 +3,7 @@ ghost use Rattle.std.specs.Prelude.{◌≡◌, ◌≢◌, ◌↔◌, IfOk, IsOk,
 ghost use Rattle.std.specs.Option.{option_map};
 ghost use Rattle.bstr.specs.Owned.{bstring_bytes};
 ghost use Rattle.gixp_remote_rules.specs.declared.ssh.Variant.TheVariants.{Auto};
-ghost use Rattle.gixp_remote_session.specs.UserChoices.{IsProbed, is_begun_at_once};
+ghost use Rattle.gixp_remote_session.specs.UserChoices.{IsProbed};
 
 use crate::bounded::{Bounded, Bounds, forget};
 use crate::chosen::{check_allowed, opening_by, probed, ssh_by, variant_by};
@@ -278,16 +278,6 @@ fn open_wire<'a>(reach: Reach<'a>, is_quiet: bool) -> Result<Wire<'a>, Trouble> 
         opening_of(reach)?,
     )?;
     Ok(Bounded::new(connection, reach.bounds))
-}
-
-/// Whether a server is begun without a program of the user's, and without a connection that the shell waits for.
-pub(crate) fn is_begun_at_once(transport: Transport) -> bool
-    ensures { result ≡ is_begun_at_once transport }
-{
-    match transport {
-        Transport::File | Transport::Http | Transport::Https => true,
-        Transport::Ssh | Transport::Git => false,
-    }
 }
 
 /// Starts the server, where the user allows its transport. The shell ends one that was started before.

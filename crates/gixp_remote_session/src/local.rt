@@ -184,15 +184,14 @@ pub(crate) fn new_repository(alloc: Global, boundary: Vec<ObjectId>) -> Reposito
 /// Has git tell what the refs hold and lead to, over a pipe of its own, so that nothing waits for it meanwhile.
 pub(crate) fn ask_refs(alloc: Global, shell: &mut Shell) -> Result<(), Trouble> {
     let words = question_words(alloc, Question::Refs)?;
-    shell.ask(&Request::Start(Start {
+    shell.send(&Request::Start(Start {
         task: Task::Refs,
         program: Program::Git,
         input: NOTHING,
         output: REFS,
         variables: &[],
         words: &words,
-    }))?;
-    Ok(())
+    }))
 }
 
 /// What the refs of the repository hold and lead to, which git was asked for.

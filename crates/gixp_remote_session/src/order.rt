@@ -158,16 +158,15 @@ fn is_new(choices: &Choices) -> bool
     choices.is_cloning || choices.is_refetch
 }
 
-/// Has git begin with all that it is asked for, each beside the others: the list of the commits, as far as it is known that they are
-/// offered, the places of the repository, and its refs. Behind these comes the watcher.
+/// Has git begin with all that it is asked for, each beside the others: the places of the repository, its refs, and the list of the
+/// commits, as far as it is known that they are offered.
 pub(crate) fn begin(order: Order<'_, '_>, shell: &mut Shell) -> Result<Option<File>, Trouble> {
-    let commits = list_commits(order, shell, haves_for(order, false))?;
-    shell.begin_git(Question::Places)?;
+    shell.watch()?;
+    shell.ask_places()?;
     if !is_new(order.choices) {
         ask_refs(order.reach.rt.alloc(), shell)?;
     }
-    shell.watch()?;
-    Ok(commits)
+    list_commits(order, shell, haves_for(order, false))
 }
 
 /// What is known of the repository that fetches: what its refs hold, and its commits where a negotiator chooses among them.

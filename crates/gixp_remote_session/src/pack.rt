@@ -8,7 +8,7 @@ ghost use Rattle.gixp_remote_session.specs.Troubles.{kind_of};
 
 use crate::bounded::Bounds;
 use crate::local::Places;
-use crate::pipes::{IDS, KEPT, PACK};
+use crate::pipes::{BOUNDARY, IDS, KEPT, PACK};
 use crate::setup::variable;
 use crate::shell::Shell;
 use crate::trouble::Trouble;
@@ -128,7 +128,7 @@ pub(crate) fn make_folder(
 pub(crate) fn clear_folder(rt: &HostRuntime, plan: &PackPlan) -> Result<(), Trouble> {
     let folder = &plan.folder;
     let _ = fs::remove_file(rt, plan.shallow.as_str());
-    for name in [IDS, "boundary"] {
+    for name in [IDS, BOUNDARY] {
         let _ = fs::remove_file(rt, format!(in rt.alloc(); "{folder}/{name}")?.as_str());
     }
     let _ = fs::remove_dir(rt, format!(in rt.alloc(); "{folder}/pack")?.as_str());
@@ -328,11 +328,13 @@ impl<'a> IndexedPack<'a> {
     fn finish(&mut self) -> Result<Kept, Trouble>
         ensures { IfOk result (λ kept. kept.is_bounded ≡ self.old.is_bounded) }
     {
+        // the shell waits meanwhile, as git says too little to wait for a reader
+        self.shell.send(&Request::Status(Task::Pack))?;
         let mut text = Vec::new(self.rt.alloc());
         if let Some(mut told) = self.told.take() {
             told.read_to_end(&mut text)?;
         }
-        let status = self.shell.ask(&Request::Status(Task::Pack))?;
+        let status = self.shell.settle()?;
         match kept_pack(&text, status) {
             Some(hash) => Ok(Kept {
                 hash,

@@ -25,5 +25,11 @@ pub(crate) const PACK: &str = "25";
 /// From git that indexes a pack.
 pub(crate) const KEPT: &str = "26";
 
+/// To what looks whether git is still there.
+pub(crate) const WATCHER: &str = "27";
+
 /// Ids that git reads: this is a file of the folder that was made last.
 pub(crate) const IDS: &str = "ids";
+
+/// The boundary that is to be written: this is a file of that folder too.
+pub(crate) const BOUNDARY: &str = "boundary";

@@ -1,16 +1,16 @@
 //! The conversation with git.
 use crate::bounded::Bounds;
-use crate::connect::{Reach, is_begun_at_once, leave, shake_hands, start_server};
+use crate::connect::{Reach, leave, shake_hands, start_server};
 use crate::fetching::{Open, fetch};
 use crate::listing::{RefsTold, refs_told};
 use crate::order::Order;
 use crate::pack::clear_folder;
-use crate::setup::{Given, read_given, read_settings, version_of};
+use crate::setup::{Given, read_given, read_settings, variable, version_of};
 use crate::shell::Shell;
 use crate::trouble::Trouble;
 use bstr::{BString, ByteSlice};
 use gixp_fetch_session::session::refs;
-use gixp_remote_rules::{Conversation, Settings, Step, Task, batch_told};
+use gixp_remote_rules::{Conversation, Settings, Step, batch_told};
 use gixp_url::Address;
 use std::cell::{Cell, RefCell};
 use std::io;
@@ -62,15 +62,14 @@ struct Helper<'a> {
 }
 
 impl Helper<'_> {
-    // Starts the server, and the watcher beside it, or before it where that may take its time.
+    // Starts the server, and asks for the places of the repository meanwhile, where there is one that may fetch.
     fn begin_server(&mut self) -> Result<(), Trouble> {
-        if is_begun_at_once(self.reach.address.transport) {
-            start_server(self.reach, &mut self.shell)?;
-            self.shell.watch()
-        } else {
-            self.shell.watch()?;
-            start_server(self.reach, &mut self.shell)
+        self.shell.watch()?;
+        start_server(self.reach, &mut self.shell)?;
+        if variable(self.reach.rt, "GIT_DIR").is_some() {
+            self.shell.ask_places()?;
         }
+        Ok(())
     }
 
     // What git is told of the refs of the server, over a session that stays. What is no server of git's, but answers, has none, as git
@@ -96,7 +95,7 @@ impl Helper<'_> {
         for name in &told.funny {
             let _ = eprintln!(self.reach.rt; "warning: ignoring ref with broken name {name:?}");
         }
-        self.shell.end(Task::Watch)?;
+        self.shell.rest()?;
         say(self.reach.rt, &told.text)
     }
 
@@ -115,7 +114,7 @@ impl Helper<'_> {
             ids: &ids,
         };
         let fetched = fetch(order, &mut self.shell, &mut self.open, &folder)?;
-        self.shell.end(Task::Watch)?;
+        self.shell.rest()?;
         let lock = match &fetched.reply.lock {
             Some(lock) => Some(lock.as_bytes()),
             None => None,

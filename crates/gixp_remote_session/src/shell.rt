@@ -3,24 +3,32 @@ ghost use Rattle.std.specs.Prelude.{◌≡◌, IfOk, map};
 ghost use Rattle.bstr.specs.Owned.{bstring_bytes};
 
 use crate::pack::PackState;
-use crate::pipes::TOLD;
+use crate::pipes::{TOLD, WATCHER};
 use crate::trouble::Trouble;
 use bstr::BString;
-use gixp_remote_rules::{Program, Question, Request, Start, Task, ask, question_words};
+use gixp_remote_rules::{
+    Program, Question, Request, Start, Task, question_words, read_answer, send,
+};
 use std::alloc::Global;
 use std::fs;
 use std::fs::{File, OpenOptions};
-use std::io::BufReader;
+use std::io::{BufReader, Write};
 
 /// What a program reads where it is to read nothing.
 pub(crate) const NOTHING: &str = "/dev/null";
 
-/// The shell, by the two pipes to it.
+/// The shell, by the pipes to it and from it.
 #[derive(Drop)]
 pub(crate) struct Shell {
     alloc: Global,
     requests: File,
     answers: BufReader<File>,
+    // How many requests have no answer yet.
+    unanswered: u64,
+    // The pipe to its watcher.
+    watcher: File,
+    // Whether git was asked for the places of the repository, and nothing else since then.
+    asks_places: bool,
     /// What became of the pack that git was given last.
     pub(crate) pack: PackState,
 }
@@ -42,25 +50,46 @@ impl Shell {
             alloc,
             requests,
             answers,
+            unanswered: 0,
+            watcher: OpenOptions::new().write(true).open(rt, WATCHER)?,
+            asks_places: false,
             pack: PackState::Unbegun,
         })
     }
 
-    /// Makes a request, and waits for its answer.
-    pub(crate) fn ask(&mut self, request: &Request<'_>) -> Result<u32, Trouble> {
-        Ok(ask(self.alloc, &mut self.answers, &mut self.requests, request)?)
+    /// Makes a request, without waiting for its answer.
+    pub(crate) fn send(&mut self, request: &Request<'_>) -> Result<(), Trouble> {
+        send(self.alloc, &mut self.requests, request)?;
+        self.unanswered = self.unanswered.saturating_add(1);
+        Ok(())
     }
 
-    /// Has the shell look whether git is there, while git waits.
+    /// Waits for the answers to all that was sent, and gives the last.
+    pub(crate) fn settle(&mut self) -> Result<u32, Trouble> {
+        let count = self.unanswered;
+        self.unanswered = 0;
+        let mut last = 0;
+        for _ in 0..count {
+            last = read_answer(self.alloc, &mut self.answers)?;
+        }
+        Ok(last)
+    }
+
+    /// Makes a request, and waits for its answer.
+    pub(crate) fn ask(&mut self, request: &Request<'_>) -> Result<u32, Trouble> {
+        self.send(request)?;
+        self.settle()
+    }
+
+    /// Has the watcher look whether git is there, from now on while git waits.
     pub(crate) fn watch(&mut self) -> Result<(), Trouble> {
-        self.ask(&Request::Start(Start {
-            task: Task::Watch,
-            program: Program::Watch,
-            input: NOTHING,
-            output: NOTHING,
-            variables: &[],
-            words: &[],
-        }))?;
+        self.watcher.write_all(b"watch\n")?;
+        Ok(())
+    }
+
+    /// Lets the watcher rest, before git is told what it waits for.
+    pub(crate) fn rest(&mut self) -> Result<(), Trouble> {
+        self.watcher.write_all(b"rest\n")?;
         Ok(())
     }
 
@@ -72,23 +101,33 @@ impl Shell {
 
     /// Reads what a program says that was begun for it, and waits for its status.
     pub(crate) fn told(&mut self, rt: &HostRuntime, task: Task) -> Result<Told, Trouble> {
+        self.settle()?;
+        self.asks_places = false;
         let text = fs::read(rt, TOLD)?;
         let status = self.ask(&Request::Status(task))?;
         Ok(Told { status, text })
     }
 
-    /// Has git begin to tell something.
-    pub(crate) fn begin_git(&mut self, question: Question<'_>) -> Result<(), Trouble> {
+    /// Has git begin to tell the places of the repository, unless it did already.
+    pub(crate) fn ask_places(&mut self) -> Result<(), Trouble> {
+        if !self.asks_places {
+            self.begin_git(Question::Places)?;
+            self.asks_places = true;
+        }
+        Ok(())
+    }
+
+    // Has git begin to tell something, without waiting until it does.
+    fn begin_git(&mut self, question: Question<'_>) -> Result<(), Trouble> {
         let words = question_words(self.alloc, question)?;
-        self.ask(&Request::Start(Start {
+        self.send(&Request::Start(Start {
             task: Task::Question,
             program: Program::Git,
             input: NOTHING,
             output: TOLD,
             variables: &[],
             words: &words,
-        }))?;
-        Ok(())
+        }))
     }
 
     /// Runs a program, and waits for what it says and its status.
@@ -109,7 +148,7 @@ impl Shell {
             variables,
             words,
         };
-        self.ask(&Request::Start(start))?;
+        self.send(&Request::Start(start))?;
         self.told(rt, task)
     }
 
