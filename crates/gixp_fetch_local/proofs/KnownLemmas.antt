@@ -1,14 +1,22 @@
--- Sets of ids that grow, and one that loses an id.
-use Rattle.std.proofs.Common.{◌≡◌, ◌⊎◌, inl, inr, ⊎_elim, ◌∙◌, ◌+◌, ◌<◌, ℕ, Bool, true, false, cond, List, take, get_or, length, Option, Some, refl, ap, subst, sym}
+-- Sets of ids that grow, and one that loses an id; what is awaited, and isn't known.
+use Rattle.std.proofs.Common.{◌≡◌, ◌⊎◌, inl, inr, ⊎_elim, ◌∙◌, ◌+◌, ◌<◌, ℕ, Bool, true, false, cond, List, [], take, get_or, length, Option, Some, refl, ap, subst, sym, true≢false}
 use Rattle.std.specs.Prelude.{All}
+use Rattle.std.specs.List.{list_any}
+use Rattle.std.specs.BTreeMap.{is_at}
 use Rattle.std.specs.BTreeSet.{BTreeSet, contains}
 use Rattle.std.specs.Ordering.{eq_by_cmp}
 use Rattle.std.proofs.lemmas.List.Elements.{All-weaker, All-more}
 use Rattle.gixp_hash.specs.declared.object_id.ObjectId.{ObjectId}
 use Rattle.gixp_hash.specs.ObjectId.{id_cmp}
 use Rattle.gixp_graph.specs.Object.{Objects}
+use Rattle.std.specs.FinMap as finite
+use Rattle.std.specs.FinMap.{get-empty}
+use Rattle.std.specs.Option.{is_some}
 use Rattle.gixp_graph.specs.GraphLaws.{same_from}
-use Rattle.gixp_fetch_local.specs.Known.{KeepsIds, HasIdsOf, IsAwaitedOrKnown, is_awaited}
+use Rattle.gixp_graph.proofs.MarkLemmas.{same_id}
+use Rattle.gixp_fetch_local.specs.declared.known.KnownCommits.{KnownCommits}
+use Rattle.gixp_fetch_local.specs.Known.{KeepsIds, HasIdsOf, IsAwaitedOrKnown, is_awaited, IsUnknown, AddsUnknown, AwaitsUnknown, AwaitsUnknownBut}
+use Rattle.gixp_fetch_local.specs.SharedCommits.{AddsId}
 
 pub keep_cond : (b x : Bool) → x ≡ true → cond b true x ≡ true
 keep_cond true x h = refl
@@ -54,3 +62,80 @@ added key q old new e h = at (eq_by_cmp id_cmp key q) refl
     at : (b : Bool) → eq_by_cmp id_cmp key q ≡ b → (old ≡ true) ⊎ (key ≡ q)
     at true s = inr (same_from key q s)
     at false s = inl (sym (e ∙ ap (λ b. cond b true old) s) ∙ h)
+
+-- ---- one that leaves
+
+pub left_fewer : (key q : ObjectId) (old new : Bool) → new ≡ cond (eq_by_cmp id_cmp key q) false old → new ≡ true → old ≡ true
+left_fewer key q old new e h = at (eq_by_cmp id_cmp key q) e
+  where
+    at : (b : Bool) → new ≡ cond b false old → old ≡ true
+    at true s = absurd (true≢false (sym h ∙ s))
+    at false s = sym s ∙ h
+
+pub left_gone : (key : ObjectId) (old new : Bool) → new ≡ cond (eq_by_cmp id_cmp key key) false old → new ≡ false
+left_gone key old new e = e ∙ ap (λ b. cond b false old) (same_id key)
+
+-- ---- what isn't known
+
+lacks_in : (a b : BTreeSet ObjectId) (q : ObjectId) → KeepsIds a b → contains id_cmp b q ≡ false → contains id_cmp a q ≡ false
+lacks_in a b q keeps h = at (contains id_cmp a q) refl
+  where
+    at : (x : Bool) → contains id_cmp a q ≡ x → contains id_cmp a q ≡ false
+    at true e = absurd (true≢false (sym (keeps q e) ∙ h))
+    at false e = e
+
+pub unknown_one : (read : Objects) (common old new : BTreeSet ObjectId) (id : ObjectId) → AddsId old id new
+    → contains id_cmp common id ≡ false → finite.contains_key read id ≡ false → AddsUnknown read common old new
+unknown_one read common old new id adds lacks unread q h =
+    ⊎_elim (λ was. inl was) (λ one. inr (subst (IsUnknown read common) one (lacks, unread))) (adds q h)
+
+pub unknown_trans : (read : Objects) (common a b c : BTreeSet ObjectId) → AddsUnknown read common a b → AddsUnknown read common b c
+    → AddsUnknown read common a c
+unknown_trans read common a b c h k q e = ⊎_elim (λ was. h q was) (λ new. inr new) (k q e)
+
+-- the same is unknown where no more is read or common
+still_unknown : (old new : KnownCommits) (q : ObjectId) → new.read ≡ old.read → KeepsIds new.common old.common
+    → IsUnknown old.read old.common q → IsUnknown new.read new.common q
+still_unknown old new q r fewer u = (lacks_in new.common old.common q fewer u.0, ap (λ m. finite.contains_key m q) r ∙ u.1)
+
+same_ids : (a b : BTreeSet ObjectId) → a ≡ b → KeepsIds a b
+same_ids a b e = λ q h. subst (λ s. contains id_cmp s q ≡ true) e h
+
+-- more is awaited that is unknown
+pub unknown_more : (old new : KnownCommits) (a b : BTreeSet ObjectId) → new.read ≡ old.read → new.common ≡ old.common
+    → old.awaited ≡ Some a → new.awaited ≡ Some b → AddsUnknown old.read old.common a b → AwaitsUnknown old → AwaitsUnknown new
+unknown_more old new a b r c was is adds h q e =
+    still_unknown old new q r (same_ids new.common old.common c)
+    (⊎_elim (λ k. h q (subst (λ o. is_awaited o q ≡ true) (sym was) k)) (λ u. u) (adds q (there_in new.awaited b q is e)))
+
+-- no more is awaited, read or common
+pub unknown_kept : (old new : KnownCommits) → new.read ≡ old.read → KeepsIds new.common old.common
+    → ((q : ObjectId) → is_awaited new.awaited q ≡ true → is_awaited old.awaited q ≡ true) → AwaitsUnknown old → AwaitsUnknown new
+unknown_kept old new r fewer awaits h q e = still_unknown old new q r fewer (h q (awaits q e))
+
+-- nor is one that is common now
+pub unknown_noted : (old new : KnownCommits) (id : ObjectId) → new.read ≡ old.read → AddsId old.common id new.common
+    → ((q : ObjectId) → is_awaited new.awaited q ≡ true → is_awaited old.awaited q ≡ true) → is_awaited new.awaited id ≡ false
+    → AwaitsUnknown old → AwaitsUnknown new
+unknown_noted old new id r adds awaits gone h q e = (
+  at (contains id_cmp new.common q) refl,
+  ap (λ m. finite.contains_key m q) r ∙ (h q (awaits q e)).1,
+)
+  where
+    at : (x : Bool) → contains id_cmp new.common q ≡ x → contains id_cmp new.common q ≡ false
+    at true k = absurd (⊎_elim (λ was. true≢false (sym was ∙ (h q (awaits q e)).0))
+        (λ one. true≢false (sym e ∙ subst (λ x. is_awaited new.awaited x ≡ false) one gone)) (adds q k))
+    at false k = k
+
+-- nor is one that was read
+pub unknown_forgotten : (old new : KnownCommits) (id : ObjectId) → new.read ≡ old.read → new.common ≡ old.common
+    → ((q : ObjectId) → is_awaited new.awaited q ≡ true → is_awaited old.awaited q ≡ true) → is_awaited new.awaited id ≡ false
+    → AwaitsUnknownBut old id → AwaitsUnknown new
+unknown_forgotten old new id r c awaits gone h q e =
+    ⊎_elim (λ u. still_unknown old new q r (same_ids new.common old.common c) u)
+    (λ one. absurd (true≢false (sym e ∙ subst (λ x. is_awaited new.awaited x ≡ false) one gone))) (h q (awaits q e))
+
+-- nothing is known at first
+pub unknown_first : (known : KnownCommits) → known.read ≡ finite.empty → known.common.keys ≡ [] → AwaitsUnknown known
+unknown_first known read common q e =
+    (ap (λ ks. list_any (is_at (id_cmp q)) ks) common, ap (λ m. finite.contains_key m q) read ∙ ap is_some (get-empty id_cmp q))

@@ -25,7 +25,7 @@ use Rattle.gixp_memory.specs.Text.{after_lines, BeginsUnread}
 use Rattle.gixp_memory.specs.Repository.{named_id, named_ids, seconds, commit_of_words, commit_line, with_commit}
 use Rattle.gixp_fetch_local.specs.declared.listed.CommitText.{CommitText}
 use Rattle.gixp_fetch_local.specs.declared.known.KnownCommits.{KnownCommits}
-use Rattle.gixp_fetch_local.specs.Known.{parents_of, is_awaited, KeepsIds, HasIdsOf, IsNoted, LosesNone, AreAwaitedOrKnown, AwaitsNone}
+use Rattle.gixp_fetch_local.specs.Known.{parents_of, is_awaited, KeepsIds, HasIdsOf, IsNoted, LosesNone, AreAwaitedOrKnown, AwaitsNone, AwaitsUnknown, AwaitsUnknownBut}
 use Rattle.gixp_fetch_local.specs.SharedCommits.{IsSharedBut, IsSharedWhole, SharesSome}
 use Rattle.gixp_fetch_local.specs.Listed.{id_in, IsNoCommit, ReadsTextLines, HasLines, IsCommonLine, ReadsCommit, IsUncommon, PassesLines, OffersCommit, OffersNothing}
 use Rattle.gixp_fetch_local.proofs.SpreadLemmas.{loses_none_trans}
@@ -156,6 +156,10 @@ module _ (old : Objects) (id : ObjectId) (c : Commit) where
       at true = refl
       at false = h
 
+  key_lacks : (q : ObjectId) → eq_by_cmp id_cmp q id ≡ false → finite.contains_key old q ≡ false
+      → finite.contains_key (with_commit old id c) q ≡ false
+  key_lacks q s h = ap is_some (got q) ∙ (ap (λ b. is_some (cond b (Some held) (finite.get old q))) s ∙ h)
+
   parents_stay : (q : ObjectId) → eq_by_cmp id_cmp q id ≡ false → parents_of (with_commit old id c) q ≡ parents_of old q
   parents_stay q s = ap (λ o. unwrap_or (option_map (λ (c : Commit). c.parents) (option_and_then (λ (o : Object). o.commit) o)) [])
       (got q ∙ ap (λ b. cond b (Some held) (finite.get old q)) s)
@@ -186,6 +190,21 @@ commit_noted before after old new id h c w =
     λ q n. ⊎_elim (λ awaits. inl (subst (λ o. is_awaited o q ≡ true) (sym w) awaits))
     (λ n. ⊎_elim (λ common. inr (inl (subst (λ s. contains id_cmp s q ≡ true) (sym c) common)))
     (λ there. inr (inr (subst (λ r. finite.contains_key r q ≡ true) (sym a.1) (key_stays old.read id a.0 q there)))) n) n
+
+commit_unknown : (before after : Option (List ℕ)) (old new : KnownCommits) (id : ObjectId) → ReadsCommit before old id after new
+    → new.common ≡ old.common → new.awaited ≡ old.awaited → AwaitsUnknown old → AwaitsUnknownBut new id
+commit_unknown before after old new id h c w unknown q e = at (eq_by_cmp id_cmp q id) refl
+  where
+    at : (b : Bool) → eq_by_cmp id_cmp q id ≡ b
+        → ((contains id_cmp new.common q ≡ false) × (finite.contains_key new.read q ≡ false)) ⊎ (id ≡ q)
+    at true s = inr (sym (same_from q id s))
+    at false s =
+        let a = commit_added old.read new.read h.line id h.added h.named in
+        let was = unknown q (subst (λ o. is_awaited o q ≡ true) w e) in
+        inl (
+          ap (λ s. contains id_cmp s q) c ∙ was.0,
+          ap (λ r. finite.contains_key r q) a.1 ∙ key_lacks old.read id a.0 q s was.1,
+        )
 
 commit_shared : (before after : Option (List ℕ)) (old new : KnownCommits) (id : ObjectId) → ReadsCommit before old id after new
     → new.common ≡ old.common → IsSharedWhole old.read old.common → IsSharedBut new.read new.common (id ∷ [])
@@ -228,24 +247,26 @@ awaits_loses old new r c keeps q n = ⊎_elim (λ awaits. inl (keeps q awaits))
 
 -- nothing is shared
 pub shares_nothing : (old new : KnownCommits) (id : ObjectId) → new.read ≡ old.read → new.common ≡ old.common → LosesNone old new
-    → SharesSome old id new
-shares_nothing old new id r c l = record {
+    → (AwaitsUnknown old → AwaitsUnknown new) → SharesSome old id new
+shares_nothing old new id r c l u = record {
   read = r;
   keeps = λ q e. subst (λ s. contains id_cmp s q ≡ true) (sym c) e;
   adds = λ q e. inl (subst (λ s. contains id_cmp s q ≡ true) c e);
   noted = l;
+  unknown = u;
 }
 
 -- the same behind a step that shares nothing
 pub shares_behind : (old mid new : KnownCommits) (id : ObjectId) → mid.read ≡ old.read → mid.common ≡ old.common → LosesNone old mid
-    → SharesSome mid id new → SharesSome old id new
-shares_behind old mid new id r c l h =
+    → (AwaitsUnknown old → AwaitsUnknown mid) → SharesSome mid id new → SharesSome old id new
+shares_behind old mid new id r c l u h =
     record {
       read = h.read ∙ r;
       keeps = λ q e. h.keeps q (subst (λ s. contains id_cmp s q ≡ true) (sym c) e);
       adds = λ q e. ⊎_elim (λ was. inl (subst (λ s. contains id_cmp s q ≡ true) c was))
           (λ new_one. inr (subst (λ m. IsReachedFrom (commit_at m) id q) r new_one)) (h.adds q e);
       noted = loses_none_trans old mid new l h.noted;
+      unknown = λ w. h.unknown (u w);
     }
 
 -- lines were passed over so far, and are spent
@@ -259,7 +280,7 @@ pub passed_none : {R : Type 0} (remaining : R → Option (List ℕ)) (now : Comm
 passed_none remaining now = record {
   lines = [];
   read = reads_none (remaining now.text);
-  passes = record { added = refl; passed = All-nil (IsCommonLine now.known.common); noted = λ _ n. n; whole = λ h. h };
+  passes = record { added = refl; passed = All-nil (IsCommonLine now.known.common); noted = λ _ n. n; unknown = λ w. w; whole = λ h. h };
   spent = omega arith;
 }
 
@@ -285,6 +306,7 @@ pub record ReadsOne {R : Type 0} (remaining : R → Option (List ℕ)) (now mid 
   pub common : mid.known.common ≡ now.known.common
   pub awaited : mid.known.awaited ≡ now.known.awaited
   pub shares : SharesSome mid.known id new.known
+  pub unknown : AwaitsUnknownBut mid.known id → AwaitsUnknown new.known
   pub text : new.text ≡ mid.text
   pub left : new.left + 1 ≡ now.left
 
@@ -308,6 +330,10 @@ module _ {R : Type 0} (remaining : R → Option (List ℕ)) (old now mid new : C
   noted_all = loses_none_trans old.known now.known new.known h.passes.noted (loses_none_trans now.known mid.known new.known
       (commit_noted (remaining now.text) (remaining mid.text) now.known mid.known id r.read r.common r.awaited) r.shares.noted)
 
+  unknown_all : AwaitsUnknown old.known → AwaitsUnknown new.known
+  unknown_all w = r.unknown (commit_unknown (remaining now.text) (remaining mid.text) now.known mid.known id r.read r.common r.awaited
+      (h.passes.unknown w))
+
   whole_all : (IsSharedBut mid.known.read mid.known.common (id ∷ []) → IsSharedWhole new.known.read new.known.common)
       → IsSharedWhole old.known.read old.known.common → IsSharedWhole new.known.read new.known.common
   whole_all k x = k (commit_shared (remaining now.text) (remaining mid.text) now.known mid.known id r.read r.common (h.passes.whole x))
@@ -326,6 +352,7 @@ module _ {R : Type 0} (remaining : R → Option (List ℕ)) (old now mid new : C
           (still_common now.known.common new.known.common keeps_all h.lines h.passes.passed)
           (All-cons (IsCommonLine new.known.common) line [] (id, r.read.named, there) (All-nil (IsCommonLine new.known.common)));
       noted = noted_all;
+      unknown = unknown_all;
       whole = whole_all k;
     };
     spent = spent_all;
@@ -345,6 +372,7 @@ module _ {R : Type 0} (remaining : R → Option (List ℕ)) (old now mid new : C
     uncommon = lacks;
     awaits = awaits;
     noted = noted_all;
+    unknown = unknown_all;
     whole = whole_all k;
   }
 

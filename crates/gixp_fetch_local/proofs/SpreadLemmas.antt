@@ -10,7 +10,7 @@ use Rattle.gixp_hash.specs.ObjectId.{id_cmp}
 use Rattle.gixp_graph.specs.Object.{Objects, Commit, commit_at}
 use Rattle.gixp_updates.specs.Ancestors.{IsAncestor, IsReachedFrom}
 use Rattle.gixp_fetch_local.specs.declared.known.KnownCommits.{KnownCommits}
-use Rattle.gixp_fetch_local.specs.Known.{parents_of, KeepsIds, HasIdsOf, LosesNone}
+use Rattle.gixp_fetch_local.specs.Known.{parents_of, KeepsIds, HasIdsOf, LosesNone, AwaitsUnknown}
 use Rattle.gixp_fetch_local.specs.SharedCommits.{IsSharedBut, IsSharedWhole, AddsReached, AddsId, Shares, SharesSome, NotesSome, Notes, SpreadsOn}
 use Rattle.gixp_fetch_local.proofs.KnownLemmas.{has_kept, keeps_trans}
 
@@ -43,7 +43,7 @@ loses_none_trans a b c h k = λ id n. k id (h id n)
 
 -- none is
 pub notes_none : (a : KnownCommits) → NotesSome a [] a
-notes_none a = record { read = refl; keeps = λ _ e. e; adds = λ _ e. inl e; noted = λ _ e. e }
+notes_none a = record { read = refl; keeps = λ _ e. e; adds = λ _ e. inl e; noted = λ _ e. e; unknown = λ w. w }
 
 pub notes_none_yet : (a : KnownCommits) (waiting : List ObjectId) → Notes a waiting [] a waiting
 notes_none_yet a waiting = record {
@@ -62,6 +62,7 @@ notes_more_some a b c ids more h k = record {
   adds = λ q e. ⊎_elim (λ old. ⊎_elim (λ first. inl first) (λ in_ids. inr (Contains-append_left ids more q in_ids)) (h.adds q old))
       (λ in_more. inr (Contains-append_right ids more q in_more)) (k.adds q e);
   noted = loses_none_trans a b c h.noted k.noted;
+  unknown = λ w. k.unknown (h.unknown w);
 }
 
 pub notes_more : (a b c : KnownCommits) (waiting mid later ids more : List ObjectId) → NotesSome b more c → Notes a waiting ids b mid
@@ -83,6 +84,7 @@ notes_some_of a b ids all within h = record {
   keeps = h.keeps;
   adds = λ q e. ⊎_elim (λ old. inl old) (λ k. inr (within q k)) (h.adds q e);
   noted = h.noted;
+  unknown = h.unknown;
 }
 
 -- one that was common already
@@ -211,15 +213,16 @@ shares_parents old new id n = record {
   keeps = n.keeps;
   adds = adds_parents old.read old new id id [] n (itself_reached old.read id);
   noted = n.noted;
+  unknown = n.unknown;
 }
 
 -- and what they lead to
 pub shares_some : (old mid new : KnownCommits) (id : ObjectId) (none later : List ObjectId) → none ≡ []
     → NotesSome old (parents_of old.read id) mid → Notes old none (parents_of old.read id) mid later → new.read ≡ mid.read
-    → KeepsIds mid.common new.common → LosesNone mid new
+    → KeepsIds mid.common new.common → LosesNone mid new → (AwaitsUnknown mid → AwaitsUnknown new)
     → ((i : ObjectId) → All (IsReachedFrom (commit_at mid.read) i) later → AddsReached mid.read i mid.common new.common)
     → SharesSome old id new
-shares_some old mid new id none later is n m same keeps noted adds =
+shares_some old mid new id none later is n m same keeps noted unknown adds =
     let first : SpreadsOn old.read old.common (id ∷ []) mid.common later =
     spreads_one old.read old mid id [] later n (subst (λ l. Notes old l (parents_of old.read id) mid later) is m) in
     let reached : All (IsReachedFrom (commit_at mid.read) id) later =
@@ -230,6 +233,7 @@ shares_some old mid new id none later is n m same keeps noted adds =
       adds = λ q e. ⊎_elim (λ was. first.adds id (itself_reached old.read id) q was)
           (λ new_one. inr (subst (λ r. IsReachedFrom (commit_at r) id q) n.read new_one)) (adds id reached q e);
       noted = loses_none_trans old mid new n.noted noted;
+      unknown = λ w. unknown (n.unknown w);
     }
 
 pub shares_all : (old mid new : KnownCommits) (id : ObjectId) (none later : List ObjectId) → none ≡ []

@@ -38,6 +38,24 @@ abbrev pub AreAwaitedOrKnown : Objects → BTreeSet ObjectId → Option (BTreeSe
 AreAwaitedOrKnown read common None ids = Unit {0}
 AreAwaitedOrKnown read common (Some awaited) ids = All (IsAwaitedOrKnown read common awaited) ids
 
+-- a commit isn't read, and nothing says that the server has it
+abbrev pub IsUnknown : Objects → BTreeSet ObjectId → ObjectId → Type 0
+IsUnknown read common id = (contains id_cmp common id ≡ false) × (finite.contains_key read id ≡ false)
+
+-- so is each commit that comes to a set
+abbrev pub AddsUnknown : Objects → BTreeSet ObjectId → (old new : BTreeSet ObjectId) → Type 0
+AddsUnknown read common old new = (id : ObjectId) → contains id_cmp new id ≡ true
+    → (contains id_cmp old id ≡ true) ⊎ IsUnknown read common id
+
+-- so is all that is awaited: none of it can be offered already, or needn't be
+abbrev pub AwaitsUnknown : KnownCommits → Type 0
+AwaitsUnknown known = (id : ObjectId) → is_awaited known.awaited id ≡ true → IsUnknown known.read known.common id
+
+-- so is all that is awaited but this one
+abbrev pub AwaitsUnknownBut : KnownCommits → ObjectId → Type 0
+AwaitsUnknownBut known one = (id : ObjectId) → is_awaited known.awaited id ≡ true
+    → IsUnknown known.read known.common id ⊎ (one ≡ id)
+
 -- a commit is awaited, or the server has it, or it is read
 abbrev pub IsNoted : KnownCommits → ObjectId → Type 0
 IsNoted known id = (is_awaited known.awaited id ≡ true)

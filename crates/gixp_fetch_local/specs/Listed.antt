@@ -14,7 +14,7 @@ use Rattle.gixp_fetch_local.specs.declared.listed.Refusal.{Refusal}
 use Rattle.gixp_fetch_local.specs.declared.listed.Refusal.TheVariants.{Read, Line}
 use Rattle.gixp_fetch_local.specs.declared.listed.CommitText.{CommitText}
 use Rattle.gixp_fetch_local.specs.declared.known.KnownCommits.{KnownCommits}
-use Rattle.gixp_fetch_local.specs.Known.{parents_of, AreAwaitedOrKnown, AwaitsNone, LosesNone}
+use Rattle.gixp_fetch_local.specs.Known.{parents_of, AreAwaitedOrKnown, AwaitsNone, AwaitsUnknown, LosesNone}
 use Rattle.gixp_fetch_local.specs.SharedCommits.{IsSharedWhole}
 
 -- ---- lines
@@ -56,15 +56,16 @@ abbrev pub IsUncommon : BTreeSet ObjectId → ObjectId → Type 0
 IsUncommon common id = contains id_cmp common id ≡ false
 
 -- lines were passed over: what they add was added, and the server has the commits that they name. Nothing that was awaited is
--- forgotten, and with each commit the server still has all that it leads to
+-- forgotten but what was read or is common, and with each commit the server still has all that it leads to
 pub record PassesLines (old : KnownCommits) (lines : List (List ℕ)) (new : KnownCommits) : Type 0 where
   pub added : after_lines commit_line old.read lines ≡ Some new.read
   pub passed : All (IsCommonLine new.common) lines
   pub noted : LosesNone old new
+  pub unknown : AwaitsUnknown old → AwaitsUnknown new
   pub whole : IsSharedWhole old.read old.common → IsSharedWhole new.read new.common
 
 -- a commit is offered: that of the first line of the text of which it isn't known that the server has it. Its parents are awaited
--- from then on, unless they are read, or the server has them. Of the lines that may be read still, those that were are spent
+-- from then on, unless they are read, or the server has them; it isn't any longer itself. Of the lines that may be read still, those that were are spent
 pub record OffersCommit {R : Type 0} (remaining : R → Option (List ℕ)) (old : CommitText R) (id : ObjectId) (new : CommitText R)
     : Type 0 where
   pub earlier : List (List ℕ)
@@ -77,6 +78,7 @@ pub record OffersCommit {R : Type 0} (remaining : R → Option (List ℕ)) (old 
   pub uncommon : IsUncommon new.known.common id
   pub awaits : AreAwaitedOrKnown new.known.read new.known.common new.known.awaited (parents_of new.known.read id)
   pub noted : LosesNone old.known new.known
+  pub unknown : AwaitsUnknown old.known → AwaitsUnknown new.known
   pub whole : IsSharedWhole old.known.read old.known.common → IsSharedWhole new.known.read new.known.common
 
 -- nothing is offered: the text has no line but those that were passed over, or nothing is awaited any longer. (Or so many lines

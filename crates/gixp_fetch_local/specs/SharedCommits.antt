@@ -7,7 +7,7 @@ use Rattle.gixp_hash.specs.ObjectId.{id_cmp}
 use Rattle.gixp_graph.specs.Object.{Objects, commit_at}
 use Rattle.gixp_updates.specs.Ancestors.{IsReachedFrom}
 use Rattle.gixp_fetch_local.specs.declared.known.KnownCommits.{KnownCommits}
-use Rattle.gixp_fetch_local.specs.Known.{parents_of, KeepsIds, HasIdsOf, LosesNone}
+use Rattle.gixp_fetch_local.specs.Known.{parents_of, KeepsIds, HasIdsOf, LosesNone, AwaitsUnknown}
 
 -- with a commit the server has its parents, but for those of some commits that wait
 abbrev pub IsSharedBut : Objects → BTreeSet ObjectId → List ObjectId → Type 0
@@ -34,6 +34,7 @@ pub record SharesSome (old : KnownCommits) (id : ObjectId) (new : KnownCommits) 
   pub keeps : KeepsIds old.common new.common
   pub adds : AddsReached old.read id old.common new.common
   pub noted : LosesNone old new
+  pub unknown : AwaitsUnknown old → AwaitsUnknown new
 
 -- ---- how it spreads
 
@@ -47,6 +48,7 @@ pub record NotesSome (old : KnownCommits) (ids : List ObjectId) (new : KnownComm
   pub keeps : KeepsIds old.common new.common
   pub adds : (q : ObjectId) → contains id_cmp new.common q ≡ true → (contains id_cmp old.common q ≡ true) ⊎ Contains ids q
   pub noted : LosesNone old new
+  pub unknown : AwaitsUnknown old → AwaitsUnknown new
 
 -- these commits are common, and those that weren't wait behind those that waited
 pub record Notes (old : KnownCommits) (waiting ids : List ObjectId) (new : KnownCommits) (later : List ObjectId) : Type 0 where

@@ -1,5 +1,5 @@
 //! What is known of the commits of a text, as far as it was read: which of them the server has, and which are awaited.
-ghost use Rattle.std.specs.Prelude.{◌≡◌, ◌⊎◌, [], ◌∷◌, true, false, All, IfOk, OnOk};
+ghost use Rattle.std.specs.Prelude.{◌≡◌, ◌⊎◌, [], ◌∷◌, true, false, All, IfOk, OnOk, OnErr};
 ghost use Rattle.std.specs.FinMap as finite;
 ghost use Rattle.std.specs.BTreeSet.{contains};
 ghost use Rattle.gixp_hash.specs.declared.object_id.ObjectId.{ObjectId};
@@ -7,7 +7,7 @@ ghost use Rattle.gixp_hash.specs.ObjectId.{id_cmp};
 ghost use Rattle.gixp_graph.specs.Object.{commit_at};
 ghost use Rattle.gixp_updates.specs.Ancestors.{IsReachedFrom};
 ghost use Rattle.gixp_fetch_local.specs.Known.{parents_of, is_awaited, KeepsIds, HasIdsOf, IsAwaitedOrKnown, AreAwaitedOrKnown, AwaitsNone};
-ghost use Rattle.gixp_fetch_local.specs.Known.{LosesNone};
+ghost use Rattle.gixp_fetch_local.specs.Known.{AddsUnknown, AwaitsUnknown, LosesNone};
 ghost use Rattle.gixp_fetch_local.specs.SharedCommits.{IsSharedBut, IsSharedWhole, AddsReached, AddsId, NotesSome, Notes, Shares, SharesSome};
 
 use gixp_graph::Find;
@@ -34,6 +34,7 @@ fn put(set: &mut BTreeSet<ObjectId>, id: &ObjectId) -> Result<bool, AllocError>
     ensures has { OnOk result (contains id_cmp set.new id.now ≡ true) }
     ensures adds { AddsId set.old id.now set.new }
     ensures known { IfOk result (λ is_new. is_new ≡ false → KeepsIds set.new set.old) }
+    ensures refused { OnErr result (KeepsIds set.new set.old) }
 {
     match set.insert(*id) {
         Ok(is_new) => Ok(is_new),
@@ -50,6 +51,7 @@ fn add_one(
 ) -> Result<(), AllocError>
     ensures keeps { KeepsIds awaited.old awaited.new }
     ensures has { OnOk result (IsAwaitedOrKnown read.now common.now awaited.new id.now) }
+    ensures adds { AddsUnknown read.now common.now awaited.old awaited.new }
 {
     if common.contains(id) {
         return Ok(());
@@ -72,6 +74,7 @@ fn add_awaited(
 ) -> Result<(), AllocError>
     ensures keeps { KeepsIds awaited.old awaited.new }
     ensures all { OnOk result (All (IsAwaitedOrKnown read.now common.now awaited.new) commits.now) }
+    ensures adds { AddsUnknown read.now common.now awaited.old awaited.new }
 {
     'commits: for id in commits {
         match add_one(awaited, id, common, read) {
@@ -120,6 +123,8 @@ impl KnownCommits {
         ensures common { self.new.common ≡ self.old.common }
         ensures others { (other : ObjectId) → is_awaited self.old.awaited other ≡ true
             → (is_awaited self.new.awaited other ≡ true) ⊎ (id.now ≡ other) }
+        ensures fewer { (other : ObjectId) → is_awaited self.new.awaited other ≡ true → is_awaited self.old.awaited other ≡ true }
+        ensures gone { is_awaited self.new.awaited id.now ≡ false }
     {
         if let Some(awaited) = &mut self.awaited {
             awaited.remove(id);
@@ -136,6 +141,7 @@ impl KnownCommits {
         ensures common { self.new.common ≡ self.old.common }
         ensures keeps { (other : ObjectId) → is_awaited self.old.awaited other ≡ true → is_awaited self.new.awaited other ≡ true }
         ensures known { OnOk result (AreAwaitedOrKnown self.old.read self.old.common self.new.awaited (parents_of self.old.read id.now)) }
+        ensures unknown { AwaitsUnknown self.old → AwaitsUnknown self.new }
     {
         let parents = self.parents(alloc, id)?;
         let Some(awaited) = &mut self.awaited else {
@@ -212,6 +218,7 @@ impl KnownCommits {
         ensures read { self.new.read ≡ self.old.read }
         ensures keeps { KeepsIds self.old.common self.new.common }
         ensures noted { LosesNone self.old self.new }
+        ensures unknown { AwaitsUnknown self.old → AwaitsUnknown self.new }
         ensures adds { (id : ObjectId) → All (IsReachedFrom (commit_at self.old.read) id) waiting.old.items
             → AddsReached self.old.read id self.old.common self.new.common }
         ensures whole { OnOk result (IsSharedBut self.old.read self.old.common waiting.old.items

@@ -8,7 +8,7 @@ ghost use Rattle.gixp_hash.specs.declared.object_id.ObjectId.{ObjectId};
 ghost use Rattle.gixp_hash.specs.ObjectId.{id_cmp};
 ghost use Rattle.gixp_text.specs.Lines.{text_lines};
 ghost use Rattle.gixp_memory.specs.Repository.{commit_line};
-ghost use Rattle.gixp_fetch_local.specs.Known.{parents_of, AreAwaitedOrKnown, LosesNone};
+ghost use Rattle.gixp_fetch_local.specs.Known.{parents_of, AreAwaitedOrKnown, AwaitsUnknown, AwaitsUnknownBut, LosesNone};
 ghost use Rattle.gixp_fetch_local.specs.SharedCommits.{IsSharedBut, IsSharedWhole, Shares, SharesSome};
 ghost use Rattle.gixp_fetch_local.specs.Listed.{id_in, IsNoCommit, ReadsTextLines, ReadsCommit, IsUncommon, OffersNext};
 ghost use Rattle.gixp_fetch_local.specs.Listed.{told_as, ListedOfferFails, KeepsCommitText};
@@ -153,6 +153,7 @@ impl<R: BufRead> CommitText<R> {
         ensures whole { OnOk result (IsSharedBut self.old.known.read self.old.known.common (id.now ∷ [])
             → IsSharedWhole self.new.known.read self.new.known.common) }
         ensures some { finite.contains_key self.old.known.read id.now ≡ true → SharesSome self.old.known id.now self.new.known }
+        ensures unknown { AwaitsUnknownBut self.old.known id.now → AwaitsUnknown self.new.known }
         ensures text { self.new.text ≡ self.old.text }
         ensures line { self.new.line ≡ self.old.line }
         ensures lines { self.new.lines ≡ self.old.lines }
@@ -224,6 +225,7 @@ impl<R: BufRead> ListedCommits<R> {
         ensures read { result.commits.known.read ≡ finite.empty }
         ensures awaited { result.commits.known.awaited ≡ tips }
         ensures common { result.commits.known.common.keys ≡ [] }
+        ensures unknown { AwaitsUnknown result.commits.known }
         ensures lines { result.commits.lines ≡ 0 }
         ensures refusal { result.commits.refusal ≡ None }
         ensures left { result.commits.left ≡ 2 ^ 64 - 1 }

@@ -9,7 +9,8 @@ pub returns-in-Ok-share_waiting-clause-some : goal.returns-in-Ok-share_waiting-c
 returns-in-Ok-share_waiting-clause-some c =
     shares_some c.args.self.now c.share_parents.new.self c.share_waiting.new.self c.args.id c.new-waiting.result.items
     c.share_parents.new.waiting.items c.new-waiting.ensures.items c.share_parents.ensures.some c.in-Ok.ensures.all
-    c.share_waiting.ensures.read c.share_waiting.ensures.keeps c.share_waiting.ensures.noted c.share_waiting.ensures.adds
+    c.share_waiting.ensures.read c.share_waiting.ensures.keeps c.share_waiting.ensures.noted c.share_waiting.ensures.unknown
+    c.share_waiting.ensures.adds
 
 pub returns-in-Ok-share_waiting-clause-all : goal.returns-in-Ok-share_waiting-clause-all
 returns-in-Ok-share_waiting-clause-all c =
@@ -21,4 +22,5 @@ pub returns-clause-some : goal.returns-clause-some
 returns-clause-some c =
     shares_some c.args.self.now c.share_parents.new.self c.share_waiting.new.self c.args.id c.new-waiting.result.items
     c.share_parents.new.waiting.items c.new-waiting.ensures.items c.share_parents.ensures.some c.in-Ok.ensures.all
-    c.share_waiting.ensures.read c.share_waiting.ensures.keeps c.share_waiting.ensures.noted c.share_waiting.ensures.adds
+    c.share_waiting.ensures.read c.share_waiting.ensures.keeps c.share_waiting.ensures.noted c.share_waiting.ensures.unknown
+    c.share_waiting.ensures.adds

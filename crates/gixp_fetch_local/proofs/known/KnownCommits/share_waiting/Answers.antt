@@ -9,6 +9,7 @@ waiting-preserved c = record {
   read = c.share_parents.ensures.some.read ∙ c.waiting.invariant.read;
   keeps = keeps_trans _ _ _ c.waiting.invariant.keeps c.share_parents.ensures.some.keeps;
   noted = loses_none_trans _ _ _ c.waiting.invariant.noted c.share_parents.ensures.some.noted;
+  unknown = λ w. c.share_parents.ensures.some.unknown (c.waiting.invariant.unknown w);
   spreads = shared_more c.args.self.now.read c.args.self.now.common c.args.waiting.now.items c.waiting.self c.share_parents.new.self
       c.waiting.waiting.items c.pop.new.self.items c.share_parents.new.waiting.items c.in-Some.next c.waiting.invariant.read
       c.waiting.invariant.spreads c.in-Some.ensures.items c.share_parents.ensures.some c.in-Ok.ensures.all;

@@ -1,6 +1,6 @@
 -- What waited spread to what waits now.
 use Rattle.std.proofs.Common.{◌≡◌}
-use Rattle.gixp_fetch_local.specs.Known.{KeepsIds, LosesNone}
+use Rattle.gixp_fetch_local.specs.Known.{KeepsIds, LosesNone, AwaitsUnknown}
 use Rattle.gixp_fetch_local.specs.SharedCommits.{SpreadsOn}
 use Rattle.gixp_fetch_local.proofs.known.KnownCommits.share_waiting.Given as goal
 
@@ -9,5 +9,6 @@ invariant-waiting l = record {
   read : l.self.read ≡ l.fn.self.read;
   keeps : KeepsIds l.fn.self.common l.self.common;
   noted : LosesNone l.fn.self l.self;
+  unknown : AwaitsUnknown l.fn.self → AwaitsUnknown l.self;
   spreads : SpreadsOn l.fn.self.read l.fn.self.common l.fn.waiting.items l.self.common l.waiting.items;
 }

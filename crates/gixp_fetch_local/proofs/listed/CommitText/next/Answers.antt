@@ -14,6 +14,7 @@ lines-preserved g c =
       common = c.read_commit.ensures.common;
       awaited = c.read_commit.ensures.awaited;
       shares = c.offer.ensures.some (commit_there _ _ _ _ _ told.read);
+      unknown = c.offer.ensures.unknown;
       text = c.offer.ensures.text;
       left = omega arith;
     } in
@@ -32,6 +33,7 @@ returns-in-Ok-true-clause-offers g c =
       common = c.read_commit.ensures.common;
       awaited = c.read_commit.ensures.awaited;
       shares = c.offer.ensures.some (commit_there _ _ _ _ _ told.read);
+      unknown = c.offer.ensures.unknown;
       text = c.offer.ensures.text;
       left = omega arith;
     } in
