@@ -29,7 +29,7 @@ pub(crate) const BAD_PLACE: u32 = 3;
 
 /// An allocation failed.
 pub(crate) const NO_MEMORY: u32 = 4;
-/// The bytes end before what is read does.
+// The bytes end before what is read does.
 const INCOMPLETE: u32 = 10;
 /// Two mappings go to one local name.
 pub(crate) const CONFLICT: u32 = 51;

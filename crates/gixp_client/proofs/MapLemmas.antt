@@ -40,8 +40,8 @@ as_listed table agent name caps l old new refs t a e h =
     (subst (λ (x : Listing). Listed x old new refs) e h))
 
 -- by what was prepared of these refs
-pub made_of_refs : (table : TableValue) (agent : FeatureValue) (context : Context) (caps : List CapabilityValue) (refs : Vec Ref Global) (plain : Bool)
-    (old new : Reading) (r : Result RefMap MapError) (prepared : Result ObtainRefMap MapError)
+pub made_of_refs : (table : TableValue) (agent : FeatureValue) (context : Context) (caps : List CapabilityValue) (refs : Vec Ref Global)
+    (plain : Bool) (old new : Reading) (r : Result RefMap MapError) (prepared : Result ObtainRefMap MapError)
     → PreparesBy (Some refs) table true agent context caps prepared → ObtainsBy prepared plain old new r
     → (new ≡ old) × MakesMap caps context refs.items r
 made_of_refs table agent context caps refs plain old new r (Ok (Existing m)) p o =

@@ -18,8 +18,8 @@ use gixp_shallow::ShallowUpdate;
 use std::alloc::Global;
 use std::collections::BTreeSet;
 
-/// A negotiation that notes which id the answers take out of the shallow boundary though it isn't in it, as no server may (gitprotocol-pack,
-/// "Packfile Negotiation").
+/// A negotiation that notes which id the answers take out of the shallow boundary though it isn't in it, as no server may
+/// (gitprotocol-pack, "Packfile Negotiation").
 #[derive(Drop)]
 pub struct Watched<'a, N> {
     negotiation: N,

@@ -30,7 +30,7 @@ pub(crate) struct Node {
     end: usize,
 }
 
-/// The number of an id, which gets one if it has none.
+// The number of an id, which gets one if it has none.
 fn number_of(
     nodes: &mut Vec<Node>,
     numbers: &mut Numbers,
@@ -59,7 +59,7 @@ fn number_of(
     Ok(number)
 }
 
-/// The numbers of a node's parents, none where it wasn't found.
+// The numbers of a node's parents, none where it wasn't found.
 fn parents_of<'a>(node: &Node, parents: &'a [usize]) -> &'a [usize]
     requires { IsInRange parents.now node.now }
     ensures { result.now ≡ parent_numbers_of parents.now node.now }
@@ -71,7 +71,7 @@ fn parents_of<'a>(node: &Node, parents: &'a [usize]) -> &'a [usize]
     }
 }
 
-/// The ids that some numbers name.
+// The ids that some numbers name.
 fn ids_named(alloc: Global, nodes: &[Node], numbers: &[usize]) -> Result<Vec<ObjectId>, AllocError>
     requires { AllNamed (ids_of nodes.now) numbers.now }
     ensures { IfOk result (λ ids. ids.items ≡ ids_at (ids_of nodes.now) numbers.now) }
@@ -123,7 +123,7 @@ impl Commits {
         }
     }
 
-    /// Whether a number is that of an id.
+    // Whether a number is that of an id.
     fn names(&self, number: usize, id: &ObjectId) -> bool
         ensures { IsTrue result → (number < length self.now.ids) × (id_at self.now.ids number ≡ id.now) }
     {
@@ -133,7 +133,7 @@ impl Commits {
         false
     }
 
-    /// The number of an id, if it has one. An id that has none isn't held.
+    // The number of an id, if it has one. An id that has none isn't held.
     fn find(&self, id: &ObjectId) -> Option<usize>
         ensures some { IfSome result (λ n. (n < length self.now.ids) × (id_at self.now.ids n ≡ id.now)) }
         ensures none { IfNone result (finite.get self.now.held id.now ≡ None) }
@@ -170,7 +170,7 @@ impl Commits {
         Ok(numbers)
     }
 
-    /// The time and the marks of the commit of a number, where it is held.
+    // The time and the marks of the commit of a number, where it is held.
     fn get_at(&self, number: usize) -> Option<(i64, Flags)>
         requires { number < length self.now.ids }
         ensures value { result ≡ option_map shown (finite.get self.now.held (id_at self.now.ids number)) }
@@ -194,7 +194,7 @@ impl Commits {
         }
     }
 
-    /// The id of a number.
+    // The id of a number.
     fn id(&self, number: usize) -> ObjectId
         requires { number < length self.now.ids }
         ensures { result ≡ id_at self.now.ids number }
@@ -202,7 +202,7 @@ impl Commits {
         self.nodes[number].id
     }
 
-    /// Holds the commit of a number with no marks.
+    // Holds the commit of a number with no marks.
     fn hold(&mut self, number: usize, time: i64, parents: &[ObjectId]) -> Result<(), AllocError>
         requires { number < length self.old.ids }
         ensures ok { OnOk result (self.new.held ≡ finite.insert self.old.held (id_at self.old.ids number)
@@ -305,7 +305,7 @@ impl Commits {
         }
     }
 
-    /// The same for the commit of a number.
+    // The same for the commit of a number.
     fn parents_at(&self, alloc: Global, number: usize) -> Result<Vec<ObjectId>, AllocError>
         requires { number < length self.now.ids }
         ensures { IfOk result (λ parents. parents.items ≡ parents_in self.now.held (id_at self.now.ids number)) }

@@ -42,14 +42,14 @@ pub(crate) struct Numbers {
     others: BTreeMap<ObjectId, usize>,
 }
 
-/// The first bytes of an id.
+// The first bytes of an id.
 fn tag_of(id: &ObjectId) -> u32
     ensures { result ≡ tag_of id.now }
 {
     u32::from_le_bytes([id.bytes[0], id.bytes[1], id.bytes[2], id.bytes[3]])
 }
 
-/// The first slot of a tag's window that is free or has the tag.
+// The first slot of a tag's window that is free or has the tag.
 fn place(slots: &[Slot], mask: usize, tag: u32) -> Option<usize>
     ensures { result ≡ place_of slots.now mask tag }
 {
@@ -66,7 +66,7 @@ fn place(slots: &[Slot], mask: usize, tag: u32) -> Option<usize>
     None
 }
 
-/// Whether a number is that of a node with an id.
+// Whether a number is that of a node with an id.
 fn is_named(nodes: &[Node], number: usize, id: &ObjectId) -> bool
     ensures { IsTrue result ↔ ((number < length (ids_of nodes.now)) × (id_at (ids_of nodes.now) number ≡ id.now)) }
 {
@@ -90,7 +90,7 @@ impl Numbers {
         }
     }
 
-    /// The number that the ordered map has under an id, if its node has the id.
+    // The number that the ordered map has under an id, if its node has the id.
     fn other(&self, nodes: &[Node], id: &ObjectId) -> Option<usize>
         ensures some { IfSome result (λ n. (n < length (ids_of nodes.now)) × (id_at (ids_of nodes.now) n ≡ id.now)) }
         ensures none { IfNone result (IsNoOther (ids_of nodes.now) self.now.others.entries id.now) }
@@ -122,7 +122,7 @@ impl Numbers {
         self.other(nodes, id)
     }
 
-    /// Writes the number of an id into its slot, if that is free. Returns whether it is there.
+    // Writes the number of an id into its slot, if that is free. Returns whether it is there.
     fn write(&mut self, id: &ObjectId, number: usize) -> bool
         ensures kept { (q : ObjectId) (n : ℕ) → IsReached self.old q n → IsReached self.new q n }
         ensures placed { IsTrue result → IsReached self.new id.now number }
@@ -145,7 +145,7 @@ impl Numbers {
         false
     }
 
-    /// Writes the number of an id.
+    // Writes the number of an id.
     fn put(&mut self, id: &ObjectId, number: usize) -> Result<(), AllocError>
         ensures kept { Keeps self.old self.new id.now }
         ensures reached { OnOk result (IsReached self.new id.now number) }
@@ -159,7 +159,7 @@ impl Numbers {
         }
     }
 
-    /// Writes the numbers of all nodes into more slots, where half of the slots may be taken.
+    // Writes the numbers of all nodes into more slots, where half of the slots may be taken.
     fn grow(&mut self, nodes: &[Node]) -> Result<(), AllocError>
         requires once { IsOneToOne (ids_of nodes.now) }
         requires numbered { IsNumbered (ids_of nodes.now) self.old }

@@ -36,7 +36,7 @@ impl Model for TimeQueue {
     ghost invariant = { λ a. StandsFirst a.newest a.others };
 }
 
-/// Two entries, the newer one first.
+// Two entries, the newer one first.
 fn newer_first(a: Entry, b: Entry) -> (Entry, Entry)
     ensures both { (result ≡ (a, b)) ⊎ (result ≡ (b, a)) }
     ensures newer { result.1.time ≤ℤ result.0.time }

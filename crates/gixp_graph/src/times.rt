@@ -41,7 +41,7 @@ impl Model for Times {
     ghost invariant = { λ a. IsTimes a.links.items a.newest a.lists.entries };
 }
 
-/// What is left of a list where its first number is taken.
+// What is left of a list where its first number is taken.
 fn rest_of(links: &[Link], list: (i64, Link)) -> Option<(i64, Link)>
     requires { list.1.next ≤ length links.now }
     ensures { IsRest links.now list result }
@@ -54,7 +54,7 @@ fn rest_of(links: &[Link], list: (i64, Link)) -> Option<(i64, Link)>
     }
 }
 
-/// A list with one number more, before the others.
+// A list with one number more, before the others.
 fn longer(links: &mut Vec<Link>, number: usize, numbers: Link) -> Result<Link, AllocError>
     ensures links { OnOk result (links.new.items ≡ links.old.items ++ numbers ∷ []) }
     ensures longer { IfOk result (λ more. more ≡ record { number = number; next = length links.old.items + 1 }) }
@@ -67,7 +67,7 @@ fn longer(links: &mut Vec<Link>, number: usize, numbers: Link) -> Result<Link, A
     })
 }
 
-/// Writes the list of a time.
+// Writes the list of a time.
 fn put(lists: &mut BTreeMap<i64, Link>, time: i64, numbers: Link) -> Result<(), AllocError>
     ensures ok { OnOk result (lists.new.entries ≡ insert_entry int_cmp lists.old.entries time numbers) }
     ensures err { OnErr result (lists.new.entries ≡ lists.old.entries) }
@@ -78,7 +78,7 @@ fn put(lists: &mut BTreeMap<i64, Link>, time: i64, numbers: Link) -> Result<(), 
     }
 }
 
-/// Puts a list back under its time, where there is one.
+// Puts a list back under its time, where there is one.
 fn put_back(newest: Option<(i64, Link)>, lists: &mut BTreeMap<i64, Link>) -> Result<(), AllocError>
     ensures ok { OnOk result (lists.new.entries ≡ with_list newest lists.old.entries) }
     ensures err { OnErr result (lists.new.entries ≡ lists.old.entries) }
@@ -89,7 +89,7 @@ fn put_back(newest: Option<(i64, Link)>, lists: &mut BTreeMap<i64, Link>) -> Res
     }
 }
 
-/// Adds a number to the list of its time.
+// Adds a number to the list of its time.
 fn add(
     links: &mut Vec<Link>,
     lists: &mut BTreeMap<i64, Link>,
@@ -113,7 +113,7 @@ fn add(
     put(lists, entry.time, more)
 }
 
-/// Takes the list of the greatest time: the one beside the map, where there is one.
+// Takes the list of the greatest time: the one beside the map, where there is one.
 fn take_list(newest: Option<(i64, Link)>, lists: &mut BTreeMap<i64, Link>) -> Option<(i64, Link)>
     ensures some { IfSome result (λ list. TakesList newest lists.old.entries list lists.new.entries) }
     ensures none { IfNone result ((newest ≡ None) × (lists.old.entries ≡ []) × (lists.new.entries ≡ [])) }
@@ -145,7 +145,7 @@ impl Times {
         add(&mut self.links, &mut self.lists, entry)
     }
 
-    /// The greatest time.
+    // The greatest time.
     fn newest_time(&self) -> Option<i64>
         ensures some { IfSome result (λ t. All (λ e. e.time ≤ℤ t) self.now) }
         ensures none { IfNone result (self.now ≡ []) }

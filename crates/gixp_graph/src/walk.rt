@@ -22,7 +22,7 @@ use bitflags::Flags as _;
 use gixp_hash::ObjectId;
 use std::alloc::Global;
 
-/// Marks the commit of a number, where it is found. Returns its time.
+// Marks the commit of a number, where it is found. Returns its time.
 fn mark_found<O: Objects>(
     alloc: Global,
     objects: &mut O,
@@ -55,7 +55,7 @@ fn mark_found<O: Objects>(
     Ok(Some(time))
 }
 
-/// Marks the commit of a number and queues it, where it wasn't visited before and is found.
+// Marks the commit of a number and queues it, where it wasn't visited before and is found.
 fn visit<O: Objects>(
     alloc: Global,
     objects: &mut O,
@@ -96,7 +96,7 @@ fn visit<O: Objects>(
     }
 }
 
-/// The same for the commits of some numbers.
+// The same for the commits of some numbers.
 fn visit_each<O: Objects>(
     alloc: Global,
     objects: &mut O,

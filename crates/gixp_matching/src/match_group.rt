@@ -141,7 +141,7 @@ impl Mapping {
     }
 }
 
-/// The id that a refspec names, if there is one.
+// The id that a refspec names, if there is one.
 fn id_named(spec: Option<&RefSpecRef<'_>>) -> Option<ObjectId>
     ensures { option_map (λ id. id.bytes) result ≡ id_for (option_map value_of (option_copied spec.entry)) }
 {
@@ -249,7 +249,7 @@ impl<'s> MatchGroup<'s> {
         id_named(self.specs.get(spec_index))
     }
 
-    /// The mappings of the refs, each source and local name once.
+    // The mappings of the refs, each source and local name once.
     fn mappings(&self, alloc: Global, items: &[Item<'_>]) -> Result<Vec<Mapping>, AllocError>
         ensures { IfOk result (λ found. mapped_in found ≡ mappings (group_specs self.now) (names items.now)) }
     {

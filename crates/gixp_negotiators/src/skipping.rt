@@ -26,7 +26,7 @@ use gixp_hash::ObjectId;
 use std::alloc::Global;
 use std::collections::{BTreeMap, BTreeSet};
 
-/// How many commits are passed over before the next is offered.
+// How many commits are passed over before the next is offered.
 #[derive(Clone, Copy)]
 struct Skip {
     // As it began.
@@ -35,7 +35,7 @@ struct Skip {
     left: u32,
 }
 
-/// What the parents of a commit that was taken get from it.
+// What the parents of a commit that was taken get from it.
 #[derive(Clone, Copy)]
 enum Legacy {
     Common,

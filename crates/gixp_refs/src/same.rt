@@ -7,21 +7,21 @@ use crate::handshake::Ref;
 use crate::handshake::refs::parse::Invariant;
 use std::cmp::Ordering;
 
-/// Two refs are equal exactly where they are one value.
+// Two refs are equal exactly where they are one value.
 fn is_same_ref(one: &Ref, other: &Ref) -> bool
     ensures { IsTrue result ↔ (ref_value one.now ≡ ref_value other.now) }
 {
     one == other
 }
 
-/// Refs are ordered by their kinds, their names, and then what they name.
+// Refs are ordered by their kinds, their names, and then what they name.
 fn order_of_refs(first: &Ref, second: &Ref) -> Ordering
     ensures { result ≡ ref_cmp (ref_value first.now) (ref_value second.now) }
 {
     first.cmp(second)
 }
 
-/// Two reasons why lines don't go together are equal exactly where they are one.
+// Two reasons why lines don't go together are equal exactly where they are one.
 fn is_same_invariant(left: &Invariant, right: &Invariant) -> bool
     ensures { IsTrue result ↔ (left.now ≡ right.now) }
 {

@@ -9,11 +9,11 @@ use crate::parse::Error;
 use bstr::{BStr, BString, ByteSlice};
 use std::alloc::AllocError;
 
-/// The bytes that a name must not have, beside blanks and control characters.
+// The bytes that a name must not have, beside blanks and control characters.
 const FORBIDDEN: &[u8] = b"~^:?[\\";
 
 #[tactic(auto, unfolding(crate::specs::Name::is_name_byte))]
-/// Whether the byte may stand in a name.
+// Whether the byte may stand in a name.
 fn is_name_byte(byte: u8) -> bool
     ensures { result ≡ is_name_byte byte }
 {
@@ -21,28 +21,28 @@ fn is_name_byte(byte: u8) -> bool
 }
 
 #[tactic(auto, unfolding(crate::specs::Name::is_component))]
-/// Whether the bytes may stand between two slashes.
+// Whether the bytes may stand between two slashes.
 fn is_component(part: &[u8]) -> bool
     ensures { result ≡ is_component part.now }
 {
     !part.is_empty() && !part.starts_with(b".") && !part.ends_with(b".lock")
 }
 
-/// Whether the text stands somewhere in the name.
+// Whether the text stands somewhere in the name.
 fn has_text(name: &[u8], text: &[u8]) -> bool
     ensures { result ≡ occurs text.now name.now }
 {
     name.contains_str(text)
 }
 
-/// Whether each byte may stand in a name.
+// Whether each byte may stand in a name.
 fn has_name_bytes(name: &[u8]) -> bool
     ensures { result ≡ list_all is_name_byte name.now }
 {
     name.iter().all(|byte| is_name_byte(*byte))
 }
 
-/// Whether each part between slashes may stand there.
+// Whether each part between slashes may stand there.
 fn has_components(name: &[u8]) -> bool
     ensures { result ≡ list_all is_component (components name.now) }
 {

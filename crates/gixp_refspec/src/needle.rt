@@ -72,7 +72,7 @@ impl<'a> Needle<'a> {
     }
 }
 
-/// The place of the first asterisk.
+// The place of the first asterisk.
 fn star_in(text: &[u8]) -> Option<usize>
     ensures place { result ≡ position is_star text.now }
     ensures within { IfSome result (λ i. i < length text.now) }
@@ -91,7 +91,7 @@ pub fn around_star(text: &[u8]) -> Option<(&[u8], &[u8])>
     }
 }
 
-/// What comes between front and back.
+// What comes between front and back.
 fn between<'a>(front: &[u8], back: &[u8], name: &'a [u8]) -> Option<&'a [u8]>
     ensures { option_copied result ≡ between front.now back.now name.now }
 {
@@ -101,7 +101,7 @@ fn between<'a>(front: &[u8], back: &[u8], name: &'a [u8]) -> Option<&'a [u8]>
     }
 }
 
-/// Whether the name is front, middle and back.
+// Whether the name is front, middle and back.
 fn is_joined(name: &[u8], front: &[u8], middle: &[u8], back: &[u8]) -> bool
     ensures { result ≡ bytes_eq name.now (front.now ++ (middle.now ++ back.now)) }
 {
@@ -114,7 +114,7 @@ fn is_joined(name: &[u8], front: &[u8], middle: &[u8], back: &[u8]) -> bool
     }
 }
 
-/// Whether some rule makes the name of the short name.
+// Whether some rule makes the name of the short name.
 fn is_made_by(rules: &[(&[u8], &[u8])], short: &[u8], name: &[u8]) -> bool
     ensures { result ≡ list_any (λ rule. bytes_eq name.now (joined short.now (rule_of rule))) rules.now }
 {
@@ -123,7 +123,7 @@ fn is_made_by(rules: &[(&[u8], &[u8])], short: &[u8], name: &[u8]) -> bool
         .any(|(front, back)| is_joined(name, front, short, back))
 }
 
-/// Whether the short name stands for the name.
+// Whether the short name stands for the name.
 #[tactic(auto, unfolding(crate::specs::Matching::candidates))]
 fn is_candidate(short: &[u8], name: &[u8]) -> bool
     ensures { result ≡ list_any (λ candidate. bytes_eq name.now candidate) (candidates short.now) }
@@ -131,7 +131,7 @@ fn is_candidate(short: &[u8], name: &[u8]) -> bool
     is_made_by(&RULES, short, name)
 }
 
-/// The empty middle of a name that passed a test.
+// The empty middle of a name that passed a test.
 fn where_true<'a>(is_match: bool) -> Option<&'a [u8]>
     ensures { option_copied result ≡ where_true is_match }
 {

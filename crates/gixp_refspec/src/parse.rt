@@ -42,14 +42,14 @@ pub enum Error {
     InvalidName,
 }
 
-/// The place of the first colon.
+// The place of the first colon.
 fn colon_in(body: &[u8]) -> Option<usize>
     ensures { result ≡ position is_colon body.now }
 {
     body.iter().position(|byte| *byte == b':')
 }
 
-/// The place of the first colon, or the end.
+// The place of the first colon, or the end.
 fn colon_at(body: &[u8]) -> usize
     ensures place { result ≡ position_or_len is_colon body.now }
     ensures within { result ≤ length body.now }
@@ -57,14 +57,14 @@ fn colon_at(body: &[u8]) -> usize
     colon_in(body).unwrap_or(body.len())
 }
 
-/// What comes before the first colon.
+// What comes before the first colon.
 fn before_colon(body: &[u8]) -> &[u8]
     ensures { result.now ≡ before_first is_colon body.now }
 {
     &body[..colon_at(body)]
 }
 
-/// What comes after the first colon.
+// What comes after the first colon.
 fn after_colon(body: &[u8]) -> &[u8]
     ensures { result.now ≡ after_first is_colon body.now }
 {
@@ -76,7 +76,7 @@ fn after_colon(body: &[u8]) -> &[u8]
     }
 }
 
-/// The source of a positive refspec.
+// The source of a positive refspec.
 fn source_in(body: &[u8]) -> &[u8]
     ensures { result.now ≡ source_in body.now }
 {
@@ -84,7 +84,7 @@ fn source_in(body: &[u8]) -> &[u8]
     if source.is_empty() { b"HEAD" } else { source }
 }
 
-/// The destination of a positive refspec.
+// The destination of a positive refspec.
 fn destination_in(body: &[u8]) -> Option<&[u8]>
     ensures { option_copied result ≡ destination_in body.now }
 {
@@ -96,7 +96,7 @@ fn destination_in(body: &[u8]) -> Option<&[u8]>
     }
 }
 
-/// Why a negative refspec is refused.
+// Why a negative refspec is refused.
 #[tactic(auto, unfolding(crate::specs::Spec::negative_fault))]
 fn negative_fault(source: &[u8]) -> Option<Error>
     ensures { result ≡ negative_fault source.now }
@@ -116,7 +116,7 @@ fn negative_fault(source: &[u8]) -> Option<Error>
     }
 }
 
-/// Why a positive refspec without a destination is refused.
+// Why a positive refspec without a destination is refused.
 #[tactic(auto, unfolding(crate::specs::Spec::source_fault))]
 fn source_fault(source: &[u8]) -> Option<Error>
     ensures { result ≡ source_fault source.now }
@@ -130,7 +130,7 @@ fn source_fault(source: &[u8]) -> Option<Error>
     }
 }
 
-/// Why a positive refspec with a destination is refused.
+// Why a positive refspec with a destination is refused.
 #[tactic(auto, unfolding(crate::specs::Spec::pair_fault))]
 fn pair_fault(source: &[u8], destination: &[u8]) -> Option<Error>
     ensures { result ≡ pair_fault source.now destination.now }
@@ -146,7 +146,7 @@ fn pair_fault(source: &[u8], destination: &[u8]) -> Option<Error>
     }
 }
 
-/// Why the parts of a refspec are refused.
+// Why the parts of a refspec are refused.
 fn fault_in(sign: Sign, source: &[u8], destination: Option<&[u8]>) -> Option<Error>
     ensures { result ≡ fault_in sign source.now (option_copied destination.entry) }
 {
@@ -158,14 +158,14 @@ fn fault_in(sign: Sign, source: &[u8], destination: Option<&[u8]>) -> Option<Err
     }
 }
 
-/// The parts of a refspec.
+// The parts of a refspec.
 struct Parts<'a> {
     sign: Sign,
     source: &'a [u8],
     destination: Option<&'a [u8]>,
 }
 
-/// The text after its first byte.
+// The text after its first byte.
 fn behind_sign(text: &[u8]) -> &[u8]
     requires { 1 ≤ length text.now }
     ensures { result.now ≡ drop 1 text.now }
@@ -173,7 +173,7 @@ fn behind_sign(text: &[u8]) -> &[u8]
     &text[1..]
 }
 
-/// Cuts a text, by its first byte and its first colon.
+// Cuts a text, by its first byte and its first colon.
 #[tactic(auto, unfolding(crate::specs::Spec::parts_of))]
 fn parts_of(text: &[u8]) -> Parts<'_>
     ensures { spec result.sign result.source.now (option_copied result.destination) ≡ parts_of text.now }

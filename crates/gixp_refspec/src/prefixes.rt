@@ -9,7 +9,7 @@ use crate::text::joined;
 use bstr::BString;
 use std::alloc::{AllocError, Global};
 
-/// Appends a text.
+// Appends a text.
 fn push_text(out: &mut Vec<BString>, text: BString) -> Result<(), AllocError>
     ensures ok { OnOk result (texts out.new ≡ texts out.old ++ bstring_bytes text ∷ []) }
     ensures err { OnErr result (texts out.new ≡ texts out.old) }
@@ -18,7 +18,7 @@ fn push_text(out: &mut Vec<BString>, text: BString) -> Result<(), AllocError>
     Ok(())
 }
 
-/// Appends the three texts as one.
+// Appends the three texts as one.
 fn push_joined(
     alloc: Global,
     out: &mut Vec<BString>,
@@ -33,7 +33,7 @@ fn push_joined(
     push_text(out, text)
 }
 
-/// Appends what each rule makes of the short name.
+// Appends what each rule makes of the short name.
 fn push_made(
     alloc: Global,
     out: &mut Vec<BString>,
@@ -48,7 +48,7 @@ fn push_made(
     Ok(())
 }
 
-/// Appends one prefix.
+// Appends one prefix.
 fn push_prefix(alloc: Global, out: &mut Vec<BString>, prefix: &[u8]) -> Result<(), AllocError>
     ensures { AddsSome result (texts out.old) (prefix.now ∷ []) (texts out.new) }
 {

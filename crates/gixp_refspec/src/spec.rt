@@ -131,7 +131,7 @@ impl<'a> RefSpecRef<'a> {
         self.push_prefixes(alloc, out)
     }
 
-    /// Appends the prefixes of a positive refspec.
+    // Appends the prefixes of a positive refspec.
     #[tactic(auto, unfolding(crate::specs::Matching::prefixes_of))]
     fn push_prefixes(&self, alloc: Global, out: &mut Vec<BString>) -> Result<(), AllocError>
         ensures { AddsSome result (texts out.old) (prefixes_of (value_of self.now)) (texts out.new) }
@@ -155,7 +155,7 @@ impl<'a> RefSpecRef<'a> {
         self.written(alloc)
     }
 
-    /// Sign, source, and after a colon the destination.
+    // Sign, source, and after a colon the destination.
     fn written(&self, alloc: Global) -> Result<BString, AllocError>
         ensures { IfOk result (λ t. bstring_bytes t ≡ text_of (value_of self.now)) }
     {
@@ -170,7 +170,7 @@ impl<'a> RefSpecRef<'a> {
     }
 }
 
-/// How a sign is written.
+// How a sign is written.
 fn sign_text(sign: Sign) -> &'static [u8]
     ensures { result.now ≡ sign_text sign }
 {
@@ -181,7 +181,7 @@ fn sign_text(sign: Sign) -> &'static [u8]
     }
 }
 
-/// A copy of a destination.
+// A copy of a destination.
 fn owned(alloc: Global, text: Option<&[u8]>) -> Result<Option<BString>, AllocError>
     ensures { IfOk result (λ o. option_map bstring_bytes o ≡ option_copied text.entry) }
 {
@@ -246,7 +246,7 @@ impl Clone for RefSpec {
     }
 }
 
-/// The bytes of a destination.
+// The bytes of a destination.
 fn borrowed(text: &Option<BString>) -> Option<&[u8]>
     ensures { option_copied result ≡ option_map bstring_bytes text.now }
 {

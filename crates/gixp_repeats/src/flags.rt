@@ -5,7 +5,7 @@ ghost use Rattle.gixp_repeats.specs.Repeats.{is_first, marked, tested_from};
 
 use std::alloc::{AllocError, Global};
 
-/// Takes the flag of a place.
+// Takes the flag of a place.
 fn take_flag(flags: &mut Vec<bool>, place: usize, is_same: bool)
     ensures { flags.new.items ≡ (if is_same then slice_set flags.old.items place false else flags.old.items) }
 {
@@ -28,7 +28,7 @@ pub fn mark<K: Ord>(rows: &[(K, usize)], flags: &mut Vec<bool>)
     }
 }
 
-/// A flag for each row, none of which was taken.
+// A flag for each row, none of which was taken.
 fn untaken<K>(alloc: Global, rows: &[(K, usize)]) -> Result<Vec<bool>, AllocError>
     ensures { IfOk result (λ flags. flags.items ≡ tested_from (λ place. true) 0 rows.now) }
 {

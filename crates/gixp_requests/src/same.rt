@@ -6,14 +6,14 @@ ghost use Rattle.gixp_requests.specs.Order.{command_place};
 use crate::command::Command;
 use std::cmp::Ordering;
 
-/// Two commands are equal exactly where they are one value.
+// Two commands are equal exactly where they are one value.
 fn is_same_command(one: &Command, other: &Command) -> bool
     ensures { IsTrue result ↔ (one.now ≡ other.now) }
 {
     one == other
 }
 
-/// `ls-refs` comes before `fetch`.
+// `ls-refs` comes before `fetch`.
 fn order_of_commands(first: &Command, second: &Command) -> Ordering
     ensures { result ≡ nat_cmp (command_place first.now) (command_place second.now) }
 {

@@ -8,28 +8,28 @@ use crate::shallow::Shallow;
 use crate::update::ShallowUpdate;
 use std::cmp::Ordering;
 
-/// Two shallow updates are equal exactly where they are one value.
+// Two shallow updates are equal exactly where they are one value.
 fn is_same_update(left: &ShallowUpdate, right: &ShallowUpdate) -> bool
     ensures { IsTrue result ↔ (left.now ≡ right.now) }
 {
     left == right
 }
 
-/// Those that make a commit shallow stand first, and each kind is ordered by the ids.
+// Those that make a commit shallow stand first, and each kind is ordered by the ids.
 fn order_of_updates(earlier: &ShallowUpdate, later: &ShallowUpdate) -> Ordering
     ensures { result ≡ update_cmp earlier.now later.now }
 {
     earlier.cmp(later)
 }
 
-/// Where nothing is said, the boundary stays.
+// Where nothing is said, the boundary stays.
 fn usual_boundary() -> Shallow
     ensures { result ≡ NoChange }
 {
     Shallow::default()
 }
 
-/// Two wishes are equal exactly where they are one value.
+// Two wishes are equal exactly where they are one value.
 fn is_same_boundary(a: &Shallow, b: &Shallow) -> bool
     ensures { IsTrue result ↔ (shallow_value a.now ≡ shallow_value b.now) }
 {

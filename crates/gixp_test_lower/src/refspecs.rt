@@ -59,7 +59,7 @@ fn check_copy<T: Clone + PartialEq>(rt: &impl Abort, value: &T) -> Result<(), Al
     Ok(())
 }
 
-/// A refspec with each of its parts.
+// A refspec with each of its parts.
 const SPEC: &[u8] = b"+a:refs/heads/b";
 
 fn check_owned(rt: &impl Abort, alloc: Global, spec: &RefSpec) -> Result<(), AllocError> {

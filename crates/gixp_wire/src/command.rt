@@ -73,7 +73,7 @@ pub(crate) fn command_lines(
     Ok(lines)
 }
 
-/// Appends the lines as messages.
+// Appends the lines as messages.
 fn push_lines<'a>(messages: &mut Vec<Message<'a>>, lines: &'a [BString]) -> Result<(), AllocError>
     ensures { OnOk result (map message_value messages.new.items ≡ map message_value messages.old.items
         ++ map text (map bstring_bytes lines.now)) }

@@ -10,7 +10,7 @@ use bstr::BString;
 use gixp_packetline::Protocol;
 use std::alloc::{AllocError, Global};
 
-/// The number of bytes of the longest payload of a frame (gitprotocol-common, "pkt-line Format").
+// The number of bytes of the longest payload of a frame (gitprotocol-common, "pkt-line Format").
 const MAX_PAYLOAD: usize = 65516;
 
 // How many bytes the host takes, up to the greatest number.

@@ -37,7 +37,7 @@ impl ServerMessage for CopyError {
     }
 }
 
-/// Takes the error of a read that failed out of the reader.
+// Takes the error of a read that failed out of the reader.
 fn read_error<T: ExtendedBufRead, Q: Progress + Drop, I: Interrupt>(
     reader: &mut WithSidebands<'_, T, Q, I>,
     shown: &io::Error,

@@ -1,5 +1,5 @@
-//! Numbers that tell most keys apart. A server can choose names, but hardly names of one number: their bytes go through the
-//! rounds of SipHash-2-4, which aren't linear, so that no pieces make names of one number however they are put together.
+//! Hashes of keys, by SipHash-2-4 under a fixed key. A server can choose names, but hardly names of one hash: the rounds aren't
+//! linear, so that no pieces make names of one hash however they are put together.
 ghost use Rattle.std.specs.Prelude.{◌≡◌};
 ghost use Rattle.std.specs.List.{fold};
 ghost use Rattle.gixp_matching.specs.Apart.{key_parts};
@@ -24,7 +24,7 @@ pub(crate) fn step(number: u64, byte: u8) -> u64
     number.wrapping_mul(256).wrapping_add(u64::from(byte))
 }
 
-/// The number with some bytes more.
+// The number with some bytes more.
 fn packed(number: u64, bytes: &[u8]) -> u64
     ensures { result ≡ fold step number bytes.now }
 {
@@ -43,7 +43,7 @@ pub(crate) fn tail(name: &[u8]) -> u64
     packed(0, &name[name.len().saturating_sub(8)..])
 }
 
-/// A sum, and one of its parts turned and mixed with it.
+// A sum, and the second of its parts turned and mixed with it.
 #[tactic(auto, unfolding(crate::specs::Digest::turned))]
 fn turned(x: u64, y: u64, count: u32) -> (u64, u64)
     ensures { result ≡ turned x y count }
@@ -52,7 +52,7 @@ fn turned(x: u64, y: u64, count: u32) -> (u64, u64)
     (sum, y.rotate_left(count) ^ sum)
 }
 
-/// One round over the four words.
+// One round over the four words.
 #[tactic(auto, unfolding(crate::specs::Digest::round))]
 fn round(state: State) -> State
     ensures { result ≡ round state }
@@ -69,7 +69,7 @@ fn round(state: State) -> State
     }
 }
 
-/// The state after one word more.
+// The state after one word more.
 #[tactic(auto, unfolding(crate::specs::Digest::absorbed))]
 fn absorb(state: State, word: u64) -> State
     ensures { result ≡ absorbed state word }
@@ -89,7 +89,7 @@ fn absorb(state: State, word: u64) -> State
     }
 }
 
-/// The state after some words more.
+// The state after some words more.
 fn absorb_words(state: State, words: &[[u8; 8]]) -> State
     ensures { result ≡ fold with_word state words.now }
 {
@@ -100,7 +100,7 @@ fn absorb_words(state: State, words: &[[u8; 8]]) -> State
     now
 }
 
-/// The state after some bytes more, and their count.
+// The state after some bytes more, and their count.
 #[tactic(auto, unfolding(crate::specs::Digest::with_bytes))]
 fn absorb_bytes(state: State, bytes: &[u8]) -> State
     ensures { result ≡ with_bytes state bytes.now }
@@ -110,7 +110,7 @@ fn absorb_bytes(state: State, bytes: &[u8]) -> State
     absorb(state, packed(bytes.len() as u64, rest))
 }
 
-/// The state before any bytes.
+// The state before any bytes.
 fn start() -> State
     ensures { result ≡ start }
 {
@@ -122,7 +122,7 @@ fn start() -> State
     }
 }
 
-/// The number of a state.
+// The hash of a state.
 #[tactic(auto, unfolding(crate::specs::Digest::number_of))]
 fn number_of(state: State) -> u64
     ensures { result ≡ number_of state }
@@ -137,14 +137,14 @@ fn number_of(state: State) -> u64
     last.a ^ last.b ^ last.c ^ last.d
 }
 
-/// The number of a name.
+/// The hash of a name.
 pub(crate) fn name_digest(name: &KeyBytes<'_>) -> u64
     ensures { result ≡ digest (key_bytes name.now) }
 {
     number_of(absorb_bytes(start(), name.bytes))
 }
 
-/// The bytes of a source.
+// The bytes of a source.
 fn source_bytes<'a>(source: &KeySource<'a>) -> KeyBytes<'a>
     ensures { key_bytes result ≡ bytes_of (key_source source.now) }
 {
@@ -154,7 +154,7 @@ fn source_bytes<'a>(source: &KeySource<'a>) -> KeyBytes<'a>
     }
 }
 
-/// The number of a source and a local name.
+/// The hash of a source and a local name.
 pub(crate) fn key_digest(key: &Key<'_>) -> u64
     ensures { result ≡ parts_digest (key_parts key.now) }
 {

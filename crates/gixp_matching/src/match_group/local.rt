@@ -13,7 +13,7 @@ use gixp_refspec::spec::RefSpecRef;
 use gixp_refspec::text::joined;
 use std::alloc::{AllocError, Global};
 
-/// A destination that is no pattern, as the whole name of a ref.
+// A destination that is no pattern, as the whole name of a ref.
 #[tactic(auto, unfolding(gixp_refspec::specs::Matching::full_local))]
 fn full_local(alloc: Global, destination: &[u8]) -> Result<BString, AllocError>
     ensures { IfOk result (λ name. bstring_bytes name ≡ full_local destination.now) }
@@ -30,7 +30,7 @@ fn full_local(alloc: Global, destination: &[u8]) -> Result<BString, AllocError>
     }
 }
 
-/// The local name of a destination, for the middle of what matched.
+// The local name of a destination, for the middle of what matched.
 #[inline(always)]
 #[tactic(auto, unfolding(gixp_refspec::specs::Matching::local_in))]
 fn local_in(alloc: Global, middle: &[u8], destination: &[u8]) -> Result<BString, AllocError>

@@ -11,7 +11,7 @@ use crate::match_group::{Item, Mapping, MatchGroup, Place, SourceRef};
 use bstr::BString;
 use std::alloc::{AllocError, Global};
 
-/// The name of the ref at a place, where there is one.
+// The name of the ref at a place, where there is one.
 fn name_at(alloc: Global, items: &[Item<'_>], index: usize) -> Result<Option<SourceRef>, AllocError>
     ensures { IfOk result (λ found. option_map source_of found ≡ option_map FullName (slice_get (names items.now) index)) }
 {
@@ -24,7 +24,7 @@ fn name_at(alloc: Global, items: &[Item<'_>], index: usize) -> Result<Option<Sou
     }
 }
 
-/// What the mapping of a place takes.
+// What the mapping of a place takes.
 fn source_at(
     alloc: Global,
     group: &MatchGroup<'_>,
@@ -40,7 +40,7 @@ fn source_at(
     }
 }
 
-/// The local name that the refspec at a place gives the source.
+// The local name that the refspec at a place gives the source.
 fn local_at(
     alloc: Global,
     group: &MatchGroup<'_>,
@@ -56,7 +56,7 @@ fn local_at(
     }
 }
 
-/// The mapping of a place, where there are such a ref and such a refspec.
+// The mapping of a place, where there are such a ref and such a refspec.
 fn mapping_at(
     alloc: Global,
     group: &MatchGroup<'_>,
@@ -77,7 +77,7 @@ fn mapping_at(
     }))
 }
 
-/// Appends a mapping, where one was found.
+// Appends a mapping, where one was found.
 fn push_found(out: &mut Vec<Mapping>, found: Option<Mapping>) -> Result<(), AllocError>
     ensures { OnOk result (mapped_in out.new ≡ mapped_in out.old ++ option_to_list (option_map mapped_of found)) }
 {
@@ -87,7 +87,7 @@ fn push_found(out: &mut Vec<Mapping>, found: Option<Mapping>) -> Result<(), Allo
     Ok(())
 }
 
-/// The mappings of some places.
+// The mappings of some places.
 fn mappings_at(
     alloc: Global,
     group: &MatchGroup<'_>,

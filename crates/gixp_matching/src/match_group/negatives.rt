@@ -23,7 +23,7 @@ pub(crate) struct Prepared<'s> {
     pub(crate) others: Vec<Needle<'s>>,
 }
 
-/// AddsConflicts the source of a negative refspec.
+// AddsConflicts the source of a negative refspec.
 fn push_negative<'s>(
     names: &mut Vec<Row<'s>>,
     others: &mut Vec<Needle<'s>>,
@@ -65,7 +65,7 @@ pub(crate) fn prepare<'s>(
     })
 }
 
-/// Whether the name is one of these.
+// Whether the name is one of these.
 fn has_name(names: &[Row<'_>], name: &[u8]) -> bool
     requires { AreByName names.now }
     ensures { result ≡ list_any (is_row_of name.now) names.now }
@@ -73,7 +73,7 @@ fn has_name(names: &[Row<'_>], name: &[u8]) -> bool
     !rows_named(names, name).is_empty()
 }
 
-/// Whether some needle matches the name.
+// Whether some needle matches the name.
 fn has_match(needles: &[Needle<'_>], name: &[u8]) -> bool
     ensures { result ≡ list_any (λ needle. is_some (middle_with needle name.now)) needles.now }
 {

@@ -18,7 +18,7 @@ use crate::match_group::validate::{self, Fix, validated};
 use gixp_refspec::spec::RefSpecRef;
 use std::alloc::{AllocError, Global};
 
-/// Whether sources and local names rise, and each local name is a whole name of a ref.
+// Whether sources and local names rise, and each local name is a whole name of a ref.
 fn are_plain<M: AsMapping>(mappings: &[M]) -> bool
     ensures firsts { IsTrue result → firsts (map M.mapped mappings.now) ≡ map M.mapped mappings.now }
     ensures apart { IsTrue result → IsDistinct bytes_eq (locals (map M.mapped mappings.now)) }

@@ -25,7 +25,7 @@ pub(crate) struct Row<'a> {
     pub(crate) place: usize,
 }
 
-/// Appends a ref, where its name is one of the set.
+// Appends a ref, where its name is one of the set.
 fn push_row<'a>(
     rows: &mut Vec<Row<'a>>,
     set: &NameSet<'_>,
@@ -43,7 +43,7 @@ fn push_row<'a>(
     Ok(())
 }
 
-/// The refs whose name is one of the set, in their order.
+// The refs whose name is one of the set, in their order.
 fn rows_of<'a>(
     alloc: Global,
     set: &NameSet<'_>,
@@ -88,14 +88,14 @@ pub(crate) fn table_of<'a>(
     Ok(rows)
 }
 
-/// Whether the ref comes before the name.
+// Whether the ref comes before the name.
 fn is_before(row: &Row<'_>, name: &[u8]) -> bool
     ensures { result ≡ is_below row.now.name.now name.now }
 {
     row.name.cmp(name).is_lt()
 }
 
-/// Whether the ref comes before the name or has it.
+// Whether the ref comes before the name or has it.
 fn is_until(row: &Row<'_>, name: &[u8]) -> bool
     ensures { result ≡ not (is_below name.now row.now.name.now) }
 {
@@ -113,7 +113,7 @@ pub(crate) fn rows_named<'r, 'a>(rows: &'r [Row<'a>], name: &[u8]) -> &'r [Row<'
     &rest[..count]
 }
 
-/// AddsConflicts the place of a ref.
+// AddsConflicts the place of a ref.
 fn add_place(places: &mut BTreeSet<usize>, row: &Row<'_>) -> Result<(), AllocError>
     ensures { OnOk result (AddsPlaces (shown row.now ∷ []) places.old places.new) }
 {
@@ -121,7 +121,7 @@ fn add_place(places: &mut BTreeSet<usize>, row: &Row<'_>) -> Result<(), AllocErr
     Ok(())
 }
 
-/// AddsConflicts the places of some refs.
+// AddsConflicts the places of some refs.
 fn add_places(places: &mut BTreeSet<usize>, run: &[Row<'_>]) -> Result<(), AllocError>
     ensures { OnOk result (AddsPlaces (map shown run.now) places.old places.new) }
 {
@@ -131,7 +131,7 @@ fn add_places(places: &mut BTreeSet<usize>, run: &[Row<'_>]) -> Result<(), Alloc
     Ok(())
 }
 
-/// The numbers of a set, from the least on.
+// The numbers of a set, from the least on.
 fn in_order(alloc: Global, places: BTreeSet<usize>) -> Result<Vec<usize>, AllocError>
     ensures same { IfOk result (λ list. list.items ≡ places.keys) }
     ensures ordered { IsOrdered nat_cmp places }
@@ -140,7 +140,7 @@ fn in_order(alloc: Global, places: BTreeSet<usize>) -> Result<Vec<usize>, AllocE
     places.into_iter().collect(alloc)
 }
 
-/// The places of the refs of the names that rules make of a short name.
+// The places of the refs of the names that rules make of a short name.
 fn places_made(
     alloc: Global,
     rows: &[Row<'_>],

@@ -25,7 +25,7 @@ pub struct Single<'s> {
     ghost looked_at: { IsPrepared prepared },
 }
 
-/// The place of the first positive refspec.
+// The place of the first positive refspec.
 fn first_positive(specs: &[RefSpecRef<'_>]) -> Option<usize>
     ensures place { result ≡ position is_positive specs.now }
     ensures within { IfSome result (λ i. i < length specs.now) }
@@ -33,7 +33,7 @@ fn first_positive(specs: &[RefSpecRef<'_>]) -> Option<usize>
     specs.iter().position(|spec| !is_negative(spec.sign))
 }
 
-/// Whether some refspec is positive.
+// Whether some refspec is positive.
 fn has_positive(specs: &[RefSpecRef<'_>]) -> bool
     ensures { result ≡ list_any is_positive specs.now }
 {

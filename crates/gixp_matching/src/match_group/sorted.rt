@@ -6,7 +6,7 @@ ghost use Rattle.gixp_matching.specs.Rising.{IsAbove, RisesTo};
 
 use std::cmp::Ordering;
 
-/// Whether a key is above the last one, where there is one.
+// Whether a key is above the last one, where there is one.
 fn is_above<K: Ord>(key: &K, last: &Option<K>) -> bool
     ensures { IsTrue result → IsAbove K.cmp last.now key.now }
 {
@@ -28,7 +28,7 @@ where
     is_next
 }
 
-/// Whether each key is below the next.
+// Whether each key is below the next.
 fn is_rising<K: Ord>(keys: &[K]) -> bool
     ensures { IsTrue result → AllAdjacentBelow (λ x y. K.cmp x y ≡ Ordering.Less) keys.now (length keys.now) }
 {

@@ -14,7 +14,7 @@ use gixp_refspec::spec::{RefSpecRef, stars};
 use std::alloc::{AllocError, Global};
 use std::collections::HashSet;
 
-/// Appends the names that a positive refspec stands for, unless it is a pattern.
+// Appends the names that a positive refspec stands for, unless it is a pattern.
 fn push_names(
     alloc: Global,
     spec: &RefSpecRef<'_>,
@@ -63,7 +63,7 @@ impl NameSet<'_> {
     }
 }
 
-/// AddsConflicts a name.
+// AddsConflicts a name.
 fn add_name<'n>(set: &mut HashSet<&'n [u8]>, name: &'n BString) -> Result<(), AllocError>
     ensures { OnOk result ((text : List ℕ) → has_key set.new text ≡ (has_key set.old text || bytes_eq text (bstring_bytes name.now))) }
 {
@@ -71,7 +71,7 @@ fn add_name<'n>(set: &mut HashSet<&'n [u8]>, name: &'n BString) -> Result<(), Al
     Ok(())
 }
 
-/// The names as a set.
+// The names as a set.
 fn names_of(alloc: Global, names: &[BString]) -> Result<HashSet<&[u8]>, AllocError>
     ensures { IfOk result (λ set. (text : List ℕ) → has_key set text ≡ is_among (map bstring_bytes names.now) text) }
 {
@@ -82,7 +82,7 @@ fn names_of(alloc: Global, names: &[BString]) -> Result<HashSet<&[u8]>, AllocErr
     Ok(set)
 }
 
-/// AddsConflicts the last bytes of a name.
+// AddsConflicts the last bytes of a name.
 fn add_tail(set: &mut HashSet<u64>, name: &BString) -> Result<(), AllocError>
     ensures own { OnOk result (has_tail set.new (tail (bstring_bytes name.now)) ≡ true) }
     ensures others { OnOk result ((number : ℕ) → has_tail set.old number ≡ true → has_tail set.new number ≡ true) }
@@ -91,7 +91,7 @@ fn add_tail(set: &mut HashSet<u64>, name: &BString) -> Result<(), AllocError>
     Ok(())
 }
 
-/// The last bytes of each name.
+// The last bytes of each name.
 fn tails_of(alloc: Global, names: &[BString]) -> Result<HashSet<u64>, AllocError>
     ensures { IfOk result (λ set. (text : List ℕ) → is_among (map bstring_bytes names.now) text ≡ true → has_tail set (tail text) ≡ true) }
 {

@@ -8,7 +8,7 @@ use std::collections::BTreeMap;
 use std::process::Abort;
 use std::test::Fail;
 
-/// A merge (1) of 2 and 3.
+// A merge (1) of 2 and 3.
 fn merge(alloc: Global) -> Result<BTreeMap<ObjectId, CommitData>, AllocError> {
     let mut commits = BTreeMap::new(alloc);
     add(alloc, &mut commits, 1, 10, &[2, 3])?;
@@ -16,12 +16,12 @@ fn merge(alloc: Global) -> Result<BTreeMap<ObjectId, CommitData>, AllocError> {
     Ok(commits)
 }
 
-/// A graph over the merge.
+// A graph over the merge.
 fn graph_of_merge(alloc: Global) -> Result<Graph<Repository>, AllocError> {
     Ok(Graph::new(alloc, never_failing(merge(alloc)?)))
 }
 
-/// Whether the parents of the merge are these.
+// Whether the parents of the merge are these.
 fn has_parents<O: Objects>(
     alloc: Global,
     graph: &Graph<O>,
@@ -30,7 +30,7 @@ fn has_parents<O: Objects>(
     Ok(graph.parents(alloc, &id(1))?.as_slice() == parents)
 }
 
-/// Whether the merge is held, with its parents, only once it was looked up.
+// Whether the merge is held, with its parents, only once it was looked up.
 fn holds_what_it_looked_up<O: Objects>(
     alloc: Global,
     graph: &mut Graph<O>,
@@ -53,7 +53,7 @@ fn graph(rt: HostRuntime) -> Result<(), Fail> {
     Ok(())
 }
 
-/// The calls of objects that have the merge.
+// The calls of objects that have the merge.
 fn reads<O: Objects>(rt: &impl Abort, alloc: Global, objects: &mut O) -> Result<(), ObjectError> {
     assert!(rt; objects.exists(&id(1)) && !objects.exists(&id(3)));
     assert!(rt; objects.kind(&id(1)) == Some(ObjectKind::Commit) && objects.kind(&id(3)).is_none());
@@ -61,7 +61,7 @@ fn reads<O: Objects>(rt: &impl Abort, alloc: Global, objects: &mut O) -> Result<
     Ok(())
 }
 
-/// They are marked through a graph.
+// They are marked through a graph.
 fn is_marked<O: Objects + Drop>(alloc: Global, objects: O) -> Result<bool, ObjectError> {
     let mut graph = Graph::new(alloc, objects);
     graph.mark_complete(&[id(1)], Some(0))?;

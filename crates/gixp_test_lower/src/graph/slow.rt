@@ -12,14 +12,14 @@ use gixp_hash::ObjectId;
 use std::alloc::{AllocError, Global};
 use std::collections::BTreeMap;
 
-/// Whether an id is among some.
+// Whether an id is among some.
 fn is_among(ids: &[ObjectId], id: &ObjectId) -> bool
     ensures { IsTrue result ↔ Contains ids.now id.now }
 {
     ids.contains(id)
 }
 
-/// Whether a commit is found and isn't known.
+// Whether a commit is found and isn't known.
 fn is_unknown(commits: &BTreeMap<ObjectId, CommitData>, known: &[ObjectId], id: &ObjectId) -> bool
     ensures unknown { OnTrue result (IsSome (commit_at (objects_of commits.now.entries) id.now) × ¬ (Contains known.now id.now)) }
     ensures known { OnFalse result (IsSome (commit_at (objects_of commits.now.entries) id.now) → Contains known.now id.now) }
@@ -27,7 +27,7 @@ fn is_unknown(commits: &BTreeMap<ObjectId, CommitData>, known: &[ObjectId], id: 
     commits.contains_key(id) && !is_among(known, id)
 }
 
-/// The first of some ids that is found and isn't known.
+// The first of some ids that is found and isn't known.
 fn unknown(
     commits: &BTreeMap<ObjectId, CommitData>,
     known: &[ObjectId],
@@ -45,7 +45,7 @@ fn unknown(
     None
 }
 
-/// The first parent of a commit that is found and isn't known, where the commit's time is at least the cutoff.
+// The first parent of a commit that is found and isn't known, where the commit's time is at least the cutoff.
 fn unknown_parent_of(
     commits: &BTreeMap<ObjectId, CommitData>,
     known: &[ObjectId],
@@ -68,7 +68,7 @@ fn unknown_parent_of(
     }
 }
 
-/// The first such parent of the known commits.
+// The first such parent of the known commits.
 fn unknown_parent(
     commits: &BTreeMap<ObjectId, CommitData>,
     known: &[ObjectId],
@@ -86,7 +86,7 @@ fn unknown_parent(
     None
 }
 
-/// A complete commit that isn't known.
+// A complete commit that isn't known.
 fn missing(
     commits: &BTreeMap<ObjectId, CommitData>,
     known: &[ObjectId],

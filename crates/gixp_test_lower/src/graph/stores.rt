@@ -7,7 +7,7 @@ use gixp_hash::ObjectId;
 use std::alloc::Global;
 use std::test::Fail;
 
-/// What the refs peel to, listed twice: the same ids.
+// What the refs peel to, listed twice: the same ids.
 fn list_twice<R: RefStore>(
     alloc: Global,
     refs: &mut R,

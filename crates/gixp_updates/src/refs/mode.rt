@@ -88,7 +88,7 @@ pub(crate) struct Wanted {
     pub is_implicit_tag: bool,
 }
 
-/// A ref that is to be written.
+// A ref that is to be written.
 #[derive(Clone, Copy)]
 struct Target<'a> {
     name: &'a [u8],

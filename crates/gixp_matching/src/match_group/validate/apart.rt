@@ -23,7 +23,7 @@ pub(crate) fn local_rises<'a, M: AsMapping>(last: &mut Option<KeyBytes<'a>>, map
     }
 }
 
-/// Whether each local name is above the one before, so that no two are equal.
+// Whether each local name is above the one before, so that no two are equal.
 fn are_in_order<M: AsMapping>(mappings: &[M]) -> bool
     ensures { IsTrue result → IsDistinct bytes_eq (locals (map M.mapped mappings.now)) }
 {
@@ -36,7 +36,7 @@ fn are_in_order<M: AsMapping>(mappings: &[M]) -> bool
     true
 }
 
-/// Appends the number of the local name of a mapping, where it has one.
+// Appends the number of the local name of a mapping, where it has one.
 fn push_digest<M: AsMapping>(mapping: &M, digests: &mut Vec<u64>) -> Result<(), AllocError>
     ensures { OnOk result (digests.new.items ≡ digests.old.items ++ map digest (option_to_list (M.mapped mapping.now).local)) }
 {
@@ -46,7 +46,7 @@ fn push_digest<M: AsMapping>(mapping: &M, digests: &mut Vec<u64>) -> Result<(), 
     Ok(())
 }
 
-/// The numbers of the local names.
+// The numbers of the local names.
 fn local_digests<M: AsMapping>(alloc: Global, mappings: &[M]) -> Result<Vec<u64>, AllocError>
     ensures { IfOk result (λ digests. digests.items ≡ map digest (locals (map M.mapped mappings.now))) }
 {

@@ -38,14 +38,14 @@ pub(crate) fn is_partial<M: AsMapping>(mapping: &M) -> bool
     }
 }
 
-/// Whether some mapping has a local name that is no whole name of a ref.
+// Whether some mapping has a local name that is no whole name of a ref.
 fn has_partial<M: AsMapping>(mappings: &[M]) -> bool
     ensures { result ≡ list_any (λ mapping. is_partial (M.mapped mapping)) mappings.now }
 {
     mappings.iter().any(|mapping| is_partial(mapping))
 }
 
-/// Appends the note on a mapping that is taken out.
+// Appends the note on a mapping that is taken out.
 fn push_fix<M: AsMapping>(
     alloc: Global,
     specs: &[RefSpecRef<'_>],
@@ -69,7 +69,7 @@ fn push_fix<M: AsMapping>(
     }
 }
 
-/// The notes on the mappings that are taken out.
+// The notes on the mappings that are taken out.
 #[tactic(auto, unfolding(crate::specs::Validation::fixes))]
 fn fixes_of<M: AsMapping>(
     alloc: Global,
@@ -85,7 +85,7 @@ fn fixes_of<M: AsMapping>(
     Ok(found)
 }
 
-/// Keeps the mappings whose local name is a whole name of a ref, or that have none.
+// Keeps the mappings whose local name is a whole name of a ref, or that have none.
 fn keep_whole<M: AsMapping + Drop>(mappings: &mut Vec<M>)
     ensures { mappings.new.items ≡ filter (λ m. not (is_partial (M.mapped m))) mappings.old.items }
 {

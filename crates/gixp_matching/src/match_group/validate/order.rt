@@ -13,7 +13,7 @@ use std::cmp::Ordering;
 // So many bytes of a name are compared before the whole of it.
 const WIDTH: usize = 64;
 
-/// The local name.
+// The local name.
 fn name_of(issue: &Issue) -> &[u8]
     ensures { result.now ≡ destination_of issue.now }
 {
@@ -25,7 +25,7 @@ fn name_of(issue: &Issue) -> &[u8]
     destination_full_ref_name.as_bytes()
 }
 
-/// How many of the first bytes are the same in both names.
+// How many of the first bytes are the same in both names.
 fn shared_len(first: &[u8], name: &[u8]) -> usize
     ensures { take result name.now ≡ take result first.now }
 {
@@ -37,7 +37,7 @@ fn shared_len(first: &[u8], name: &[u8]) -> usize
     first.len()
 }
 
-/// How many of the first bytes are the same in all local names.
+// How many of the first bytes are the same in all local names.
 fn front_len(issues: &[Issue]) -> usize
     ensures { ShareFront result issues.now }
 {
@@ -52,7 +52,7 @@ fn front_len(issues: &[Issue]) -> usize
     front
 }
 
-/// The first eight bytes as a number, the first one highest, as if zeros stood behind the last.
+// The first eight bytes as a number, the first one highest, as if zeros stood behind the last.
 #[tactic(auto, unfolding(crate::specs::Found::leading))]
 fn leading(bytes: &[u8]) -> u64
     ensures { result ≡ leading 8 bytes.now }
@@ -64,7 +64,7 @@ fn leading(bytes: &[u8]) -> u64
     number
 }
 
-/// What is behind the first bytes of a local name, as a number.
+// What is behind the first bytes of a local name, as a number.
 fn number_of(issue: &Issue, front: usize) -> u64
     ensures { result ≡ leading 8 (drop front (destination_of issue.now)) }
 {
@@ -72,7 +72,7 @@ fn number_of(issue: &Issue, front: usize) -> u64
     leading(&name[front.min(name.len())..])
 }
 
-/// The bytes behind the first ones of the local name, as if zeros stood behind the last.
+// The bytes behind the first ones of the local name, as if zeros stood behind the last.
 fn part_of(issue: &Issue, front: usize) -> [u8; WIDTH]
     ensures { result ≡ part 64 (drop front (destination_of issue.now)) }
 {
@@ -84,14 +84,14 @@ fn part_of(issue: &Issue, front: usize) -> [u8; WIDTH]
     part
 }
 
-/// The byte order of the local names.
+// The byte order of the local names.
 fn by_name(a: &Issue, b: &Issue) -> Ordering
     ensures { result ≡ slice_cmp nat_cmp (destination_of a.now) (destination_of b.now) }
 {
     name_of(a).cmp(name_of(b))
 }
 
-/// Whether each local name is below the next.
+// Whether each local name is below the next.
 fn are_in_order(issues: &[Issue]) -> bool {
     'places: for place in 1..issues.len() {
         if by_name(&issues[place - 1], &issues[place]) != Ordering::Less {
@@ -101,8 +101,8 @@ fn are_in_order(issues: &[Issue]) -> bool {
     true
 }
 
-/// Brings conflicts close to byte order of their local names. The eight bytes behind those that all names share mostly tell the
-/// order, else the part behind them: both lie beside one another, where names lie far apart.
+// Brings conflicts close to byte order of their local names. The eight bytes behind those that all names share mostly tell the
+// order, else the part behind them: both lie beside one another, where names lie far apart.
 fn sort_by_parts(issues: &mut Vec<Issue>) -> Result<(), AllocError>
     ensures { IsPermutation issues.old.items issues.new.items }
 {

@@ -9,7 +9,8 @@ pub returns-in-Ok-clause-mapped : goal.returns-in-Ok-clause-mapped
 returns-in-Ok-clause-mapped g c = record {
   context = c.in_ok-context.context;
   asked = c.in_ok-context.ensures;
-  obtains = as_obtained _ _ _ _ _ _ _ _ _ _ c.table.ensures (c.in_ok-name.ensures ∙ ap agent_feature c.as_str.ensures.value) c.in-Ok.ensures.map;
+  obtains = as_obtained _ _ _ _ _ _ _ _ _ _ c.table.ensures (c.in_ok-name.ensures ∙ ap agent_feature c.as_str.ensures.value)
+      c.in-Ok.ensures.map;
 }
 
 pub returns-in-Err-clause-refused : goal.returns-in-Err-clause-refused
