@@ -48,7 +48,7 @@ fn specs_code(e: SpecsRefused) -> u32
 ///
 /// 0 where the mappings are in the records, after them those that were taken out, and their local names in the buffer. 51 where
 /// mappings conflict: the records are then the conflicts. 2 where one of the buffers has too little room: how much is needed is
-/// told, and nothing else is changed. 3 where a name doesn't stand in the answer, 4 where an allocation failed, and any other
+/// reported, and nothing else is changed. 3 where a name doesn't stand in the answer, 4 where an allocation failed, and any other
 /// number for a line that is no refspec: nothing is changed then.
 #[unsafe(no_mangle)]
 pub extern "C" fn gixp_map(

@@ -40,7 +40,7 @@ impl Boundary {
     }
 
     /// The boundary with the updates that weren't asked for too, in order of the ids: for a caller who sees to it that the objects
-    /// behind it are there.
+    /// beyond it are there.
     ///
     /// # Errors
     ///

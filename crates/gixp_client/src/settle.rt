@@ -62,7 +62,7 @@ pub(crate) fn is_reported(messages: &Kept, goes_on: bool) -> bool
     !goes_on && messages.has_error()
 }
 
-/// What is told of it: its words, where they are here.
+/// The error for it: with the server's words, where they are here.
 pub(crate) fn reported(messages: &Kept) -> Error
     ensures { IsReport result }
 {

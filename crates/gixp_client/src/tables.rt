@@ -28,7 +28,7 @@ static QUIET_ARGUMENTS: [(&str, Option<&str>); 4] = [
     ("no-progress", None),
 ];
 
-/// git's table; where no progress is wanted, with `no-progress` behind the rest: a feature of versions 0 and 1 where the server offers
+/// git's table; where no progress is wanted, with `no-progress` after the rest: a feature of versions 0 and 1 where the server offers
 /// it, and a line of version 2 (gitprotocol-capabilities, "no-progress"; gitprotocol-v2, "fetch").
 pub(crate) fn table_by(wants_progress: bool) -> CommandTable
     ensures { table_of result ≡ asked_table wants_progress }

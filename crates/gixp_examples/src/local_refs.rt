@@ -5,7 +5,7 @@ use gix_protocol::fetch::refs::update::{self, update};
 use gix_protocol::fetch::{RefMap, Tags};
 use std::alloc::Global;
 
-/// What becomes of the local ref of each mapping, once the pack is in: the objects are those of the repository with all that
+/// What becomes of the local ref of each mapping, once the pack is in: the objects are the repository's, with all that
 /// came. Where it fails, no ref is to be written.
 pub fn refs_to_write(
     alloc: Global,

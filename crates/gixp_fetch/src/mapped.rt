@@ -6,7 +6,7 @@ use gixp_graph::{Negotiator, Objects, RefStore};
 use gixp_negotiate::negotiate::Negotiate;
 use gixp_negotiate::negotiate::negotiation::Negotiation;
 
-/// A negotiation over a ref map, whose decision and whose wants are those of the map's mappings.
+/// A negotiation over a ref map, whose decision and whose wants follow from the map's mappings.
 pub trait NegotiatesMap: Negotiate {
     /// The map.
     ghost map_of: { Self → RefMap };

@@ -61,7 +61,7 @@ fn is_answer_cut(e: &response::Error) -> bool
     }
 }
 
-/// Whether the server left before it had said what it was asked for. A pack that ends early is told of by its consumer.
+/// Whether the server left before it had said what it was asked for. A pack that ends early is its consumer's error.
 pub fn is_left(e: &Error) -> bool
     ensures { result ≡ is_left e.now }
 {

@@ -280,7 +280,7 @@ fn settle(
     }
 }
 
-/// Has objects left out by a filter, if there is one, where the server can do that. Else the user is told that it can't, as git does.
+/// Has objects left out by a filter, if there is one, where the server can do that. Else a warning says that it can't, as git's does.
 pub fn ask_filter<T: Transport + Drop, L: Listener + Drop, S: NestedProgress + Drop>(
     rt: &HostRuntime,
     session: &Session<T, L, S>,

@@ -43,7 +43,7 @@ impl Display for ReceiveError {
     }
 }
 
-/// Why a pack isn't received, to be told by the client's error.
+/// Why a pack isn't received, as the client's error has it.
 #[derive(Debug, Drop)]
 pub struct Unreceived {
     alloc: Global,

@@ -101,8 +101,8 @@ pub fn connect<R: Read + Drop, W: Write + Drop>(
     )
 }
 
-/// What the server is asked for, but for a filter. An error of its beside the pack is told behind whatever else fails, so the fetch
-/// goes on.
+/// What the server is asked for, but for a filter. An error of its beside the pack is reported after whatever else fails, so the
+/// fetch goes on.
 pub fn request_of(alloc: Global, wish: &Wish<'_>, wants_progress: bool) -> Result<Request, Failure>
     ensures specs { IfOk result (λ request. AreSpecsOf wish.now.specs.items request.refspecs.items) }
     ensures tags { IfOk result (λ request. request.tags ≡ wish.now.tags) }

@@ -68,7 +68,7 @@ impl<T: Drop> From<AllocFailed<T>> for ObjectError {
 ///
 /// Contracts of the calls above say for which ids a commit is read, by a list that a call adds at most
 /// its id to. An implementation need not write it down: by default the list is empty. Nor need it write
-/// down what its refused calls told; where it does, an error of a call above is one of those.
+/// down which errors its calls returned; where it does, an error of a call above is one of these.
 pub trait Objects {
     /// The map.
     ghost contents: { Self → ObjectMap };
@@ -87,7 +87,7 @@ pub trait Objects {
         ensures { result ≡ map.contains_key (contents self.now) id.now };
 
     /// The kind of the object of this name: none where there is no such object, or where its kind
-    /// can't be told.
+    /// can't be read.
     fn kind(&self, id: &ObjectId) -> Option<ObjectKind>
         ensures { result ≡ kind_at (contents self.now) id.now };
 

@@ -56,8 +56,8 @@ impl<T: Drop> From<AllocFailed<T>> for RefStoreError {
 /// peel to. No call changes either.
 ///
 /// A call may fail, and then raises a count of failures, unless it ran out of memory. What the listings
-/// answered may be written down: contracts of the calls above then say which stores are listed, in which
-/// order, and what they are told.
+/// returned may be written down: contracts of the calls above then say which stores are listed, in which
+/// order, and what they return.
 pub trait RefStore {
     /// The refs that hold an id, by their full names.
     ghost refs: { Self → map.FinMap (slice_cmp nat_cmp) ObjectId };

@@ -24,7 +24,7 @@ pub trait Find {
     fn has_object(&self, id: &ObjectId) -> bool
         ensures { result ≡ map.contains_key (contents self.now) id.now };
 
-    /// The kind of the object of this name: none where there is no such object, or where its kind can't be told.
+    /// The kind of the object of this name: none where there is no such object, or where its kind can't be read.
     fn find_kind(&self, id: &ObjectId) -> Option<ObjectKind>
         ensures { result ≡ kind_at (contents self.now) id.now };
 

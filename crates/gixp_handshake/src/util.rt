@@ -30,7 +30,7 @@ fn end_once<T: Transport>(transport: &mut T, is_sent: bool) -> Result<(), client
     indicate_end_of_interaction(transport)
 }
 
-/// A transport that tells the server when it is dropped that no request comes any more, unless that was told before: at
+/// A transport that tells the server when it is dropped that no request comes any more, unless it did before: at
 /// most one flush packet is sent, and none over a transport that doesn't persist.
 pub struct SendFlushOnDrop<T: Transport + Drop> {
     /// The transport.
@@ -42,7 +42,7 @@ impl<T: Transport + Drop> SendFlushOnDrop<T> {
     ghost use Rattle.std.specs.Prelude.{◌≡◌, true, false};
     ghost use Rattle.gixp_handshake.specs.Ending.{EndsOnce, was_sent};
 
-    /// A guard of this transport, which has told nothing yet.
+    /// A guard of this transport, which has sent nothing yet.
     pub fn new(inner: T) -> SendFlushOnDrop<T>
         ensures inner { result.inner ≡ inner }
         ensures unsent { was_sent result ≡ false }
@@ -53,7 +53,7 @@ impl<T: Transport + Drop> SendFlushOnDrop<T> {
         }
     }
 
-    /// Tells the server now that no request comes any more, unless that was told before, and never again.
+    /// Tells the server now that no request comes any more, unless it did before, and never again.
     ///
     /// # Errors
     ///

@@ -1,4 +1,4 @@
-//! Hexadecimal digits, read and written without a branch for each: those of an id are as good as
+//! Hexadecimal digits, read and written without a branch for each: an id's digits are as good as
 //! random, so every such branch would be guessed wrong half of the time. The functions are inlined,
 //! so that an id isn't handed on through memory at each step.
 ghost use Rattle.std.specs.Prelude.{◌≡◌, ◌<◌, length, slice_index, IfSome, unwrap_or};

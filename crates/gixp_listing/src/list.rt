@@ -29,7 +29,7 @@ pub enum ListError {
 }
 
 impl ListError {
-    /// The name of the variant, and of `Parse` that of the error in it.
+    /// The name of the variant, and of `Parse` the name of the error in it.
     pub fn variant(&self) -> &'static str
         ensures { result.now ≡ list_error_name self.now }
     {

@@ -12,7 +12,7 @@ pub fn filtering_keeps_answers()
 {}
 
 /// A pattern matches exactly the names that are its front, any middle and its back, and the local names in byte
-/// order are those of the mappings, each once.
+/// order are what the mappings have, each once.
 pub fn definitions_mean_what_they_say()
     ensures middle { MatchesMiddle }
     ensures only { MatchesOnly }

@@ -92,7 +92,7 @@ pub struct Place {
 /// The mappings of a group of refspecs.
 #[derive(Debug, Drop)]
 pub struct Outcome<'s> {
-    /// First those of ids, then by refspec and then by ref; no two have the same source and local name.
+    /// Ids first, then by refspec and then by ref; no two have the same source and local name.
     pub mappings: Vec<Mapping>,
     pub(crate) specs: &'s [RefSpecRef<'s>],
 }
@@ -129,7 +129,7 @@ impl Clone for Mapping {
 
 impl Mapping {
     /// Whether the local name, where there is one, keeps the rules for names (git-check-ref-format, with
-    /// `--allow-onelevel`) and has no asterisk, as that of a [`PartialName`](gixp_refspec::PartialName). `git fetch` leaves
+    /// `--allow-onelevel`) and has no asterisk, as a [`PartialName`](gixp_refspec::PartialName) does. `git fetch` leaves
     /// out a ref whose local name breaks them (a "funny ref"), or doesn't begin with `refs/`.
     pub fn has_safe_local_name(&self) -> bool
         ensures { result ≡ has_safe_local (mapped_of self.now) }
@@ -259,7 +259,7 @@ impl<'s> MatchGroup<'s> {
 
     /// The mappings of the refs: first the ids, then each positive refspec with each ref that it matches and no
     /// negative refspec matches. Of equal source and local name the first stays. Refs that begin with none of the
-    /// prefixes may be missing: the answer is then that of all refs, but for their places.
+    /// prefixes may be missing: the answer is then the same as for all refs, but for their places.
     ///
     /// # Errors
     ///

@@ -6,7 +6,7 @@ use gixp_graph::{Graph, Negotiator, NegotiatorError, Objects};
 use gixp_hash::ObjectId;
 use std::marker::Model;
 
-/// A negotiator that offers these ids, in their order, and takes no notice of what it is told.
+/// A negotiator that offers these ids, in their order, and takes no notice of what it hears.
 #[derive(Debug, Drop)]
 pub struct HaveList {
     ids: Vec<ObjectId>,

@@ -18,7 +18,7 @@ pub(crate) struct Waiting {
     pub id: ObjectId,
 }
 
-/// Commits that wait, the newest first, and those of one time in the order in which they came.
+/// Commits that wait, the newest first, and commits of one time in the order in which they came.
 #[derive(Drop)]
 pub(crate) struct Queue {
     waiting: BinaryHeap<Waiting>,

@@ -8,7 +8,7 @@ ghost use Rattle.gixp_packetline.specs.Items.{plain, items_of, first_lines};
 ghost use Rattle.gixp_packetline.specs.Lines.{lines_of, as_first};
 ghost use Rattle.gixp_packetline.specs.declared.protocol.Protocol.{Protocol};
 
-/// The frames of some bytes are those of the grammar.
+/// The frames of some bytes are what the grammar has.
 pub fn frames_are_grammar()
     ensures { (bytes : List ℕ) → AreFrames bytes (frames_of bytes).list (frames_of bytes).end }
 {}

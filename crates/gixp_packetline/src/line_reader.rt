@@ -11,7 +11,7 @@ use std::io::Read;
 /// Reads the lines of a stream of frames, at first with the stops of version 2
 /// (gitprotocol-common, "pkt-line Format"; gitprotocol-v2, "Packet-Line Framing").
 ///
-/// The lines are those of the bytes to come, whatever the pieces in which the reader gives them.
+/// The lines follow from the bytes to come, whatever the pieces in which the reader gives them.
 #[derive(Drop)]
 pub struct LineReader<'a, R> {
     packets: Packets<&'a mut R>,

@@ -72,7 +72,7 @@ impl<T: Drop> From<AllocFailed<T>> for Error {
 /// read or peek at a stop takes it.
 ///
 /// `next_line`, `peek_line` and `line` are what a reader has to bring: code over any reader learns
-/// from them what a call left behind, which a call that lends can't say beside its error.
+/// from them what a call left, which a call that lends can't say beside its error.
 pub trait ExtendedBufRead {
     // What is known of the reader.
     ghost reading: { Self → Reading };

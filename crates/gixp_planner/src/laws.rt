@@ -39,7 +39,7 @@ pub fn ref_maps_follow_bodies()
 /// and the ids, unless it fails: two sessions over the same that didn't fail send the same requests and end alike,
 /// and [`plan`](crate::plan) writes the same text.
 ///
-/// The objects are those of the repository and of the graph, whatever the graph holds by then; with `NoObjects` there are
+/// The objects are what the repository and the graph have, whatever the graph holds by then; with `NoObjects` there are
 /// none. A session whose transport counted a failure fails, so each answer is the one that its body holds.
 ///
 /// Where a refspec is an error, each plan over these refspecs fails with its name, or with an allocation failure, and nothing is

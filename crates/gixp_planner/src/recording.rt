@@ -102,7 +102,7 @@ fn haves_of(
 ///
 /// # Errors
 ///
-/// `file Io` where it is there and can't be read, `file Memory` on an allocation failure, and those of `parse_haves`.
+/// `file Io` where it is there and can't be read, `file Memory` on an allocation failure, else as `parse_haves`.
 pub fn read_haves(rt: &HostRuntime, folder: &str) -> Result<Vec<ObjectId>, PlanError>
     ensures { IfErr result (λ e. FileIsUnread e ⊎ IsNoHave e) }
 {

@@ -5,7 +5,7 @@ ghost use Rattle.gixp_progress.specs.Progress.{ProgressCall, init, step, set, se
 
 use std::alloc::AllocError;
 
-/// A progress reporter: it is told how far a call has come.
+/// A progress reporter: it shows how far a call has come.
 ///
 /// Nothing is asked of it: each call says what it does as one relation of before and after.
 pub trait Progress {
@@ -40,7 +40,7 @@ pub trait Progress {
         ensures { told self.old (fail (string_bytes message)) self.new };
 }
 
-/// Progress that has parts, each told on its own.
+/// Progress that has parts, each reported on its own.
 pub trait NestedProgress: Progress {
     /// A part of it.
     type SubProgress: Progress + Drop;

@@ -24,11 +24,11 @@ use std::alloc::{AllocError, Global};
 /// How a call that maps refs ended.
 #[derive(Clone, Copy, Debug)]
 pub enum MapEnd {
-    /// The mappings are told, and those that were taken out behind them.
+    /// The records are the mappings, and after them the ones that were taken out.
     Mapped,
-    /// Mappings conflict, and the conflicts are told.
+    /// Mappings conflict, and the records are the conflicts.
     Conflicts,
-    /// There is too little room for these: how much is needed is told, and nothing else is changed.
+    /// There is too little room for these: how much is needed is reported, and nothing else is changed.
     NoRoom,
 }
 
@@ -237,8 +237,8 @@ fn end_of(told: Result<bool, AllocError>, whole: MapEnd) -> Result<MapEnd, MapRe
 }
 
 /// Maps refs by the refspecs of a text, which stand one on a line (git-fetch, "<refspec>"). The names of the refs stand in the
-/// bytes. The mappings go into the records, those that were taken out behind them, or the conflicts where there are any; their
-/// local names go into the buffer, one behind another.
+/// bytes. The mappings go into the records, and after them the ones that were taken out, or the conflicts where there are any;
+/// their local names go into the buffer, one after another.
 ///
 /// # Errors
 ///

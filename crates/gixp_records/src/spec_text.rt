@@ -121,7 +121,7 @@ fn text_of_lines(alloc: Global, lines: &[BString]) -> Result<Vec<u8>, AllocError
 }
 
 /// The prefixes that a server is asked for, for the refspecs of a text, which stand one on a line: of each refspec in turn, each
-/// with an LF behind it (gitprotocol-v2, `ref-prefix`).
+/// with an LF after it (gitprotocol-v2, `ref-prefix`).
 ///
 /// # Errors
 ///

@@ -1,4 +1,4 @@
-//! Mappings as records of numbers, and their local names one behind another.
+//! Mappings as records of numbers, and their local names one after another.
 ghost use Rattle.std.specs.Prelude.{◌≡◌, ◌++◌, ◌+◌, ◌-◌, ◌^◌, ◌≤◌, min, length, map, take, drop};
 ghost use Rattle.gixp_records.specs.Told.{told_value, local_bytes, local_names, record_at, records_from, counts_of, buffers, TellsBy};
 
@@ -11,7 +11,7 @@ pub struct MappingRecord {
     /// The place of the ref among the records; of a refspec that names an object, how many records there are. Of a conflict, how
     /// many mappings go to the local name.
     pub item: usize,
-    /// The place of the refspec among those of the text; of one that was taken out and of a conflict, how many there are.
+    /// The place of the refspec in the text, by refspecs; of one that was taken out and of a conflict, how many there are.
     pub spec: usize,
     /// 1 where there is a local name, else 0.
     pub has_local: u32,
@@ -25,7 +25,7 @@ pub struct MappingRecord {
 pub struct MappedRecord {
     /// How many mappings, or conflicts.
     pub mappings: usize,
-    /// How many mappings were taken out, since their local name is neither `HEAD` nor begins with `refs/`. They come behind the
+    /// How many mappings were taken out, since their local name is neither `HEAD` nor begins with `refs/`. They come after the
     /// others.
     pub fixes: usize,
     /// How many bytes their local names have together.

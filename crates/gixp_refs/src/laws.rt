@@ -5,7 +5,7 @@ ghost use Rattle.gixp_refs.specs.RefLine.{RefsRefusal};
 ghost use Rattle.gixp_refs.specs.RefAdvertisement.{Symref, groups};
 ghost use Rattle.gixp_refs.specs.RefGroups.{Group, AreRefGroups, AreGroupRefs, AreRefusedBehind};
 
-/// The refs of an advertisement under versions 0 and 1 are those of groups: ref lines alone, or with
+/// The refs of an advertisement under versions 0 and 1 are the refs of groups: ref lines alone, or with
 /// their peeled lines, and between them lines that are in none.
 pub fn advertised_refs_are_of_groups()
     ensures { (t : List Symref) (texts : List (List ℕ)) (values : List RefValue) → groups texts None t None ≡ Ok values
@@ -18,7 +18,7 @@ pub fn groups_are_advertised_refs()
         → AreGroupRefs t gs values → groups texts None t None ≡ Ok values }
 {}
 
-/// A refused advertisement begins with groups that have refs, and the refusal is that of the first line,
+/// A refused advertisement begins with groups that have refs, and its error is the one of the first line,
 /// or of the end, that goes with none of them.
 pub fn refused_advertisements_are_cut()
     ensures { (t : List Symref) (texts : List (List ℕ)) (end : Option RefsRefusal) (e : RefsRefusal) → groups texts end t None ≡ Err e

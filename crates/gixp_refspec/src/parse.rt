@@ -18,8 +18,8 @@ pub enum Operation {
     Fetch,
 }
 
-/// Why a text is no refspec. Of several reasons, that of a colon or an id in a negative refspec comes first, then
-/// those of asterisks, then names.
+/// Why a text is no refspec. Of several reasons, a colon or an id in a negative refspec comes first, then
+/// asterisks, then names.
 #[derive(Clone, Copy, Debug, PartialEq, Eq, DeriveError)]
 pub enum Error {
     /// A negative refspec has a colon.

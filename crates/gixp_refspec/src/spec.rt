@@ -22,7 +22,7 @@ pub enum Sign {
     Exclude,
 }
 
-/// Whether the sign is that of a negative refspec; for the crate above, which maps what the others match.
+/// Whether the sign makes a refspec negative; for the crate above, which maps what the others match.
 pub fn is_negative(sign: Sign) -> bool
     ensures { result ≡ is_negative sign }
 {
@@ -45,7 +45,7 @@ pub fn is_full(text: &[u8]) -> bool
     text == b"HEAD".as_slice() || text.starts_with(b"refs/")
 }
 
-/// Whether the text is that of an object id.
+/// Whether the text is an object id.
 #[tactic(auto, unfolding(crate::specs::Spec::is_id))]
 pub(crate) fn is_id(text: &[u8]) -> bool
     ensures { result ≡ is_id text.now }

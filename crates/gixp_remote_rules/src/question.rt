@@ -111,8 +111,8 @@ fn add_most(alloc: Global, words: &mut Vec<BString>, most: Option<&[u8]>) -> Res
     Ok(())
 }
 
-/// The words of git that lists the commits which are offered: with those of repositories whose objects are borrowed, if there are
-/// any, and no more than so many.
+/// The words of git that lists the commits which are offered: with the commits of repositories whose objects are borrowed, if
+/// there are any, and no more than so many.
 ///
 /// # Errors
 ///

@@ -246,7 +246,7 @@ fn behind_colon(alloc: Global, more: Option<&[u8]>) -> Result<Vec<u8>, AllocErro
     }
 }
 
-/// The variables by which git looks into a folder for objects first, and then into that of the repository and those that it
+/// The variables by which git looks into a folder for objects first, and then into the repository's and the others that it
 /// looked into before (git, "GIT_ALTERNATE_OBJECT_DIRECTORIES").
 ///
 /// # Errors

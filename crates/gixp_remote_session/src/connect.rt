@@ -300,7 +300,7 @@ pub(crate) fn shake_hands<'a>(reach: Reach<'a>, is_quiet: bool) -> Result<Talk<'
     Ok(open(reach.rt.alloc(), wire, "gixp", shown, Discard)?)
 }
 
-/// Ends a session. A web server is told nothing of that, since it would be one more request.
+/// Ends a session. A web server isn't told, since it would be one more request.
 pub(crate) fn leave(reach: Reach<'_>, session: Talk<'_>) {
     if reach.address.transport.is_web() {
         let _ = session.into_transport();

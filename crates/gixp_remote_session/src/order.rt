@@ -69,8 +69,8 @@ fn tags_of(choices: &Choices) -> Tags
     }
 }
 
-/// What the server is asked for, but for a filter. An error of its beside the pack is told behind whatever else fails, so the fetch
-/// goes on.
+/// What the server is asked for, but for a filter. An error of its beside the pack is reported after whatever else fails, so the
+/// fetch goes on.
 pub(crate) fn request_of(
     alloc: Global,
     choices: &Choices,

@@ -35,7 +35,7 @@ pub(crate) fn bytes_of(value: &Option<String>) -> Option<&[u8]>
     }
 }
 
-/// What the shell says before anything is asked: the words that git started it with, and those of this program.
+/// What the shell says before anything is asked: the words that git started it with, and this program's.
 #[derive(Drop)]
 pub(crate) struct Given {
     /// The name that git has for the server.
@@ -93,7 +93,7 @@ pub(crate) fn read_given(rt: &HostRuntime) -> Result<Given, Trouble> {
     })
 }
 
-/// The user's settings, which git tells behind the words.
+/// The user's settings, which come after the words.
 pub(crate) fn read_settings(
     alloc: Global,
     given: &mut Given,

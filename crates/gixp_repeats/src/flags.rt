@@ -14,7 +14,7 @@ fn take_flag(flags: &mut Vec<bool>, place: usize, is_same: bool)
     }
 }
 
-/// Takes the flag of each place whose key is that of the row before it.
+/// Takes the flag of each place whose key is the key of the row before it.
 pub fn mark<K: Ord>(rows: &[(K, usize)], flags: &mut Vec<bool>)
     ensures { flags.new.items ≡ marked K.cmp flags.old.items rows.now }
 {

@@ -47,8 +47,8 @@ pub fn cut_sections_are_refused()
         → v2_answer (record { list = ps; end = end }) ≡ refused e }
 {}
 
-/// Where an answer under versions 0 and 1 is refused, no beginning ends one, and the refusal is that of
-/// the reader after all of it.
+/// Where an answer under versions 0 and 1 is refused, no beginning ends one, and the error is the
+/// reader's after all of it.
 pub fn refused_answers_have_no_end()
     ensures { (version : Protocol) (a : Expected) (p : Pieces) (e : AnswerRefusal) → v1_answer version a p ≡ refused e
         → BeginningIsRefused version a p e }

@@ -1,4 +1,4 @@
-//! Equality, order and default of what a boundary is told.
+//! Equality, order and default of changes of a boundary.
 ghost use Rattle.std.specs.Prelude.{◌≡◌, ◌↔◌, IsTrue};
 ghost use Rattle.gixp_shallow.specs.UpdateOrder.{update_cmp};
 ghost use Rattle.gixp_shallow.specs.declared.shallow.Shallow.TheVariants.{NoChange};

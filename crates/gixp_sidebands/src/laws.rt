@@ -12,7 +12,7 @@ pub fn content_lines_are_of_items()
 {}
 
 /// The items of the content are the stream's banded items without their texts: each line, each stop and the
-/// end, so that what comes after the lines of the content is what comes after those of the stream.
+/// end, so that what comes after the lines of the content is what comes after the stream's.
 pub fn content_items_are_of_items()
     ensures { (version : Protocol) (ps : Pieces) → items_of version plain (unband ps) ≡ without_texts (items_of version banded ps) }
 {}

@@ -55,8 +55,8 @@ pub trait BandText {
 ///
 /// Beside the refusals of the transport there are `BadBand`, at a packet of no band, which is never
 /// taken, so that every reader over this transport returns the same; `Interrupted`, where the
-/// interrupt said so, after which the text isn't told again; and `Memory`, where the listener had
-/// none, after which the same text is told again.
+/// interrupt said so, after which the text isn't reported again; and `Memory`, where the listener had
+/// none, after which the same text is reported again.
 pub struct WithSidebands<'a, 'i, T: ExtendedBufRead, P, I> {
     front: Front<'a, T>,
     progress: P,

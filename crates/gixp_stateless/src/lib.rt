@@ -1,4 +1,4 @@
-//! What a server without state says, whose answers come each by itself, as over HTTP: packet lines, and behind each answer a
+//! What a server without state says, whose answers come each by itself, as over HTTP: packet lines, and after each answer a
 //! response-end packet (gitremote-helpers, "stateless-connect"; gitprotocol-v2, "Packet-Line Framing").
 #![tactic(auto)]
 

@@ -30,7 +30,7 @@ pub enum Body {
 /// body of its own, and what was left of the one before is dropped. It doesn't persist.
 ///
 /// Before the first handshake it reads as empty, and so does a body that is missing. Its stops are
-/// those of version 2 until a `handshake` or `reset`. A body is freed at a stop after which it has
+/// version 2's until a `handshake` or `reset`. A body is freed at a stop after which it has
 /// no more.
 #[derive(Drop)]
 pub struct Bodies {

@@ -29,7 +29,7 @@ pub trait Transport: ExtendedBufRead {
     fn connection_persists_across_multiple_requests(&self) -> bool
         ensures { result ≡ (Self.reading self.now).held.persists };
 
-    /// Where the server is, as this transport was told.
+    /// Where the server is, as this transport has it.
     fn to_url(&self) -> BStr<'_>
         ensures { bstr_bytes result ≡ (Self.reading self.now).held.url };
 

@@ -23,8 +23,8 @@ pub use written::written_text;
 ///
 /// # Errors
 ///
-/// That of the line that came next, which is then taken, or that of the reader, with what
-/// [`parse::Error`] says of it. Behind a line that was refused, or whose allocation failed, the
+/// The error of the line that came next, which is then taken, or of the reader, with what
+/// [`parse::Error`] says of it. After a line that was refused, or whose allocation failed, the
 /// next call goes on with the line after it.
 #[inline(always)]
 pub fn next_v2_ref<R: ExtendedBufRead>(

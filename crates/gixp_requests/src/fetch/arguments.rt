@@ -303,7 +303,7 @@ impl Arguments {
         has_feature(&self.features, "filter")
     }
 
-    /// Whether commits can be told whose parents aren't there.
+    /// Whether the server takes the ids of commits whose parents aren't here.
     pub fn can_use_shallow(&self) -> bool
         ensures { result ≡ can_use (codes "shallow") self.now }
     {

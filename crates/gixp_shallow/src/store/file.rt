@@ -24,7 +24,7 @@ use std::rt::Files;
 /// lock keeps out programs that don't ask for it, nor that either outlasts a loss of power. What is
 /// promised is said of this value alone: what each call returns, whether the lock file is held to be
 /// there, and how many calls were refused for another reason than an allocation failure. A lock file is
-/// left behind where the program ends before `release`.
+/// left where the program ends before `release`.
 #[derive(Drop)]
 pub struct ShallowFile<'a, F> {
     files: &'a F,

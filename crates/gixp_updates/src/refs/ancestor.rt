@@ -36,7 +36,7 @@ fn is_beyond(seen: usize, most_commits: Option<usize>) -> bool
 /// # Errors
 ///
 /// `FindObject` where a commit can't be read, `Memory` where an allocation failed, and `TooManyCommits` where more than
-/// `most_commits` ids (those of parents that aren't there counted) had been looked for by then; with none there is no
+/// `most_commits` ids (ids of parents that aren't there counted) had been looked for by then; with none there is no
 /// such limit. The graph holds what was found so far, and a later call may succeed.
 pub fn is_ancestor<O: Objects>(
     alloc: Global,

@@ -19,7 +19,7 @@ use gixp_refmap::fetch::Tags;
 use gixp_refmap::refmap::Mapping;
 use std::alloc::Global;
 
-/// What becomes of the local ref of one mapping. The names are those of `gix::remote::fetch::refs::update::Mode`, and two
+/// What becomes of the local ref of one mapping. The names are the ones in `gix::remote::fetch::refs::update::Mode`, and two
 /// more.
 #[derive(Clone, Copy, Debug, PartialEq, Eq)]
 pub enum Mode {

@@ -63,7 +63,7 @@ fn put_together<M>(rows: &mut Vec<Named<'_, M>>) -> Result<(), AllocError>
     Ok(())
 }
 
-/// The mappings that have a local name, those of one number behind one another and in their order.
+/// The mappings that have a local name; mappings of one hash stand one after another, in their order.
 pub(crate) fn table_of<M: AsMapping>(
     alloc: Global,
     mappings: &[M],

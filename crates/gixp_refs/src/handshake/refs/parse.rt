@@ -19,7 +19,7 @@ pub enum Invariant {
     UnbornTag,
     /// The target of a version 2 ref line without an id is `(null)`.
     UnbornNullTarget,
-    /// A peeled version 1 line comes after no ref line, or after that of a symbolic ref.
+    /// A peeled version 1 line comes after no ref line, or after the line of a symbolic ref.
     PeeledAlone,
     /// A peeled version 1 line comes after the ref line of another path.
     PeeledElsewhere,

@@ -63,7 +63,7 @@ impl Response {
     /// Reads the answer to a request, under the stops of this version, from which the reader goes on
     /// after a stop that it is at.
     ///
-    /// Under version 2 an answer is a list of sections; those of one header are joined. It ends in the
+    /// Under version 2 an answer is a list of sections; sections of one header are joined. It ends in the
     /// header `packfile`, after which the pack begins, or in a section that a flush ends. Under
     /// versions 0 and 1 it is the shortest beginning of what is to come that ends
     ///
@@ -142,7 +142,7 @@ impl Response {
         self.has_pack
     }
 
-    /// What the server says of the commits that it was told of, in order. Under versions 0 and 1 a
+    /// What the server says of the commits that were offered, in order. Under versions 0 and 1 a
     /// commit in common stands once, at its first place.
     pub fn acknowledgements(&self) -> &[Acknowledgement]
         ensures { result.now ≡ self.now.acknowledgements }
@@ -164,7 +164,7 @@ impl Response {
         &self.wanted_refs
     }
 
-    /// Adds the updates, if any, after those of the answer: under version 1 a server sends those of a
+    /// Adds the updates, if any, after the answer's own: under version 1 a server sends the boundary of a
     /// shallow repository with its refs.
     ///
     /// # Errors

@@ -19,7 +19,7 @@ pub enum Acknowledgement {
     Common(ObjectId),
     /// The server can make a pack.
     Ready,
-    /// The server has none of those that it was told of in this request.
+    /// The server has none of the commits that this request offered.
     Nak,
 }
 
