@@ -1,6 +1,6 @@
 -- A pack that is copied piece by piece.
 use Rattle.std.proofs.Common.{◌≡◌, ℕ, ◌+◌, ◌≤◌, ◌<◌, List, [], ◌++◌, length, take, arith, refl, ap, sym, ◌∙◌, subst, Option, Some, None, IsSome, inl, inr}
-use Rattle.std.proofs.lemmas.List.{append_assoc, append-nil, take_all}
+use Rattle.std.proofs.lemmas.List.{append-nil, take_all}
 use Rattle.std.specs.Prelude.{IfSome}
 use Rattle.std.specs.Io.KnownBytes.{Appends}
 use Rattle.gixp_packetline.specs.declared.protocol.MessageKind.{MessageKind}

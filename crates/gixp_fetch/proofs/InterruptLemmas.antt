@@ -1,5 +1,5 @@
 -- Whom an answer asks that is read through bands.
-use Rattle.std.proofs.Common.{◌≡◌, ℕ, ◌+◌, ap, sym, subst, ◌∙◌, Bool, true, false, length, None, IfSome, refl, inl, inr, arith}
+use Rattle.std.proofs.Common.{◌≡◌, ◌+◌, ap, sym, subst, ◌∙◌, Bool, true, false, length, None, IfSome, refl, inl, inr, arith}
 use Rattle.std.specs.Borrow.{GName}
 use Rattle.gixp_packetline.specs.Reading.{Reading, TakesLine}
 use Rattle.gixp_sidebands.specs.Bands.{Side, is_begun}

@@ -1,5 +1,5 @@
 -- Lists that run through one vector, and the map of them.
-use Rattle.std.proofs.Common.{arith, ◌≡◌, ℕ, ℤ, ◌+◌, ◌-◌, ◌<◌, ◌≤◌, ◌∙◌, ◌⊎◌, ⊎_elim, inl, inr, zero, suc, Bool, true, false, cond, List, [], ◌∷◌, ◌++◌, map, length, length-append, Option, Some, None, refl, sym, ap, subst, append_assoc}
+use Rattle.std.proofs.Common.{arith, ◌≡◌, ℕ, ℤ, ◌+◌, ◌-◌, ◌<◌, ◌≤◌, ◌∙◌, ◌⊎◌, ⊎_elim, zero, suc, Bool, true, false, cond, List, [], ◌∷◌, ◌++◌, map, length, length-append, Option, Some, None, refl, sym, ap, subst, append_assoc}
 use Rattle.std.specs.declared.cmp.Ordering.{Ordering}
 use Rattle.std.specs.declared.cmp.Ordering.TheVariants.{Less, Equal, Greater}
 use Rattle.std.specs.Ordering.{int_cmp, is_eq, is_lt, match_ordering, MatchOrdering}
@@ -22,7 +22,7 @@ use Rattle.std.specs.Prelude.{All, ◌≤ℤ◌, IfSome, IfNone, Result, Ok, Err
 use Rattle.gixp_graph.specs.declared.queue.Entry.{Entry}
 use Rattle.gixp_graph.specs.declared.times.Link.{Link}
 use Rattle.gixp_graph.specs.Queue.{entry_at}
-use Rattle.gixp_graph.specs.Times.{link_at, IsLinked, numbers_from, numbers_of, entries_of, entries_in, taken_entries, all_entries, with_list, EndsWithin, AllEnd, IsBeside, IsTimes, IsRest, TakesList}
+use Rattle.gixp_graph.specs.Times.{link_at, IsLinked, numbers_from, numbers_of, entries_of, entries_in, all_entries, with_list, EndsWithin, AllEnd, IsTimes, IsRest, TakesList}
 use Rattle.gixp_graph.proofs.NodeLemmas.{nat_cases}
 
 -- the link that an index past the end would be

@@ -1,5 +1,5 @@
 -- What the objects of a repository mean: a finite map from ids to what is known of them.
-use Rattle.std.specs.Prelude.{ℕ, ◌≡◌, ◌<◌, ◌-◌, ◌^◌, ◌⊎◌, ℤ, List, Option, option_and_then, option_map, refl, zero, suc}
+use Rattle.std.specs.Prelude.{ℕ, ◌≡◌, ◌-◌, ℤ, List, Option, option_and_then, option_map, refl, zero, suc}
 use Rattle.std.specs.FinMap as finite
 use Rattle.std.specs.FinMap.{FinMap}
 use Rattle.std.specs.Coded.{Coded, code_by, coded×, coded_ℕ, coded_list, coded_ℤ, coded_option}

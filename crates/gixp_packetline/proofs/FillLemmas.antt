@@ -1,5 +1,5 @@
 -- What it does to packets that a read was made and noted.
-use Rattle.std.proofs.Common.{◌≡◌, ℕ, ◌+◌, ◌-◌, ◌<◌, ◌⊎◌, inl, inr, Bool, true, false, List, ◌++◌, length, ◌≤◌, zero, suc, refl, sym, ap, subst, ◌∙◌, arith, rules, Option, Result, Ok, Err, take, drop, length-append, length-drop}
+use Rattle.std.proofs.Common.{◌≡◌, ℕ, ◌+◌, ◌-◌, ◌<◌, inl, inr, Bool, true, false, List, ◌++◌, length, ◌≤◌, zero, suc, refl, sym, ap, subst, ◌∙◌, arith, rules, Option, Result, Ok, Err, take, drop, length-append, length-drop}
 use Rattle.std.proofs.lemmas.List.{length-take-le}
 use Rattle.std.specs.declared.io.ErrorKind.{ErrorKind}
 use Rattle.std.specs.declared.io.ErrorKind.TheVariants.{UnexpectedEof}
@@ -11,7 +11,7 @@ use Rattle.gixp_packetline.specs.declared.read.Error.TheVariants.{Io}
 use Rattle.gixp_packetline.specs.Frames.{head_of}
 use Rattle.gixp_packetline.specs.Reading.{Rose, is_end}
 use Rattle.gixp_packetline.specs.Window.{Shown, Receives}
-use Rattle.gixp_packetline.specs.Packets.{known, Fills, NotesRead, Kept, Filled, Ended, Broke, BrokeOff}
+use Rattle.gixp_packetline.specs.Packets.{known, Fills, NotesRead, Filled, Ended}
 use Rattle.gixp_packetline.proofs.PacketLemmas.{keeps_received, keeps_kept, keeps_ended, same_pending}
 
 end_kind : (kind : ErrorKind) → is_end kind ≡ true → kind ≡ UnexpectedEof

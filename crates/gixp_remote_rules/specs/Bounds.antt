@@ -1,5 +1,5 @@
 -- What a line of the server's says of the shallow boundary (gitprotocol-pack, "shallow-line"; gitprotocol-v2, "shallow-info").
-use Rattle.std.specs.Prelude.{ℕ, nat_eq, Bool, true, false, if◌then◌else◌, List, drop, codes, Option, Some, None}
+use Rattle.std.specs.Prelude.{ℕ, nat_eq, Bool, true, false, if◌then◌else◌, List, drop, codes, Option, None}
 use Rattle.std.specs.List.{starts_with}
 use Rattle.std.specs.Option.{option_map}
 use Rattle.gixp_hash.specs.ObjectId.{id_of}

@@ -1,5 +1,5 @@
 -- The conversation with git, a line at a time (gitremote-helpers, "COMMANDS").
-use Rattle.std.specs.Prelude.{ℕ, ◌==◌, Bool, if◌then◌else◌, List, [], length, is_some}
+use Rattle.std.specs.Prelude.{ℕ, ◌==◌, if◌then◌else◌, List, [], length, is_some}
 use Rattle.gixp_hash.specs.declared.object_id.ObjectId.{ObjectId}
 use Rattle.gixp_hash.specs.ObjectId.{id_of}
 use Rattle.gixp_remote_rules.specs.declared.conversation.Conversation.{Conversation}

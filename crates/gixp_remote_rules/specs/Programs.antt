@@ -1,5 +1,5 @@
 -- The words and variables that programs of git's are started with.
-use Rattle.std.specs.Prelude.{ℕ, ◌==◌, ◌||◌, ◌&&◌, not, nat_eq, Bool, if◌then◌else◌, List, [], ◌∷◌, ◌++◌, drop, flat_map, map, codes, is_some, Option, Some, None}
+use Rattle.std.specs.Prelude.{ℕ, ◌==◌, ◌||◌, ◌&&◌, not, nat_eq, Bool, if◌then◌else◌, List, [], ◌∷◌, ◌++◌, drop, flat_map, codes, is_some, Option, Some, None}
 use Rattle.std.specs.List.{starts_with}
 use Rattle.gixp_remote_rules.specs.Choosing.{Chosen, asks_closed}
 

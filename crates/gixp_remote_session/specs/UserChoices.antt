@@ -1,5 +1,5 @@
 -- What the user chooses by a variable, or else by a setting.
-use Rattle.std.specs.Prelude.{◌≡◌, ℕ, ◌==◌, ◌&&◌, not, Bool, true, false, if◌then◌else◌, List, length, codes, Option, Some, None, unwrap_or}
+use Rattle.std.specs.Prelude.{◌≡◌, ℕ, ◌==◌, ◌&&◌, not, Bool, if◌then◌else◌, List, length, codes, Option, Some, None, unwrap_or}
 use Rattle.std.specs.Str.{bytes_eq}
 use Rattle.gix_protocol.specs.ProtocolType.{Protocol}
 use Rattle.gix_protocol.specs.ProtocolType.TheVariants.{V2}

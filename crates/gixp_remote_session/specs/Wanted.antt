@@ -1,7 +1,6 @@
 -- What a server is asked for.
-use Rattle.std.specs.Prelude.{List, [], map, if◌then◌else◌, Option, None}
+use Rattle.std.specs.Prelude.{None}
 use Rattle.gix_protocol.specs.ObjectIdType.{ObjectId}
-use Rattle.gix_protocol.specs.SpecIndexType.{SpecIndex}
 use Rattle.gix_protocol.specs.SpecIndexType.TheVariants.{ExplicitInRemote}
 use Rattle.gix_protocol.specs.Values.{MappingValue, an_object}
 

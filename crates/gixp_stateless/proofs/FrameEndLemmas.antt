@@ -1,13 +1,11 @@
 -- What is given of whole packet lines and of what comes after them.
-use Rattle.std.proofs.Common.{◌≡◌, ℕ, zero, suc, ◌+◌, ◌-◌, ◌<◌, ◌≤◌, ◌==◌, ◌⊎◌, inl, inr, nat_eq, nat_lt, true, false, if◌then◌else◌, List, [], ◌∷◌, ◌++◌, length, take, drop, Option, Some, None, refl, ap, sym, subst, ◌∙◌, arith, append_assoc, append-nil, length-drop, length-append, ne_eqb}
+use Rattle.std.proofs.Common.{◌≡◌, ℕ, ◌+◌, ◌-◌, ◌<◌, inl, inr, nat_eq, false, List, [], ◌∷◌, ◌++◌, length, take, drop, Option, Some, None, ap, sym, subst, ◌∙◌, arith, append_assoc, append-nil, length-drop, ne_eqb}
 use Rattle.std.proofs.lemmas.List.{take-append-drop}
-use Rattle.gixp_packetline.specs.declared.packet.PacketError.{PacketError}
 use Rattle.gixp_packetline.specs.declared.packet.PacketError.TheVariants.{HexDecode, DataLengthLimitExceeded, DataIsEmpty, InvalidLineLength}
 use Rattle.gixp_packetline.specs.declared.protocol.MessageKind.TheVariants.{Flush, Delimiter, ResponseEnd, Text}
 use Rattle.gixp_packetline.specs.Frames.{size_of, Frame, payload, special, End, ended, bad}
-use Rattle.gixp_packetline.specs.Grammar.{Counts, IsFrame, IsRefused, IsEnd, AreFrames}
-use Rattle.gixp_stateless.specs.declared.place.Next.{Next}
-use Rattle.gixp_stateless.specs.declared.place.Next.TheVariants.{Line, Payload, Rest}
+use Rattle.gixp_packetline.specs.Grammar.{Counts, IsFrame, IsEnd, AreFrames}
+use Rattle.gixp_stateless.specs.declared.place.Next.TheVariants.{Payload, Rest}
 use Rattle.gixp_stateless.specs.Answers.{next_of, given_of, given, without_ends}
 use Rattle.gixp_stateless.specs.Others.{without_response_ends}
 use Rattle.gixp_stateless.proofs.AnswersLemmas.{payload_front, rest_front, payload_part, payload_over, digits_part, digits_whole}

@@ -1,5 +1,5 @@
 -- What a consumer that reads once leaves.
-use Rattle.std.specs.Prelude.{◌≡◌, ◌⊎◌, ℕ, List, [], take, Result, Ok, Err}
+use Rattle.std.specs.Prelude.{◌≡◌, ℕ, List, [], take, Result, Ok, Err}
 use Rattle.std.proofs.Common.{inl, inr}
 use Rattle.std.specs.declared.io.Error.{Error as io_error}
 use Rattle.gixp_packetline.specs.Reading.{Reading, AtStop, Fails}

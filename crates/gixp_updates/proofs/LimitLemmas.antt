@@ -1,13 +1,13 @@
 -- How many ids are asked for.
 use Rattle.std.proofs.Common.{◌≡◌, ℕ, ◌+◌, ◌<◌, ◌≤◌, ◌∙◌, inl, inr, ⊎_elim, List, [], ◌∷◌, ◌++◌, length, get_or, append-nil, append_assoc, Option, Some, None, refl, sym, ap, subst, arith, add-one, true≢false}
-use Rattle.std.specs.Prelude.{Result, Ok, Err, Bool, true, false, Contains}
+use Rattle.std.specs.Prelude.{Result, Ok, Err, true, false, Contains}
 use Rattle.std.proofs.lemmas.List.Elements.{All-contains, Contains-get_or}
 use Rattle.std.specs.FinMap as finite
 use Rattle.std.proofs.lemmas.Bool.{cases_lt}
 use Rattle.gixp_hash.specs.declared.object_id.ObjectId.{ObjectId}
 use Rattle.gixp_graph.specs.Object.{Commit}
 use Rattle.gixp_graph.specs.GraphData.{GraphData}
-use Rattle.gixp_graph.specs.Asked.{AsksOnce, AsksEach}
+use Rattle.gixp_graph.specs.Asked.{AsksOnce}
 use Rattle.gixp_refmap.specs.declared.refmap.mapping.Mapping.{Mapping}
 use Rattle.gixp_updates.specs.declared.refs.error.Error.{Error}
 use Rattle.gixp_updates.specs.declared.refs.error.Error.TheVariants.{FindObject, TooManyCommits, Memory}

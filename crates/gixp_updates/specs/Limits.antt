@@ -1,5 +1,5 @@
 -- How many ids a call asks the objects for, where the caller limits each look at the ancestors of a commit.
-use Rattle.std.specs.Prelude.{◌≡◌, ◌⊎◌, ℕ, ◌≤◌, ⊤, zero, suc, List, [], ◌∷◌, ◌++◌, length, Contains, All, Option, Some, None, Result, Ok, Err}
+use Rattle.std.specs.Prelude.{◌≡◌, ◌⊎◌, ℕ, ◌≤◌, ⊤, zero, suc, List, [], ◌∷◌, ◌++◌, length, Contains, Option, Some, None, Result, Ok, Err}
 use Rattle.gixp_hash.specs.declared.object_id.ObjectId.{ObjectId}
 use Rattle.gixp_graph.specs.Object.{Commit}
 use Rattle.gixp_refmap.specs.declared.refmap.mapping.Mapping.{Mapping}

@@ -1,5 +1,5 @@
 -- Whether the lines of a command can be sent.
-use Rattle.std.proofs.Common.{◌≡◌, ℕ, Bool, true, false, List, [], ◌∷◌, ◌++◌, Option, refl, sym, ap, ◌∙◌, map, ◌&&◌}
+use Rattle.std.proofs.Common.{◌≡◌, ℕ, Bool, true, false, List, [], ◌∷◌, ◌++◌, Option, refl, ap, ◌∙◌, map, ◌&&◌}
 use Rattle.std.specs.Prelude.{codes, String, string_bytes}
 use Rattle.std.specs.List.{list_all}
 use Rattle.std.specs.Borrow.{Bor}
@@ -8,7 +8,7 @@ use Rattle.std.specs.declared.alloc.Global.{Global}
 use Rattle.std.proofs.lemmas.List.Folds.{list_all-append, list_all-map}
 use Rattle.bstr.specs.declared.bstring.BString.{BString}
 use Rattle.bstr.specs.Owned.{bstring_bytes}
-use Rattle.gixp_wire.specs.Message.{MessageValue, text, flush, fits, value_fits, lines_fit, feature_line, feature_lines, command_lines, argument_values, command_fits}
+use Rattle.gixp_wire.specs.Message.{MessageValue, text, flush, fits, value_fits, lines_fit, feature_line, feature_lines, argument_values, command_fits}
 
 -- tests in a row, of which the last is true
 and_parts : (a b c : Bool) → (((a && b) && c) && true) ≡ (a && (b && c))

@@ -1,5 +1,5 @@
 -- Of two entries the newer stands before the map.
-use Rattle.std.proofs.Common.{◌≡◌, ◌∙◌, ℤ, ◌∷◌, ◌++◌, sym, ap, subst}
+use Rattle.std.proofs.Common.{◌∙◌, ℤ, ◌∷◌, ◌++◌, sym, ap, subst}
 use Rattle.std.specs.List.Sorted.{IsPermutation}
 use Rattle.std.proofs.lemmas.Int.{to_z-of_z}
 use mir.Syntax.{w64}

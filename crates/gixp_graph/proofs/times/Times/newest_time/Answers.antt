@@ -1,5 +1,5 @@
 -- The time of the list beside the map, or the last of the map.
-use Rattle.std.proofs.Common.{rules, ◌≡◌, ℤ, sym, subst, true≢false}
+use Rattle.std.proofs.Common.{rules, ℤ, sym, subst, true≢false}
 use Rattle.std.specs.Prelude.{All, ◌≤ℤ◌}
 use Rattle.std.proofs.lemmas.Int.{to_z-of_z}
 use mir.Val.{SFits}

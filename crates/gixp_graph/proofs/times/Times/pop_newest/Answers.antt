@@ -1,5 +1,5 @@
 -- The first number of the list of the greatest time is taken.
-use Rattle.std.proofs.Common.{rules, ◌≡◌, ℤ, ◌∷◌, Option, [], sym, subst}
+use Rattle.std.proofs.Common.{rules, ◌≡◌, ℤ, ◌∷◌, [], sym, subst}
 use Rattle.std.specs.Prelude.{All, ◌≤ℤ◌}
 use Rattle.std.specs.List.Sorted.{IsPermutation}
 use Rattle.std.proofs.lemmas.Int.{to_z-of_z}

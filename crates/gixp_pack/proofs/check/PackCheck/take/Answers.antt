@@ -1,4 +1,4 @@
-use Rattle.std.proofs.Common.{◌≡◌, ◌-◌, ◌++◌, length, take, drop, arith, ap, sym, ◌∙◌}
+use Rattle.std.proofs.Common.{◌≡◌, ◌-◌, ◌++◌, length, take, drop, ap, sym, ◌∙◌}
 use Rattle.gixp_pack.proofs.TakenLemmas.{hashed_more, last_more, header_more, count_more, to_end}
 use Rattle.gixp_pack.proofs.check.PackCheck.take.Goals as goal
 

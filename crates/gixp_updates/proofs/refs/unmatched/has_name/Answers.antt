@@ -1,5 +1,5 @@
 -- By the kind of the source.
-use Rattle.std.proofs.Common.{ℕ, Bool, List, ◌≡◌, ◌∙◌, sym, ap}
+use Rattle.std.proofs.Common.{Bool, ◌≡◌, ◌∙◌, sym, ap}
 use Rattle.std.specs.List.{list_any}
 use Rattle.std.proofs.lemmas.Result.{IfOk-weaker}
 use Rattle.gixp_refspec.specs.declared.needle.Needle.{Needle}

@@ -1,5 +1,5 @@
 -- Whether a source matches one of the refs.
-use Rattle.std.proofs.Common.{ℕ, Bool, List, ◌≡◌, ◌∙◌, sym, subst}
+use Rattle.std.proofs.Common.{Bool, ◌≡◌, ◌∙◌, sym, subst}
 use Rattle.std.specs.List.{list_any}
 use Rattle.std.proofs.lemmas.Result.{IfOk-weaker}
 use Rattle.gixp_refspec.specs.Needle.{IsNeedle}
