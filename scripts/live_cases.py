@@ -535,11 +535,26 @@ def locales(name, t):
         t.check(f"{name}: {locale}, warnings", second[2].count("setlocale") == locale.startswith("xx"), second[2])
 
 
+def other_formats(name, t):
+    """A repository of SHA-256 takes nothing from a server of SHA-1, and a clone that begins as one becomes what the server is."""
+    server, more = make(t, "server", 3), {"GIT_DEFAULT_HASH": "sha256"}
+    for url in by_path(server):
+        client = t.folder("client")
+        t.git("init", "-q", "--object-format=sha256", client)
+        status, out, err = t.run("git", "fetch", url, "main", at=client)
+        is_refused = status == 128 and "fatal: mismatched algorithms" in err and not [*client.glob(".git/objects/*/*")]
+        t.check(f"{name}: fetch of {url}", is_refused and leaves_nothing(t), f"{status} {err}")
+        status, out, err = t.run("git", "ls-remote", url, "main", at=client)
+        t.check(f"{name}: ls-remote of {url}", status == 0 and "refs/heads/main" in out, f"{status} {err}")
+    by_git, by_us, first, second = clone_both(t, server, more=more)
+    same(t, f"{name}: clone", by_git, by_us, first, second)
+
+
 def try_harm(t):
     for name, action in (
         ("a linked work tree", work_trees), ("a shallow server", shallow_servers), ("a spoiled boundary", spoiled_boundaries),
         ("a locked boundary", locked_boundary), ("evil objects", evil_objects), ("locks of packs", locks_of_packs),
         ("the server's environment", environments), ("dates", dates), ("an older bash", older_bash),
-        ("locales", locales),
+        ("locales", locales), ("another hash function", other_formats),
     ):
         t.case(name, action)

@@ -6,10 +6,12 @@ import signal
 import subprocess
 import time
 
-from live_harness import end_session, leaves_nothing, make, running
-from live_servers import GREETING, daemon_of, has_loopback, here_ssh, shell_ssh
+from live_harness import by_both, end_session, leaves_nothing, make, running
+from live_servers import GREETING, daemon_of, has_loopback, here_ssh, shell_ssh, ssh
 
 MOMENTS = 20
+# a pack that says it has two objects, and has one: its checksum reads as the beginning of the other
+HUNGRY = "5041434b000000020000000239789c333134b7b0b43436e30200094601ba442815c5f04a20ae4bc5bb612b5a33fbf5609aed"
 # passes bytes on, a few each half second
 TRICKLE = "import os, time\nwhile said := os.read(0, 700): os.write(1, said); time.sleep(0.5)"
 # seconds in which git is to end behind a signal, on a machine that has other work
@@ -35,6 +37,14 @@ def frozen(name, t):
     t.check(f"{name}: slow", status == 0 and leaves_nothing(t), f"{status} {err}")
     status, out, err = t.run("git", "clone", "-q", "gixp::/nowhere/at/all", t.folder("us"))
     t.check(f"{name}: no repository", status != 0 and leaves_nothing(t), err)
+
+
+def hungry(name, t):
+    """A pack that lets git wait for more than it has: its end is known all the same."""
+    server, pack = make(t, "server", 3), t.folder("pack")
+    pack.write_bytes(bytes.fromhex(HUNGRY))
+    ends = [t.run("git", "clone", "-q", url, t.folder("to"), more=ssh(PACK=pack)) for url in by_both(server)]
+    t.check(name, all(status == 128 and "early EOF" in err for status, out, err in ends) and leaves_nothing(t), ends)
 
 
 def left_by(t, client, files=FILES):
@@ -140,6 +150,7 @@ def orphaned(name, t):
 
 def try_ends(t):
     t.case("a server that freezes", frozen)
+    t.case("a pack that wants more", hungry)
     ours, term, kill = t.remote.name, signal.SIGTERM, signal.SIGKILL
     for who, sent in (
         ("git-remote-gixp", term), (ours, term), (ours, kill), ("index-pack", term), ("index-pack", kill), ("upload-pack", term),

@@ -29,13 +29,15 @@ def as_ssh():
     LIVE_BOUNDARY  lines about the boundary that stand before the pack, whatever the server has to say of it
     LIVE_SAYS      a band and a text that stand before the pack's last packet line
     LIVE_ENDS      it ends right behind the pack
+    LIVE_PACK      a file with the pack that it sends in place of its own
     """
     path = shlex.split(sys.argv[-1])[1]
-    wish = {name: os.environ.get(f"LIVE_{name}") for name in ("STARTS", "VERSION", "MOST", "PAD", "BODIES", "BOUNDARY", "SAYS", "ENDS")}
+    names = "STARTS", "VERSION", "MOST", "PAD", "BODIES", "BOUNDARY", "SAYS", "ENDS", "PACK"
+    wish = {name: os.environ.get(f"LIVE_{name}") for name in names}
     if wish["STARTS"]:
         with open(wish["STARTS"], "a") as starts:
             starts.write("start\n")
-    edits = any(wish[name] for name in ("BOUNDARY", "SAYS", "ENDS"))
+    edits = any(wish[name] for name in ("BOUNDARY", "SAYS", "ENDS", "PACK"))
     if wish["VERSION"] or wish["BODIES"] or edits:
         os.environ["GIT_PROTOCOL"] = f"version={wish['VERSION'] or 2}"
     if wish["BODIES"] or edits:
@@ -66,6 +68,8 @@ def edited(answer, wish):
     if wish["BOUNDARY"]:
         lines = b"".join(frame(line.encode() + b"\n") for line in wish["BOUNDARY"].split(","))
         front = front.split(frame(b"shallow-info\n"))[0] + frame(b"shallow-info\n") + lines + b"0001"
+    if wish["PACK"]:
+        pack = frame(b"\1" + pathlib.Path(wish["PACK"]).read_bytes()) + b"0000"
     if wish["SAYS"]:
         band, _, text = wish["SAYS"].partition(" ")
         pack = pack[:-4] + frame(bytes([int(band)]) + text.encode("latin1").decode("unicode_escape").encode("latin1")) + b"0000"

@@ -16,7 +16,8 @@ check_words name = codes "index-pack" ∷ (codes "--strict=" ++ (name ++ codes "
 -- the words of a question (git-config; git-rev-parse; git-show-ref; git-index-pack, "--strict"; git-cat-file, "--batch-check")
 abbrev pub question_words : Question → List (List ℕ)
 question_words Places =
-    codes "rev-parse" ∷ codes "--path-format=absolute" ∷ codes "--git-path" ∷ codes "shallow" ∷ codes "--git-path" ∷ codes "objects" ∷ []
+    codes "rev-parse" ∷ codes "--show-object-format" ∷ codes "--path-format=absolute" ∷ codes "--git-path" ∷ codes "shallow"
+    ∷ codes "--git-path" ∷ codes "objects" ∷ []
 question_words Refs = codes "show-ref" ∷ codes "--head" ∷ codes "-d" ∷ []
 question_words Commits = commit_words
 question_words SkipList = codes "config" ∷ codes "--type=path" ∷ codes "--get" ∷ codes "fetch.fsck.skiplist" ∷ []

@@ -77,6 +77,7 @@ pub fn question_words(alloc: Global, question: Question<'_>) -> Result<Vec<BStri
             alloc,
             &[
                 "rev-parse",
+                "--show-object-format",
                 "--path-format=absolute",
                 "--git-path",
                 "shallow",

@@ -7,6 +7,7 @@ pub mod History
 pub mod UserChoices
 pub mod Packs
 pub mod WebServer
+pub mod ShownPlaces
 pub mod ShownRefs
 pub mod Boundaries
 pub mod Leaving

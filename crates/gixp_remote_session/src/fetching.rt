@@ -227,6 +227,7 @@ pub(crate) fn fetch<'a>(
     let alloc = rt.alloc();
     let mut commits = begin(order, shell)?;
     let places = Places::read(rt, shell)?;
+    places.expect_format(alloc, order.choices.is_cloning)?;
     let old = places.boundary(rt)?;
     if order.choices.has_depth() {
         lock_boundary(alloc, shell, &places)?;

@@ -1,15 +1,17 @@
 //! The repository that fetches, as git shows it.
-ghost use Rattle.std.specs.Prelude.{◌≡◌, ◌<◌, ◌==◌, ◌++◌, [], length, map, true, codes, is_some, option_map, Some, None, IfOk, IfErr, IfSome, MatchResult, string_bytes};
+ghost use Rattle.std.specs.Prelude.{◌≡◌, ◌<◌, ◌==◌, ℕ, List, [], length, map, true, false, codes, is_some, option_map, Some, None, IfOk, IfErr, IfSome, MatchResult, string_bytes};
 ghost use Rattle.std.specs.FinMap as finite;
 ghost use Rattle.std.specs.List.{slice_split, position};
 ghost use Rattle.bstr.specs.BStr.{bstr_bytes};
+ghost use Rattle.bstr.specs.Owned.{bstring_bytes};
 ghost use Rattle.gixp_remote_session.specs.ShownRefs.{id_and_name, shown_in, objects_shown, IsUnshown, with_shown, kind_shown};
-ghost use Rattle.gixp_remote_session.specs.Troubles.{TellsOther};
+ghost use Rattle.gixp_remote_session.specs.ShownPlaces.{AreShownPlaces, fits_format};
+ghost use Rattle.gixp_remote_session.specs.Troubles.{TellsOther, TellsWord};
 
 use crate::pipes::REFS;
 use crate::shell::{NOTHING, Shell};
 use crate::trouble::Trouble;
-use bstr::{BStr, ByteSlice};
+use bstr::{BStr, BString, ByteSlice};
 use gix_protocol::fetch::negotiate::{ObjectKind, StoredObjects, StoredRefs, TextError};
 use gix_protocol::fetch::shallow_ids;
 use gix_protocol::transport::ObjectId;
@@ -19,9 +21,14 @@ use std::alloc::{AllocError, Global};
 use std::fs;
 use std::io::ErrorKind;
 
+// Why the places aren't known.
+const UNSHOWN: &str = "git doesn't say where the repository is, or a path of it has a line end";
+
 /// Where git keeps what belongs to the repository, which a linked work tree may share with others.
 #[derive(Drop)]
 pub(crate) struct Places {
+    /// The hash function of its ids, by git's name.
+    pub(crate) format: BString,
     /// The shallow boundary.
     pub(crate) shallow: String,
     /// git's lock of it.
@@ -31,33 +38,63 @@ pub(crate) struct Places {
 }
 
 // A path of a line.
-fn path_of(alloc: Global, line: Option<&[u8]>) -> Result<String, Trouble>
-    ensures { IfOk result (λ path. option_map (λ l. l.now) line.entry ≡ Some (string_bytes path)) }
+fn path_of(alloc: Global, line: BStr<'_>) -> Result<String, Trouble>
+    ensures { IfOk result (λ path. string_bytes path ≡ bstr_bytes line.entry) }
 {
-    match line {
-        Some(line) => match line.to_str() {
-            Ok(text) => Ok(String::from_str(alloc, text)?),
-            Err(_) => Err(Trouble::of_word(alloc, "this path is no UTF-8:", line)),
-        },
-        None => Err(Trouble::Other("the repository has no paths")),
+    match line.as_bytes().to_str() {
+        Ok(text) => Ok(String::from_str(alloc, text)?),
+        Err(_) => Err(Trouble::of_word(alloc, "this path is no UTF-8:", line.as_bytes())),
     }
 }
 
 impl Places {
-    /// Those that git was asked for.
-    pub(crate) fn read(rt: &HostRuntime, shell: &mut Shell) -> Result<Places, Trouble>
-        ensures { IfOk result (λ places. string_bytes places.shallow_lock ≡ string_bytes places.shallow ++ codes ".lock") }
+    // Those of the lines of a text of git's, of which the last is empty.
+    fn of_lines(alloc: Global, lines: &[BStr<'_>]) -> Result<Places, Trouble>
+        ensures { IfOk result (AreShownPlaces (map bstr_bytes lines.now)) }
     {
-        let told = shell.told(rt, Task::Question)?;
-        let mut lines = told.text.as_slice().lines();
-        let shallow = path_of(rt.alloc(), lines.next())?;
-        let objects = path_of(rt.alloc(), lines.next())?;
-        let shallow_lock = format!(in rt.alloc(); "{shallow}.lock")?;
+        let [format, shallow, objects, end] = lines else {
+            return Err(Trouble::Other(UNSHOWN));
+        };
+        if !end.is_empty() {
+            return Err(Trouble::Other(UNSHOWN));
+        }
+        let format = BString::from_slice(alloc, format.as_bytes())?;
+        let shallow = path_of(alloc, *shallow)?;
+        let objects = path_of(alloc, *objects)?;
+        let shallow_lock = format!(in alloc; "{shallow}.lock")?;
         Ok(Places {
+            format,
             shallow,
             shallow_lock,
             objects,
         })
+    }
+
+    /// Those that git was asked for. While the refs were listed for a clone, git may have been changing the repository's format, so
+    /// that it refused an answer: it waits now, and is asked once more.
+    pub(crate) fn read(rt: &HostRuntime, shell: &mut Shell) -> Result<Places, Trouble>
+        ensures { IfOk result (λ places. (text : List ℕ) × AreShownPlaces (slice_split (λ b. b == 10) text) places) }
+    {
+        let mut told = shell.told(rt, Task::Question)?;
+        if told.status != 0 {
+            told = shell.git(rt, Question::Places)?;
+        }
+        let lines = lines_of(rt.alloc(), &told.text)?;
+        Places::of_lines(rt.alloc(), &lines)
+    }
+
+    /// Whether the ids of a server's objects are such as this repository has. While cloning, git may give it the server's hash
+    /// function only after it was asked for the places.
+    pub(crate) fn expect_format(&self, alloc: Global, is_cloning: bool) -> Result<(), Trouble>
+        ensures { MatchResult result (λ _. fits_format is_cloning (bstring_bytes self.now.format) ≡ true)
+            (λ e. (fits_format is_cloning (bstring_bytes self.now.format) ≡ false)
+            × TellsWord (codes "mismatched algorithms: server sha1; client") (bstring_bytes self.now.format) e) }
+    {
+        if is_cloning || self.format.as_bytes() == b"sha1".as_slice() {
+            return Ok(());
+        }
+        let format = self.format.as_bytes();
+        Err(Trouble::of_word(alloc, "mismatched algorithms: server sha1; client", format))
     }
 
     /// The boundary that is there.

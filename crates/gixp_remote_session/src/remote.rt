@@ -62,11 +62,13 @@ struct Helper<'a> {
 }
 
 impl Helper<'_> {
-    // Starts the server, and asks for the places of the repository meanwhile, where there is one that may fetch.
+    // Starts the server, and asks for the places of the repository meanwhile, where there is one that may fetch. A clone that began
+    // with a hash function of the user's gets the server's as soon as the refs are listed, and is asked after that.
     fn begin_server(&mut self) -> Result<(), Trouble> {
         self.shell.watch()?;
         start_server(self.reach, &mut self.shell)?;
-        if variable(self.reach.rt, "GIT_DIR").is_some() {
+        let rt = self.reach.rt;
+        if variable(rt, "GIT_DIR").is_some() && variable(rt, "GIT_DEFAULT_HASH").is_none() {
             self.shell.ask_places()?;
         }
         Ok(())
