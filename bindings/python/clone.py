@@ -49,7 +49,7 @@ def write_refs(folder, refs):
 
 
 def main(url, folder):
-    subprocess.run(["git", "init", "-q", folder], check=True)
+    subprocess.run(["git", "init", "-q", "--object-format=sha1", folder], check=True)
     session = gixp.Session(SPECS)
     session.answer(gixp.without_service(ask(url).read()))
     step, answer = session.step(), None
