@@ -35,8 +35,11 @@ def frozen(name, t):
     more = {**shell_ssh(t, f'unset GIT_DIR\ngit upload-pack "{server}" | python3 -c "{TRICKLE}"'), "GIXP_TIMEOUT": "2"}
     status, out, err = t.run("git", "clone", "-q", "gixp::ssh://nowhere/x", t.folder("us"), more=more)
     t.check(f"{name}: slow", status == 0 and leaves_nothing(t), f"{status} {err}")
-    status, out, err = t.run("git", "clone", "-q", "gixp::/nowhere/at/all", t.folder("us"))
-    t.check(f"{name}: no repository", status != 0 and leaves_nothing(t), err)
+    # the program ends without the answers that it doesn't wait for: its shell says nothing of that
+    client = make(t, "client", 0)
+    for number in range(20):
+        status, out, err = t.run("git", "fetch", "-q", "gixp::/nowhere/at/all", at=client)
+        t.check(f"{name}: no repository, {number}", status != 0 and "write error" not in err and leaves_nothing(t), err)
 
 
 def hungry(name, t):
