@@ -35,11 +35,19 @@ def frozen(name, t):
     more = {**shell_ssh(t, f'unset GIT_DIR\ngit upload-pack "{server}" | python3 -c "{TRICKLE}"'), "GIXP_TIMEOUT": "2"}
     status, out, err = t.run("git", "clone", "-q", "gixp::ssh://nowhere/x", t.folder("us"), more=more)
     t.check(f"{name}: slow", status == 0 and leaves_nothing(t), f"{status} {err}")
-    # the program ends without the answers that it doesn't wait for: its shell says nothing of that
-    client = make(t, "client", 0)
-    for number in range(20):
-        status, out, err = t.run("git", "fetch", "-q", "gixp::/nowhere/at/all", at=client)
-        t.check(f"{name}: no repository, {number}", status != 0 and "write error" not in err and leaves_nothing(t), err)
+    status, out, err = t.run("git", "clone", "-q", "gixp::/nowhere/at/all", t.folder("us"))
+    t.check(f"{name}: no repository", status != 0 and leaves_nothing(t), err)
+
+
+def unanswered(name, t):
+    """A program that ends without the answers that it asked for: its shell says nothing of that."""
+    program = t.folder("program")
+    requests = "start question command /dev/null /dev/null\n sleep\n 0.3\n", "status question\n"
+    text = "".join(f"{len(request)}\n{request}" for request in requests)
+    program.write_text(f"#!/bin/sh\ncat > \"$3\" <<'end'\n{text}end\nexit 3\n")
+    program.chmod(0o755)
+    status, out, err = t.run("git", "ls-remote", "gixp::/x", more={"GIXP_REMOTE": program})
+    t.check(name, status != 0 and "write error" not in err and leaves_nothing(t), f"{status} {err}")
 
 
 def hungry(name, t):
@@ -154,6 +162,7 @@ def orphaned(name, t):
 def try_ends(t):
     t.case("a server that freezes", frozen)
     t.case("a pack that wants more", hungry)
+    t.case("a program that wants no answer", unanswered)
     ours, term, kill = t.remote.name, signal.SIGTERM, signal.SIGKILL
     for who, sent in (
         ("git-remote-gixp", term), (ours, term), (ours, kill), ("index-pack", term), ("index-pack", kill), ("upload-pack", term),
