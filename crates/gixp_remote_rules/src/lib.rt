@@ -21,7 +21,7 @@ mod told;
 mod words;
 
 pub use batch::Batch;
-pub use boundary::{Boundary, Taking, added, boundary_after, taking_of};
+pub use boundary::{Boundary, Look, Taking, added, boundary_after, look_of, roots, taking_of};
 pub use bounds::bound_said;
 pub use config::{Setting, Settings, is_true};
 pub use conversation::{Conversation, Step};
@@ -30,7 +30,9 @@ pub use exchange::{read_answer, send};
 pub use indexed::{kept_pack, pack_file, told_pack};
 pub use policy::{Policy, is_allowed, is_from_user};
 pub use proxy::proxy_for;
-pub use question::{Question, listing_words, question_words};
+pub use question::{
+    Question, Within, listing_words, pack_variables, question_variables, question_words, within_of,
+};
 pub use request::{Program, Request, Start, Task, request_text};
 pub use server::quoted;
 pub use ssh::{Variant, first_word, probe_words, server_words, ssh_words, variant_of};
