@@ -48,7 +48,7 @@ question_words SkipList = codes "config" ∷ codes "--type=path" ∷ codes "--ge
 question_words (Time since) = time_words since.now
 question_words (Check name) = check_words name.now
 question_words Present = object_words (codes "--stdin" ∷ [])
-question_words (Reach shallow) = reach_words (Some shallow.now) (codes "--alternate-refs" ∷ [])
+question_words (Reach shallow) = reach_words (Some shallow.now) []
 question_words ReachRefs = reach_words None (codes "--not" ∷ all_refs)
 
 abbrev pub most_words : Option (List ℕ) → List (List ℕ)

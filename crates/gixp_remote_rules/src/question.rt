@@ -154,7 +154,7 @@ pub fn question_words(alloc: Global, question: Question<'_>) -> Result<Vec<BStri
         Question::Time(since) => time_words(alloc, since),
         Question::Check(name) => check_words(alloc, name),
         Question::Present => object_words(alloc, &["--stdin"]),
-        Question::Reach(shallow) => reach_words(alloc, Some(shallow), &["--alternate-refs"]),
+        Question::Reach(shallow) => reach_words(alloc, Some(shallow), &[]),
         Question::ReachRefs => { reach_words(alloc, None, &["--not", "--all", "--alternate-refs"]) }
     }
 }
