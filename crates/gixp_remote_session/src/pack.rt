@@ -439,6 +439,8 @@ pub(crate) fn place(
     if fs::metadata(rt, path_of(&index)?).is_ok() {
         return Ok(None);
     }
+    // a folder for objects may have none for packs, as git's own for what a hook looks at
+    fs::create_dir_all(rt, format!(in alloc; "{}/pack", places.objects)?.as_str())?;
     let lock = pack_file(alloc, to, hash, b".keep")?;
     let status = shell.ask(&Request::Hold(&lock))?;
     // a pack whose missing objects are promised is none before it says so
