@@ -1,17 +1,21 @@
 -- The questions to git, by the words of its programs.
 use Rattle.std.specs.Prelude.{ℕ, List, [], ◌∷◌, ◌++◌, codes, Option, Some, None}
 use Rattle.gixp_remote_rules.specs.declared.question.Question.{Question}
-use Rattle.gixp_remote_rules.specs.declared.question.Question.TheVariants.{Places, Refs, Commits, SkipList, Time, Check, Kinds}
+use Rattle.gixp_remote_rules.specs.declared.question.Question.TheVariants.{Places, Refs, Commits, SkipList, Number, Time, Check, Kinds}
 
 -- the commits that refs lead to (git-rev-list), each with its time and its parents
 abbrev pub commit_words : List (List ℕ)
 commit_words = codes "rev-list" ∷ codes "--all" ∷ codes "--timestamp" ∷ codes "--parents" ∷ []
 
+-- the number of a setting, as git reads it
+abbrev pub number_words : List ℕ → List (List ℕ)
+number_words name = codes "config" ∷ codes "--type=int" ∷ codes "--get" ∷ name ∷ []
+
 abbrev pub time_words : List ℕ → List (List ℕ)
 time_words since = codes "rev-parse" ∷ (codes "--since=" ++ since) ∷ []
 
 abbrev pub check_words : List ℕ → List (List ℕ)
-check_words name = codes "index-pack" ∷ (codes "--strict=" ++ (name ++ codes "=ignore")) ∷ codes "--no-such-word" ∷ []
+check_words name = codes "index-pack" ∷ (codes "--strict=" ++ (name ++ codes "=error")) ∷ codes "--no-such-word" ∷ []
 
 -- the words of a question (git-config; git-rev-parse; git-show-ref; git-index-pack, "--strict"; git-cat-file, "--batch-check")
 abbrev pub question_words : Question → List (List ℕ)
@@ -21,6 +25,7 @@ question_words Places =
 question_words Refs = codes "show-ref" ∷ codes "--head" ∷ codes "-d" ∷ []
 question_words Commits = commit_words
 question_words SkipList = codes "config" ∷ codes "--type=path" ∷ codes "--get" ∷ codes "fetch.fsck.skiplist" ∷ []
+question_words (Number name) = number_words name.now
 question_words (Time since) = time_words since.now
 question_words (Check name) = check_words name.now
 question_words Kinds = codes "cat-file" ∷ codes "--batch-check=%(objecttype) %(objectname)" ∷ []

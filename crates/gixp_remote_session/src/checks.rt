@@ -3,7 +3,7 @@ use crate::order::Order;
 use crate::pack::{PackPlan, make_folder};
 use crate::pipes::IDS;
 use crate::shell::{NOTHING, Shell};
-use crate::trouble::Trouble;
+use crate::trouble::{Trouble, show};
 use bstr::{BString, ByteSlice};
 use gix_protocol::fetch::shallow_text;
 use gix_protocol::transport::ObjectId;
@@ -61,7 +61,11 @@ fn add_check(
     let told = shell.tell(rt, Task::Probe, Program::Git, NOTHING, &[], &words)?;
     if told.status != 129 {
         let name = BString::from_slice(alloc, name)?;
-        let _ = eprintln!(rt; "warning: Skipping unknown msg id '{name}'");
+        show(
+            rt,
+            "warning",
+            &format!(in alloc; "Skipping unknown msg id '{name}'")?,
+        );
         return Ok(());
     }
     list.extend_from_slice(mark)?;
