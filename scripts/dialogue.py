@@ -24,7 +24,7 @@ and from git's own documents, never from what the program printed. A row's lines
     end                 git says nothing more, as at the end of each row
     < LINE              what git is told
     ? REQUEST           what the shell is asked for: its first line, and what follows with ` | ` in between, `=NAME=VALUE` for a
-                        variable, `=@local` for those of `git rev-parse --local-env-vars`
+                        variable, `=@local` for those of `git rev-parse --local-env-vars`, `=@question` for a question's
     | MORE              goes on with a request, or with a text
     ! ANSWER            what it answers, where it isn't 0; `! end`: it has ended
     says LINE           a packet line of the server that is started next; 0000, 0001 and 0002 are themselves, `pack` an empty pack
@@ -56,6 +56,7 @@ ROWS = TOP / "scripts" / "dialogue"
 LOCAL = """GIT_ALTERNATE_OBJECT_DIRECTORIES GIT_CONFIG GIT_CONFIG_PARAMETERS GIT_CONFIG_COUNT GIT_OBJECT_DIRECTORY GIT_DIR GIT_WORK_TREE
 GIT_IMPLICIT_WORK_TREE GIT_GRAFT_FILE GIT_INDEX_FILE GIT_NO_REPLACE_OBJECTS GIT_REPLACE_REF_BASE GIT_PREFIX GIT_INTERNAL_SUPER_PREFIX
 GIT_SHALLOW_FILE GIT_COMMON_DIR""".split()
+SHORT = {b"=@local": LOCAL, b"=@question": ("GIT_NO_LAZY_FETCH=1", "GIXP_WITHIN=question")}
 MARK = "gixp.row"
 # The files of the shell that the program opens, by what they are for.
 GIVEN, PIPES = "9", {"hears": "20", "says": "21", "told": "22", "refs": "23", "commits": "24", "pack": "25", "kept": "26"}
@@ -212,8 +213,8 @@ class Row:
         verb, *names = self.text(first).decode().split(" ")
         lines = [" ".join([verb, *names[:2], *(PIPES.get(name, name) for name in names[2:])]).encode()]
         for one in more:
-            if one == b"=@local":
-                lines += [b"=" + name.encode() for name in LOCAL]
+            if one in SHORT:
+                lines += [b"=" + name.encode() for name in SHORT[one]]
             else:
                 lines.append((b"" if one.startswith(b"=") else b" ") + one.replace(b"@room", str(self.room).encode()))
         text = b"\n".join(lines) + b"\n"

@@ -23,7 +23,7 @@ mod unpacking;
 mod words;
 
 pub use batch::Batch;
-pub use boundary::{Boundary, Taking, added, boundary_after, taking_of};
+pub use boundary::{Boundary, Look, Taking, added, boundary_after, look_of, roots, taking_of};
 pub use bounds::bound_said;
 pub use config::{Setting, Settings, is_true};
 pub use conversation::{Conversation, Step};
@@ -35,7 +35,9 @@ pub use policy::{
     PasswordPolicy, Permission, Policy, is_from_user, password_policy, permission_of,
 };
 pub use proxy::proxy_for;
-pub use question::{Question, listing_words, question_words};
+pub use question::{
+    Question, Within, listing_words, pack_variables, question_variables, question_words, within_of,
+};
 pub use request::{Program, Request, Start, Task, request_text};
 pub use server::quoted;
 pub use ssh::{

@@ -6,12 +6,12 @@ use crate::fetching::{Open, fetch};
 use crate::listing::{RefsTold, refs_told};
 use crate::order::Order;
 use crate::pack::clear_folder;
-use crate::setup::{Given, read_given, read_settings, variable, version_of};
+use crate::setup::{Given, read_given, read_settings, variable, version_of, within};
 use crate::shell::Shell;
 use crate::trouble::{Trouble, show};
 use bstr::{BString, ByteSlice};
 use gixp_fetch_session::session::refs;
-use gixp_remote_rules::{Conversation, Settings, Step, batch_told};
+use gixp_remote_rules::{Conversation, Settings, Step, Within, batch_told};
 use gixp_url::Address;
 use std::cell::{Cell, RefCell};
 use std::io;
@@ -208,9 +208,15 @@ fn serve<R: BufRead>(
     done
 }
 
-/// Speaks with git until it has nothing more to ask. The settings are waited for once a server is needed.
+/// Speaks with git until it has nothing more to ask. The settings are waited for once a server is needed. Where git needs an object
+/// to answer another helper, nothing is fetched: that helper would ask again.
 pub(crate) fn converse(rt: &HostRuntime) -> Result<(), Trouble> {
     let alloc = rt.alloc();
+    if within(rt) == Within::Question {
+        return Err(Trouble::Other(
+            "nothing is fetched while a question of another helper is answered",
+        ));
+    }
     let mut given = read_given(rt)?;
     let mut shell = Shell::open(rt, given.requests.as_str(), given.answers.as_str())?;
     let address = Address::read(alloc, &given.url)?;
