@@ -6,7 +6,8 @@ Usage: dialogue.py [--remote PATH] [--only WORD] [FILE..]
 PATH is the program, else what `rt run` left in crates/gixp_remote/out; the FILEs are those of scripts/dialogue. It stands in a
 folder with two pipes and with plain files in place of the others, so that what a server says is there before it is started. In a row
 a pipe has a name in place of its number: hears, says, told, refs, commits, pack, kept. Before the shell is asked for anything but the
-settings the watcher is told to watch, and before git is told something it is told to rest: each row looks at that.
+settings the watcher is told to watch, and before git is told something it is told to rest: each row looks at that. At the end of a
+session with a web server it rests.
 crates/gixp_remote/README.md has the requests, gitremote-helpers(7) git's commands. What a row expects is written from these two
 and from git's own documents, never from what the program printed. A row's lines are done one after the other:
 
@@ -64,6 +65,8 @@ WAIT = 60
 ESCAPE = re.compile(rb"\\(x[0-9a-fA-F]{2}|.)")
 NAMED = {b"n": b"\n", b"t": b"\t", b"0": b"\0", b"\\": b"\\"}
 SETTINGS = b"16\nstatus settings\n"
+# What the shell is asked at the end of a session with a web server, where git waits for nothing more.
+LAST = b"14\nstatus server\n"
 SPECIAL = {b"0000", b"0001", b"0002"}
 
 
@@ -192,7 +195,7 @@ class Row:
         if found != text:
             raise Wrong(f"the shell is asked {found!r}, wanted {text!r}; git is told {self.replies!r}")
         if found != SETTINGS:
-            self.look_at_watcher(False)
+            self.look_at_watcher(found == LAST)
         if wanted.startswith(b"start server "):
             for name, content in (("hears", b""), ("says", self.says)):
                 self.path(name).unlink()

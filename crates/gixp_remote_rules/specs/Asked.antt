@@ -3,7 +3,7 @@ use Rattle.std.specs.Prelude.{ℕ, if◌then◌else◌, List, [], ◌∷◌, ◌
 use Rattle.std.specs.Str.{bytes_eq}
 use Rattle.gixp_remote_rules.specs.Programs.{shallow_words}
 use Rattle.gixp_remote_rules.specs.declared.question.Question.{Question}
-use Rattle.gixp_remote_rules.specs.declared.question.Question.TheVariants.{Places, Refs, Commits, SkipList, Time, Check, Present, Reach, ReachRefs}
+use Rattle.gixp_remote_rules.specs.declared.question.Question.TheVariants.{Places, Refs, Commits, SkipList, Number, Time, Check, Present, Reach, ReachRefs}
 use Rattle.gixp_remote_rules.specs.declared.question.Within.{Within}
 use Rattle.gixp_remote_rules.specs.declared.question.Within.TheVariants as within
 
@@ -31,11 +31,15 @@ reach_words shallow named =
     shallow_words shallow
     ++ (codes "rev-list" ∷ codes "--objects" ∷ codes "--quiet" ∷ codes "--exclude-promisor-objects" ∷ codes "--stdin" ∷ named)
 
+-- the number of a setting, as git reads it
+abbrev pub number_words : List ℕ → List (List ℕ)
+number_words name = codes "config" ∷ codes "--type=int" ∷ codes "--get" ∷ name ∷ []
+
 abbrev pub time_words : List ℕ → List (List ℕ)
 time_words since = codes "rev-parse" ∷ (codes "--since=" ++ since) ∷ []
 
 abbrev pub check_words : List ℕ → List (List ℕ)
-check_words name = codes "index-pack" ∷ (codes "--strict=" ++ (name ++ codes "=ignore")) ∷ codes "--no-such-word" ∷ []
+check_words name = codes "index-pack" ∷ (codes "--strict=" ++ (name ++ codes "=error")) ∷ codes "--no-such-word" ∷ []
 
 -- the words of a question (git-config; git-rev-parse; git-rev-list; git-index-pack, "--strict")
 abbrev pub question_words : Question → List (List ℕ)
@@ -45,6 +49,7 @@ question_words Places =
 question_words Refs = object_words all_refs
 question_words Commits = commit_words
 question_words SkipList = codes "config" ∷ codes "--type=path" ∷ codes "--get" ∷ codes "fetch.fsck.skiplist" ∷ []
+question_words (Number name) = number_words name.now
 question_words (Time since) = time_words since.now
 question_words (Check name) = check_words name.now
 question_words Present = object_words (codes "--stdin" ∷ [])

@@ -2,7 +2,7 @@
 ghost use Rattle.std.specs.Prelude.{◌≡◌, ◌++◌, IfOk, OnOk, map};
 ghost use Rattle.std.specs.Option.{option_map};
 ghost use Rattle.bstr.specs.Owned.{bstring_bytes};
-ghost use Rattle.gixp_remote_rules.specs.Asked.{commit_words, object_words, time_words, check_words, reach_words, question_words, most_words, listing_words};
+ghost use Rattle.gixp_remote_rules.specs.Asked.{commit_words, object_words, number_words, time_words, check_words, reach_words, question_words, most_words, listing_words};
 ghost use Rattle.gixp_remote_rules.specs.Asked.{within_of, question_variables, pack_variables};
 
 use crate::words::{add, add_all, add_names, joined, shallow_words};
@@ -20,6 +20,8 @@ pub enum Question<'a> {
     Commits,
     /// Where the list of the objects is that aren't checked.
     SkipList,
+    /// The number of a setting.
+    Number(&'a [u8]),
     /// A time, in seconds.
     Time(&'a [u8]),
     /// Whether it knows a message about objects: with a word that isn't there it tells its usage then.
@@ -113,11 +115,20 @@ fn time_words(alloc: Global, since: &[u8]) -> Result<Vec<BString>, AllocError>
     Ok(words)
 }
 
+// The words for the number of a setting.
+fn number_words(alloc: Global, name: &[u8]) -> Result<Vec<BString>, AllocError>
+    ensures { IfOk result (λ words. map bstring_bytes words.items ≡ number_words name.now) }
+{
+    let mut words = fixed(alloc, &["config", "--type=int", "--get"])?;
+    add(alloc, &mut words, name)?;
+    Ok(words)
+}
+
 // The words for a message about objects.
 fn check_words(alloc: Global, name: &[u8]) -> Result<Vec<BString>, AllocError>
     ensures { IfOk result (λ words. map bstring_bytes words.items ≡ check_words name.now) }
 {
-    let strict = joined(alloc, &[b"--strict=", name, b"=ignore"])?;
+    let strict = joined(alloc, &[b"--strict=", name, b"=error"])?;
     let mut words = fixed(alloc, &["index-pack"])?;
     add(alloc, &mut words, &strict)?;
     add(alloc, &mut words, b"--no-such-word")?;
@@ -151,6 +162,7 @@ pub fn question_words(alloc: Global, question: Question<'_>) -> Result<Vec<BStri
             alloc,
             &["config", "--type=path", "--get", "fetch.fsck.skiplist"],
         ),
+        Question::Number(name) => number_words(alloc, name),
         Question::Time(since) => time_words(alloc, since),
         Question::Check(name) => check_words(alloc, name),
         Question::Present => object_words(alloc, &["--stdin"]),

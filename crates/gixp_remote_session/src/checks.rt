@@ -6,7 +6,7 @@ use crate::order::Order;
 use crate::pack::{Came, PackPlan, make_folder};
 use crate::pipes::{BOUNDARY, IDS};
 use crate::shell::{NOTHING, Shell, Told};
-use crate::trouble::Trouble;
+use crate::trouble::{Trouble, show};
 use bstr::{BString, ByteSlice};
 use gix_protocol::fetch::shallow_text;
 use gix_protocol::transport::ObjectId;
@@ -68,7 +68,11 @@ fn add_check(
     let told = shell.tell(rt, Task::Probe, Program::Git, NOTHING, &variables, &words)?;
     if told.status != 129 {
         let name = BString::from_slice(alloc, name)?;
-        let _ = eprintln!(rt; "warning: Skipping unknown msg id '{name}'");
+        show(
+            rt,
+            "warning",
+            &format!(in alloc; "Skipping unknown msg id '{name}'")?,
+        );
         return Ok(());
     }
     list.extend_from_slice(mark)?;

@@ -156,8 +156,9 @@ fn fetch_once_more<'a>(
         }
         commits = list_commits(plan.order, shell, plan.haves)?;
     }
-    start_server(reach, shell)?;
-    let mut session = shake_hands(reach, plan.order.choices.is_quiet)?;
+    let choices = plan.order.choices;
+    start_server(reach, shell, choices.family)?;
+    let mut session = shake_hands(reach, choices)?;
     let came = fetch_by(plan, shell, &mut session, repository, commits);
     settle(reach, session, open, came.is_ok());
     came
