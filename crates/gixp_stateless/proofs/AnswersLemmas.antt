@@ -111,7 +111,7 @@ digits_whole adv next held [] ys d h k = absurd (omega arith)
 digits_whole adv next held (x ∷ xs) ys d h k = elim (cases_lt (length held) 3) [
   | inl lt ↦ missing adv next held x (xs ++ ys) d lt
       ∙ (digits_whole adv next (held ++ x ∷ []) xs ys d (omega (arith, length-append held (x ∷ [])))
-          (omega (arith, length-append held (x ∷ [])))
+      (omega (arith, length-append held (x ∷ [])))
       ∙ ap (λ ds. told_whole adv next ds ys) (append_assoc held (x ∷ []) xs))
   | inr ge ↦ last_digit adv next held x xs ys d ge (omega arith)
 ]

@@ -95,15 +95,27 @@ other_line k digits more c other =
 keeps_end : (adv : Bool) (rest : List ℕ) (end : End) → IsEnd rest end → IsEnd (lines adv rest) end
 keeps_end adv rest (bad HexDecode) h =
     (h.0, h.1, ap (lines adv) h.2 ∙ digits_of adv None h.0 h.1 h.3.0 h.3.1 ∙ ap (λ xs. xs ++ h.1) (taken_all h.0 h.3.0), h.3)
-keeps_end adv rest (bad InvalidLineLength) h =
-    (h.0, given adv (Payload (3 - 4)) [] h.1, ap (lines adv) h.2
-    ∙ counted adv 3 h.0 h.1 h.3 (λ e. absurd (omega arith)) (λ e. absurd (omega arith)), h.3)
-keeps_end adv rest (bad DataIsEmpty) h =
-    (h.0, given adv (Payload (4 - 4)) [] h.1, ap (lines adv) h.2
-    ∙ counted adv 4 h.0 h.1 h.3 (λ e. absurd (omega arith)) (λ e. absurd (omega arith)), h.3)
-keeps_end adv rest (bad DataLengthLimitExceeded) h =
-    (h.0, given adv (Payload (h.3.0 - 4)) [] h.1, ap (lines adv) h.2
-    ∙ counted adv h.3.0 h.0 h.1 h.3.1 (λ e. absurd (omega (arith, h.3.2))) (λ e. absurd (omega (arith, h.3.2))), h.3)
+keeps_end adv rest (bad InvalidLineLength) h = (
+  h.0,
+  given adv (Payload (3 - 4)) [] h.1,
+  ap (lines adv) h.2
+      ∙ counted adv 3 h.0 h.1 h.3 (λ e. absurd (omega arith)) (λ e. absurd (omega arith)),
+  h.3,
+)
+keeps_end adv rest (bad DataIsEmpty) h = (
+  h.0,
+  given adv (Payload (4 - 4)) [] h.1,
+  ap (lines adv) h.2
+      ∙ counted adv 4 h.0 h.1 h.3 (λ e. absurd (omega arith)) (λ e. absurd (omega arith)),
+  h.3,
+)
+keeps_end adv rest (bad DataLengthLimitExceeded) h = (
+  h.0,
+  given adv (Payload (h.3.0 - 4)) [] h.1,
+  ap (lines adv) h.2
+      ∙ counted adv h.3.0 h.0 h.1 h.3.1 (λ e. absurd (omega (arith, h.3.2))) (λ e. absurd (omega (arith, h.3.2))),
+  h.3,
+)
 keeps_end adv rest ended (inl short) =
     let same : lines adv rest ≡ rest = ap (lines adv) (sym (append-nil rest)) ∙ digits_part adv Line [] rest [] refl (omega arith) in
     subst (λ xs. IsEnd xs ended) (sym same) (inl short)
@@ -153,10 +165,13 @@ answers_are (payload p ∷ frames) bytes end h =
     (h.0, lines true h.1, ap (lines true) h.2 ∙ data_front true h.0 p h.1 h.3, h.3, answers_are frames h.1 end h.4)
 answers_are (special Delimiter ∷ frames) bytes end h =
     (h.0, lines true h.1, ap (lines true) h.2 ∙ delimiter_front true h.0 h.1 h.3, h.3, answers_are frames h.1 end h.4)
-answers_are (special Flush ∷ special ResponseEnd ∷ frames) bytes end h =
-    (codes "0000", lines true h.4.1,
-     ap (lines true) h.2 ∙ later_flush h.0 h.1 h.3 ∙ ap (given true AnswerEnd []) h.4.2 ∙ closed h.4.0 h.4.1 h.4.3,
-     flush_digits, answers_are frames h.4.1 end h.4.4)
+answers_are (special Flush ∷ special ResponseEnd ∷ frames) bytes end h = (
+  codes "0000",
+  lines true h.4.1,
+  ap (lines true) h.2 ∙ later_flush h.0 h.1 h.3 ∙ ap (given true AnswerEnd []) h.4.2 ∙ closed h.4.0 h.4.1 h.4.3,
+  flush_digits,
+  answers_are frames h.4.1 end h.4.4,
+)
 answers_are (special Flush ∷ []) bytes end h = nothing_more (lines true bytes)
     (ap (lines true) h.2 ∙ later_flush h.0 h.1 h.3 ∙ no_close h.1 end h.4)
 answers_are (special Flush ∷ payload p ∷ frames) bytes end h =

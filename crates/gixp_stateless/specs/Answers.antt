@@ -54,12 +54,12 @@ given advertised Line held [] = held
 given advertised Line held (b ∷ bytes) =
     if nat_lt (length held) 3 then given advertised Line (held ++ b ∷ []) bytes
     else given_after advertised Line (size_of (held ++ b ∷ [])) (held ++ b ∷ [])
-        ++ given (advertised_after advertised (size_of (held ++ b ∷ []))) (next_after advertised Line (size_of (held ++ b ∷ []))) [] bytes
+    ++ given (advertised_after advertised (size_of (held ++ b ∷ []))) (next_after advertised Line (size_of (held ++ b ∷ []))) [] bytes
 given advertised AnswerEnd held [] = []
 given advertised AnswerEnd held (b ∷ bytes) =
     if nat_lt (length held) 3 then given advertised AnswerEnd (held ++ b ∷ []) bytes
     else given_after advertised AnswerEnd (size_of (held ++ b ∷ [])) (held ++ b ∷ [])
-        ++ given (advertised_after advertised (size_of (held ++ b ∷ []))) (next_after advertised AnswerEnd (size_of (held ++ b ∷ []))) [] bytes
+    ++ given (advertised_after advertised (size_of (held ++ b ∷ []))) (next_after advertised AnswerEnd (size_of (held ++ b ∷ []))) [] bytes
 
 -- what is passed on of a stream
 abbrev pub passed_on : List ℕ → List ℕ
@@ -70,7 +70,7 @@ abbrev pub told_from : (advertised : Bool) → Next → List ℕ → List ℕ �
 told_from advertised next digits bytes =
     if nat_lt (length digits) 4 then given advertised next digits bytes
     else given (advertised_after advertised (size_of digits)) (next_after advertised next (size_of digits))
-        (given_after advertised next (size_of digits) digits) bytes
+    (given_after advertised next (size_of digits) digits) bytes
 
 -- what a reader has still to pass on
 abbrev pub to_come : {R : Type 0} → (R → Option (List ℕ)) → Answers R → Option (List ℕ)
@@ -80,7 +80,7 @@ to_come remaining a = option_map (given a.advertised a.next (slice_range a.digit
 abbrev pub steps_of : {R : Type 0} → Answers R → ℕ
 steps_of a = steps_left a.start a.end a.next
 
--- a call that passes nothing on, and tells whether it found the end; if not, the reader went on
+-- a call that passes nothing on, and reports whether it found the end; if not, the reader went on
 abbrev pub ReadsDigits : {E : Type 0} → Option (List ℕ) → Option (List ℕ) → (old new : ℕ) → Result Bool E → Type 0
 ReadsDigits old new steps left (Ok true) = Keeps old new × IsAtEnd new
 ReadsDigits old new steps left (Ok false) = Keeps old new × (left < steps)

@@ -15,7 +15,8 @@ needs_digits Nothing = false
 abbrev pub IsInOrder : (start end : ℕ) → Next → Type 0
 IsInOrder start end next = (start ≤ end) × (end ≤ 4) × (needs_digits next ≡ true → (start ≡ 0) × (end < 4))
 
--- how often a reader can go on at most before it passes something on, or finds the end
+-- how often a reader can go on at most before it passes something on, or finds the end: it takes a digit at least, and after an
+-- answer's flush packet the four digits of a response-end packet too
 abbrev pub steps_left : (start end : ℕ) → Next → ℕ
 steps_left start end Line = 10 - end
 steps_left start end AnswerEnd = 5 - end

@@ -106,7 +106,7 @@ impl<R: Read> Answers<R> {
         self.end = given_count(self.next);
     }
 
-    // Takes the digits after an answer's flush packet: those of a response-end packet let the flush packet be passed on.
+    // Takes the digits after an answer's flush packet. Those of a response-end packet let the flush packet be passed on.
     fn end_answer(&mut self, digits: [u8; 4])
         requires { self.old.next ≡ Next.AnswerEnd }
         ensures bytes { to_come R.remaining self.new
@@ -143,7 +143,8 @@ impl<R: Read> Answers<R> {
         }
     }
 
-    // Reads digits. Returns whether the reader is at its end, and none is held.
+    // Reads digits. Returns whether nothing more is passed on, since the reader is at its end. A flush packet that is held then isn't
+    // passed on either.
     fn read_digits(&mut self) -> io::Result<bool>
         requires { needs_digits self.old.next ≡ true }
         ensures { ReadsDigits (to_come R.remaining self.old) (to_come R.remaining self.new) (steps_of self.old) (steps_of self.new) result }

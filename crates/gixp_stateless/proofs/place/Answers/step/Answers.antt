@@ -3,9 +3,11 @@ use Rattle.gixp_stateless.proofs.AnswersLemmas.{over_payload, over_steps, reads_
 use Rattle.gixp_stateless.proofs.place.Answers.step.Goals as goal
 
 pub returns-else-left-gt0 : goal.returns-else-left-gt0
-returns-else-left-gt0 g c = let s = c.args.self.now in
-    (over_payload (g.R.Read.remaining s.reader) s.advertised s.next _ c.in-Payload.left c.in-Payload.is (omega arith)
-    (no_range s.digits s.start s.end (omega arith)), over_steps s.start s.end c.in-Payload.left s.next c.in-Payload.is (omega arith))
+returns-else-left-gt0 g c = let s = c.args.self.now in (
+  over_payload (g.R.Read.remaining s.reader) s.advertised s.next _ c.in-Payload.left c.in-Payload.is (omega arith)
+      (no_range s.digits s.start s.end (omega arith)),
+  over_steps s.start s.end c.in-Payload.left s.next c.in-Payload.is (omega arith),
+)
 
 pub returns-in_ok-read-in-Rest : goal.returns-in_ok-read-in-Rest
 returns-in_ok-read-in-Rest g c =
