@@ -1,5 +1,5 @@
 -- What is passed on of bytes that come in pieces.
-use Rattle.std.proofs.Common.{◌≡◌, ℕ, zero, suc, ◌+◌, ◌-◌, ◌<◌, ◌≤◌, ◌==◌, nat_lt, Bool, true, false, if◌then◌else◌, List, [], ◌∷◌, ◌++◌, length, take, drop, Option, Some, None, refl, ap, sym, ◌∙◌, arith, append_assoc, append-nil, length-append, length-drop, length-take, take-add, drop-drop, inl, inr, rules}
+use Rattle.std.proofs.Common.{◌≡◌, ℕ, zero, suc, ◌+◌, ◌-◌, ◌<◌, ◌≤◌, ◌==◌, nat_lt, Bool, true, false, if◌then◌else◌, List, [], ◌∷◌, ◌++◌, length, take, drop, Option, Some, None, refl, ap, sym, ◌∙◌, arith, append_assoc, append-nil, eqb-true, length-append, length-drop, length-take, take-add, drop-drop, inl, inr, rules}
 use Rattle.std.specs.Option.{option_map}
 use Rattle.std.specs.Prelude.{slice_range, codes}
 use Rattle.std.proofs.lemmas.List.{take-append-le, take_all, length-take-le}
@@ -264,11 +264,15 @@ took_line o adv flag next size digits start end four first s n f e =
     took_whole o adv flag next Line digits (slice_range digits start end) four (n ∙ ap (next_of adv) s) (f ∙ ap (advertised_after adv) s)
     (first_range digits start end first ∙ ap (λ k. take k digits) (e ∙ ap given_count (n ∙ ap (next_of adv) s)))
 
-pub took_end : (o : Option (List ℕ)) (adv : Bool) (size : Option ℕ) (digits : List ℕ) (start : ℕ)
-    → length digits ≡ 4 → start ≡ 0 → size ≡ size_of digits → size ≡ Some 2
+is_two : (size : Option ℕ) → is_number 2 size ≡ true → size ≡ Some 2
+is_two None h = cc
+is_two (Some n) h = ap Some (eqb-true n 2 h)
+
+pub took_end : (o : Option (List ℕ)) (adv closes : Bool) (size : Option ℕ) (digits : List ℕ) (start : ℕ)
+    → length digits ≡ 4 → start ≡ 0 → size ≡ size_of digits → closes ≡ is_number 2 size → closes ≡ true
     → option_map (given adv (Payload 0) (slice_range (codes "0000") start 4)) o ≡ option_map (told_from adv AnswerEnd digits) o
-took_end o adv size digits start four first s two =
-    let is : size_of digits ≡ Some 2 = sym s ∙ two in
+took_end o adv closes size digits start four first s c is_true =
+    let is : size_of digits ≡ Some 2 = sym s ∙ is_two size (sym c ∙ is_true) in
     took_whole o adv adv (Payload 0) AnswerEnd digits (slice_range (codes "0000") start 4) four (rw is refl) (rw is refl)
     (rw is (first_range (codes "0000") start 4 first))
 

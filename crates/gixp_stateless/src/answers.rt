@@ -1,11 +1,11 @@
 //! A reader of packet lines that passes on whole answers.
-ghost use Rattle.std.specs.Prelude.{◌≡◌, ◌<◌, ◌≤◌, true, false, length, take};
+ghost use Rattle.std.specs.Prelude.{◌≡◌, ◌<◌, ◌≤◌, true, false, length, take, IfOk};
 ghost use Rattle.std.specs.Option.{option_map};
 ghost use Rattle.std.specs.Io.{ReadsAtMost};
 ghost use Rattle.std.specs.Io.KnownBytes.{Consumes, ReadConsumes};
 ghost use Rattle.gixp_packetline.specs.Frames.{size_of};
 ghost use Rattle.gixp_stateless.specs.Order.{needs_digits};
-ghost use Rattle.gixp_stateless.specs.Answers.{next_of, given_count, advertised_after, passed_on, told_from, to_come, steps_of, ReadsDigits, GivesOrSteps};
+ghost use Rattle.gixp_stateless.specs.Answers.{is_number, next_of, given_count, advertised_after, passed_on, told_from, to_come, steps_of, ReadsDigits, GivesOrSteps};
 
 use crate::place::{Answers, Next};
 use hex;
@@ -46,6 +46,16 @@ fn advertised_after(advertised: bool, size: Option<usize>) -> bool
     match size {
         Some(0) => true,
         _ => advertised,
+    }
+}
+
+// Whether these are the digits of a response-end packet.
+fn is_response_end(size: Option<usize>) -> bool
+    ensures { result ≡ is_number 2 size }
+{
+    match size {
+        Some(size) => size == 2,
+        None => false,
     }
 }
 
@@ -113,7 +123,7 @@ impl<R: Read> Answers<R> {
             ≡ option_map (told_from self.old.advertised Next.AnswerEnd digits) (R.remaining self.old.reader) }
         ensures fewer { steps_of self.new < 1 }
     {
-        if let Some(2) = size_of(&digits) {
+        if is_response_end(size_of(&digits)) {
             self.digits = *b"0000";
             self.end = 4;
             self.next = Next::Payload(0);
@@ -147,7 +157,9 @@ impl<R: Read> Answers<R> {
     // passed on either.
     fn read_digits(&mut self) -> io::Result<bool>
         requires { needs_digits self.old.next ≡ true }
-        ensures { ReadsDigits (to_come R.remaining self.old) (to_come R.remaining self.new) (steps_of self.old) (steps_of self.new) result }
+        ensures bytes { ReadsDigits (to_come R.remaining self.old) (to_come R.remaining self.new) (steps_of self.old) (steps_of self.new)
+            result }
+        ensures ended { self.old.next ≡ Next.AnswerEnd → IfOk result (λ ended. ended ≡ true → self.new.next ≡ Next.Nothing) }
     {
         let mut digits = self.digits;
         let count = self.reader.read(&mut digits[self.end..])?;

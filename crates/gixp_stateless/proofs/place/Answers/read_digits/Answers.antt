@@ -4,8 +4,8 @@ use Rattle.std.proofs.Common.{◌-◌, ◌≤◌, length, drop, arith, subst, sy
 use Rattle.gixp_stateless.proofs.AnswersLemmas.{takes_digits, told_digits}
 use Rattle.gixp_stateless.proofs.place.Answers.read_digits.Goals as goal
 
-pub returns-then-count-gt0 : goal.returns-then-count-gt0
-returns-then-count-gt0 g c =
+pub returns-then-count-gt0-clause-bytes : goal.returns-then-count-gt0-clause-bytes
+returns-then-count-gt0-clause-bytes g c =
     let s = c.args.self.now in
     let n = c.in_ok-count.count in
     let fits : n ≤ length c.read.new.buf = c.in_ok-count.ensures.bound.0 in
