@@ -10,7 +10,7 @@ use Rattle.bstr.specs.declared.bstr.BStr.{BStr}
 use Rattle.gix_protocol.specs.Object.{Objects}
 use Rattle.gixp_remote_session.specs.ShownRefs.{id_and_name, names_shown, is_led_to, begins_led_to, with_shown, objects_shown, IsUnshown}
 use Rattle.gixp_remote_session.specs.declared.trouble.Trouble.{Trouble}
-use Rattle.gixp_remote_session.specs.declared.trouble.Trouble.TheVariants.{Fetch, Url, Io, Command, Other, Fatal, Told, NoRefs, Word, Memory}
+use Rattle.gixp_remote_session.specs.declared.trouble.Trouble.TheVariants.{Fetch, Url, Io, Command, Other, Fatal, Told, NoRefs, Word, Variable, Password, Ssh, Memory}
 
 -- whether the object before some lines is a tag, where behind them it would be or not
 abbrev pub begins_behind : List (List ℕ × List ℕ) → Bool → Bool
@@ -108,4 +108,7 @@ unshown_more all front line shown objects is_tag (Fatal why) a s w = w
 unshown_more all front line shown objects is_tag Told a s w = w
 unshown_more all front line shown objects is_tag NoRefs a s w = w
 unshown_more all front line shown objects is_tag (Word why word) a s w = w
+unshown_more all front line shown objects is_tag (Variable name value) a s w = w
+unshown_more all front line shown objects is_tag (Password url) a s w = w
+unshown_more all front line shown objects is_tag (Ssh error) a s w = w
 unshown_more all front line shown objects is_tag Memory a s w = tt
