@@ -1,4 +1,6 @@
 //! What git checks of the objects that come (git-config, "fetch.fsckObjects", "fetch.fsck.<msg-id>"), and which are present.
+ghost use Rattle.std.specs.Prelude.{◌≡◌, ◌↔◌, IsOk};
+
 use crate::local::shown_in;
 use crate::order::Order;
 use crate::pack::{Came, PackPlan, make_folder};
@@ -164,7 +166,9 @@ pub(crate) fn expect_whole(
 }
 
 // Nothing is missing where git ends with 0.
-fn whole_by(status: u32, why: &'static str) -> Result<(), Trouble> {
+fn whole_by(status: u32, why: &'static str) -> Result<(), Trouble>
+    ensures { IsOk result ↔ (status ≡ 0) }
+{
     if status == 0 {
         Ok(())
     } else {

@@ -1,11 +1,11 @@
 //! The repository that fetches, as git shows it.
-ghost use Rattle.std.specs.Prelude.{◌≡◌, ◌<◌, ◌==◌, ℕ, List, [], length, map, true, false, codes, is_some, option_map, Some, None, IfOk, IfErr, IfSome, MatchResult, string_bytes};
+ghost use Rattle.std.specs.Prelude.{◌≡◌, ◌<◌, ◌==◌, ◌++◌, ℕ, List, [], length, map, true, false, codes, is_some, option_map, Some, None, IfOk, IfErr, IfSome, OnOk, MatchResult, string_bytes};
 ghost use Rattle.std.specs.FinMap as finite;
 ghost use Rattle.std.specs.List.{slice_split, position};
 ghost use Rattle.bstr.specs.BStr.{bstr_bytes};
 ghost use Rattle.bstr.specs.Owned.{bstring_bytes};
-ghost use Rattle.gixp_remote_session.specs.ShownRefs.{id_text, shown_line, shown_in, IsUnshown, kind_shown};
-ghost use Rattle.gixp_remote_session.specs.ShownPlaces.{AreShownPlaces, fits_format};
+ghost use Rattle.gixp_remote_session.specs.ShownRefs.{id_text, shown_by, shown_line, shown_in, IsUnshown, kind_shown, with_commit, objects_shown, refs_shown};
+ghost use Rattle.gixp_remote_session.specs.ShownPlaces.{AreShownPlaces, boundary_file, fits_format};
 ghost use Rattle.gixp_remote_session.specs.Troubles.{TellsWord};
 
 use crate::pipes::REFS;
@@ -100,15 +100,13 @@ impl Places {
         Err(Trouble::of_word(alloc, "mismatched algorithms: server sha1; client", format))
     }
 
-    /// The boundary: in the file that `GIT_SHALLOW_FILE` names, where it names one.
+    /// The boundary: in the file that `GIT_SHALLOW_FILE` names, where it is set.
     pub(crate) fn boundary(&self, rt: &HostRuntime) -> Result<Vec<ObjectId>, Trouble> {
         let alloc = rt.alloc();
-        match variable(rt, "GIT_SHALLOW_FILE") {
-            None => self.held_boundary(rt),
-            Some(path) if path.is_empty() => Ok(Vec::new(alloc)),
-            Some(path) if path.starts_with('/') => boundary_in(rt, path.as_str()),
-            // this program stands in the folder of the shell's open files
-            Some(path) => boundary_in(rt, format!(in alloc; "../cwd/{path}")?.as_str()),
+        let named = variable(rt, "GIT_SHALLOW_FILE");
+        match boundary_file(alloc, self.shallow.as_str(), named.as_deref())? {
+            Some(path) => boundary_in(rt, path.as_str()),
+            None => Ok(Vec::new(alloc)),
         }
     }
 
@@ -126,6 +124,27 @@ impl Places {
             }
             Err(_) => false,
         }
+    }
+}
+
+// The file of the boundary, by the variable: none where that is empty. This program stands in the folder of the shell's open files,
+// from which a path that isn't absolute leads to the shell's own folder first.
+fn boundary_file(
+    alloc: Global,
+    own: &str,
+    named: Option<&str>,
+) -> Result<Option<String>, AllocError>
+    ensures { IfOk result (λ path. option_map string_bytes path ≡ boundary_file own.now (option_map (λ n. n.now) named.entry)) }
+{
+    let Some(path) = named else {
+        return Ok(Some(String::from_str(alloc, own)?));
+    };
+    if path.is_empty() {
+        Ok(None)
+    } else if path.as_bytes().starts_with(b"/") {
+        Ok(Some(String::from_str(alloc, path)?))
+    } else {
+        Ok(Some(format!(in alloc; "../cwd/{path}")?))
     }
 }
 
@@ -177,23 +196,33 @@ fn id_text(line: &[u8]) -> (&[u8], bool)
     }
 }
 
-// Adds the object of a line, unless it is empty.
-fn add_shown(shown: &mut Vec<Shown>, line: &[u8]) -> Result<(), Trouble> {
-    if line.is_empty() {
-        return Ok(());
-    }
+// The object of a line that isn't empty.
+fn shown_by(line: &[u8]) -> Result<Shown, Trouble>
+    ensures { MatchResult result (λ s. shown_by (id_text line.now) ≡ Some s) (IsUnshown (shown_by (id_text line.now))) }
+{
     let (text, is_commit) = id_text(line);
     match ObjectId::from_hex(text) {
-        Ok(id) => {
-            shown.push(Shown { id, is_commit })?;
-            Ok(())
-        }
+        Ok(id) => Ok(Shown { id, is_commit }),
         Err(_) => Err(Trouble::Other("the repository can't be read")),
     }
 }
 
+// Adds the object of a line, unless it is empty.
+fn add_shown(shown: &mut Vec<Shown>, line: &[u8]) -> Result<(), Trouble>
+    ensures added { OnOk result (option_map (λ first. shown.old.items ++ first) (shown_line line.now) ≡ Some shown.new.items) }
+    ensures unshown { IfErr result (IsUnshown (shown_line line.now)) }
+{
+    if !line.is_empty() {
+        shown.push(shown_by(line)?)?;
+    }
+    Ok(())
+}
+
 /// The objects that git lists, a line for each.
-pub(crate) fn shown_in(alloc: Global, text: &[u8]) -> Result<Vec<Shown>, Trouble> {
+pub(crate) fn shown_in(alloc: Global, text: &[u8]) -> Result<Vec<Shown>, Trouble>
+    ensures shown { IfOk result (λ shown. shown_in text.now ≡ Some shown.items) }
+    ensures unshown { IfErr result (IsUnshown (shown_in text.now)) }
+{
     let mut shown = Vec::new(alloc);
     let lines = lines_of(alloc, text)?;
     'lines: for line in &lines {
@@ -214,7 +243,9 @@ fn kind_of(is_commit: bool) -> ObjectKind
 }
 
 // The objects that are listed.
-fn objects_of(alloc: Global, shown: &[Shown]) -> Result<StoredObjects, AllocError> {
+fn objects_of(alloc: Global, shown: &[Shown]) -> Result<StoredObjects, AllocError>
+    ensures { IfOk result (λ objects. objects ≡ objects_shown shown.now) }
+{
     let mut objects = StoredObjects::new(alloc);
     'shown: for one in shown {
         objects.add(one.id, kind_of(one.is_commit))?;
@@ -223,7 +254,9 @@ fn objects_of(alloc: Global, shown: &[Shown]) -> Result<StoredObjects, AllocErro
 }
 
 // Adds a commit that refs lead to, under a name of its own.
-fn add_ref(alloc: Global, refs: &mut StoredRefs, one: &Shown) -> Result<(), AllocError> {
+fn add_ref(alloc: Global, refs: &mut StoredRefs, one: &Shown) -> Result<(), AllocError>
+    ensures { OnOk result (refs.new ≡ with_commit refs.old one.now) }
+{
     if one.is_commit {
         let name = Vec::from_slice(alloc, &one.id.to_hex())?;
         refs.add(name, one.id, one.id)?;
@@ -232,7 +265,9 @@ fn add_ref(alloc: Global, refs: &mut StoredRefs, one: &Shown) -> Result<(), Allo
 }
 
 // Refs that lead to the commits that are listed: their names don't count.
-fn refs_of(alloc: Global, shown: &[Shown]) -> Result<StoredRefs, AllocError> {
+fn refs_of(alloc: Global, shown: &[Shown]) -> Result<StoredRefs, AllocError>
+    ensures { IfOk result (λ refs. refs ≡ refs_shown shown.now) }
+{
     let mut refs = StoredRefs::new(alloc);
     'shown: for one in shown {
         add_ref(alloc, &mut refs, one)?;
