@@ -46,6 +46,7 @@ enum {
     GIXP_UNKNOWN_VERSION = 48,
     GIXP_BAD_REFS = 50,       /* 50 to 59: the refs, or their mappings */
     GIXP_CONFLICT = 51,       /* two refs go to one local name */
+    GIXP_UNTERMINATED_REFS = 53, /* a list of refs that ends at another packet than a flush packet: refs may be missing in it */
     GIXP_BAD_FETCH = 60       /* 60 to 69: the fetch */
 };
 

@@ -6,7 +6,8 @@ Usage: dialogue.py [--remote PATH] [--only WORD] [FILE..]
 PATH is the program, else what `rt run` left in crates/gixp_remote/out; the FILEs are those of scripts/dialogue. It stands in a
 folder with two pipes and with plain files in place of the others, so that what a server says is there before it is started. In a row
 a pipe has a name in place of its number: hears, says, told, refs, commits, pack, kept. Before the shell is asked for anything but the
-settings the watcher is told to watch, and before git is told something it is told to rest: each row looks at that.
+settings the watcher is told to watch, and before git is told something it is told to rest: each row looks at that. At the end of a
+session with a web server it rests.
 crates/gixp_remote/README.md has the requests, gitremote-helpers(7) git's commands. What a row expects is written from these two
 and from git's own documents, never from what the program printed. A row's lines are done one after the other:
 
@@ -23,7 +24,7 @@ and from git's own documents, never from what the program printed. A row's lines
     end                 git says nothing more, as at the end of each row
     < LINE              what git is told
     ? REQUEST           what the shell is asked for: its first line, and what follows with ` | ` in between, `=NAME=VALUE` for a
-                        variable, `=@local` for those of `git rev-parse --local-env-vars`
+                        variable, `=@local` for those of `git rev-parse --local-env-vars`, `=@question` for a question's
     | MORE              goes on with a request, or with a text
     ! ANSWER            what it answers, where it isn't 0; `! end`: it has ended
     says LINE           a packet line of the server that is started next; 0000, 0001 and 0002 are themselves, `pack` an empty pack
@@ -55,6 +56,7 @@ ROWS = TOP / "scripts" / "dialogue"
 LOCAL = """GIT_ALTERNATE_OBJECT_DIRECTORIES GIT_CONFIG GIT_CONFIG_PARAMETERS GIT_CONFIG_COUNT GIT_OBJECT_DIRECTORY GIT_DIR GIT_WORK_TREE
 GIT_IMPLICIT_WORK_TREE GIT_GRAFT_FILE GIT_INDEX_FILE GIT_NO_REPLACE_OBJECTS GIT_REPLACE_REF_BASE GIT_PREFIX GIT_INTERNAL_SUPER_PREFIX
 GIT_SHALLOW_FILE GIT_COMMON_DIR""".split()
+SHORT = {b"=@local": LOCAL, b"=@question": ("GIT_NO_LAZY_FETCH=1", "GIXP_WITHIN=question")}
 MARK = "gixp.row"
 # The files of the shell that the program opens, by what they are for.
 GIVEN, PIPES = "9", {"hears": "20", "says": "21", "told": "22", "refs": "23", "commits": "24", "pack": "25", "kept": "26"}
@@ -63,6 +65,8 @@ WAIT = 60
 ESCAPE = re.compile(rb"\\(x[0-9a-fA-F]{2}|.)")
 NAMED = {b"n": b"\n", b"t": b"\t", b"0": b"\0", b"\\": b"\\"}
 SETTINGS = b"16\nstatus settings\n"
+# What the shell is asked at the end of a session with a web server, where git waits for nothing more.
+LAST = b"14\nstatus server\n"
 SPECIAL = {b"0000", b"0001", b"0002"}
 
 
@@ -191,7 +195,7 @@ class Row:
         if found != text:
             raise Wrong(f"the shell is asked {found!r}, wanted {text!r}; git is told {self.replies!r}")
         if found != SETTINGS:
-            self.look_at_watcher(False)
+            self.look_at_watcher(found == LAST)
         if wanted.startswith(b"start server "):
             for name, content in (("hears", b""), ("says", self.says)):
                 self.path(name).unlink()
@@ -209,8 +213,8 @@ class Row:
         verb, *names = self.text(first).decode().split(" ")
         lines = [" ".join([verb, *names[:2], *(PIPES.get(name, name) for name in names[2:])]).encode()]
         for one in more:
-            if one == b"=@local":
-                lines += [b"=" + name.encode() for name in LOCAL]
+            if one in SHORT:
+                lines += [b"=" + name.encode() for name in SHORT[one]]
             else:
                 lines.append((b"" if one.startswith(b"=") else b" ") + one.replace(b"@room", str(self.room).encode()))
         text = b"\n".join(lines) + b"\n"

@@ -71,8 +71,12 @@ def web_accounts(name, t, web):
     with web_of(t, web, server.parent, ACCOUNT="joe:secret") as front:
         url, host = f"{front}/{server.name}", front.removeprefix("http://")
         words_alike(t, f"{name}: none", urls_of(url))
-        words_alike(t, f"{name}: a wrong one in the URL", urls_of(f"http://joe:wrong@{host}/{server.name}"))
-        same(t, f"{name}: in the URL", *clone_both(t, server, urls=urls_of(f"http://joe:secret@{host}/{server.name}")))
+        taken = "-c", "transfer.credentialsInUrl=allow"
+        words_alike(t, f"{name}: a wrong one in the URL", urls_of(f"http://joe:wrong@{host}/{server.name}"), given=taken)
+        in_url = urls_of(f"http://joe:secret@{host}/{server.name}")
+        same(t, f"{name}: in the URL", *clone_both(t, server, *taken, urls=in_url))
+        refused = t.run("git", "clone", "-q", in_url[1], t.folder("to"))
+        t.check(f"{name}: in the URL, which nothing allows", refused[0] and "secret" not in refused[2], f"{refused}")
         asked = t.folder("asked")
         asked.write_text("#!/bin/sh\ncase $1 in User*) echo joe ;; *) echo secret ;; esac\n")
         asked.chmod(0o755)

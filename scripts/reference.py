@@ -6,6 +6,7 @@ Usage: reference.py [--write]
 Without `--write` it compares, and prints the first line that differs. It also prints which Rust of README and USING stands in no file
 of the crates, but for contracts, comments and names that aren't imported. The status is 1 where there is something wrong.
 """
+import functools
 import re
 import sys
 from pathlib import Path
@@ -134,33 +135,79 @@ def implementing(crate, path, name):
             yield text
 
 
-def traits_of(crate, path, name, front):
-    """The traits of a type, but `From`, whose lines of attributes end the text in front of it."""
-    found = set()
+@functools.cache
+def texts():
+    """The texts of all files of the crates that implement a trait."""
+    found = {file: file.read_text() for file in sorted(CRATES.glob("*/src/**/*.rt"))}
+    return {file: text for file, text in found.items() if re.search(r"(?m)^impl", text)}
+
+
+def names_of_type(crate, module, name):
+    """For each file in which a type has a name, that name and the text: `Error`, or `read::Error` where its module is brought in."""
+    own = text_of(crate, module)[1]
+    for file, text in texts().items():
+        root = "crate" if CRATES / crate in file.parents else crate
+        brought = " ".join(found[0] for found in re.finditer(rf"(?m)^use {root}::[^;]*;", text))
+        if file == own or re.search(rf"\b{name}\b", brought):
+            yield name, text
+        if module and re.search(rf"\b{module[-1]}\b", brought):
+            yield f"{module[-1]}::{name}", text
+
+
+def derived_in(front):
+    """The traits that the lines of attributes derive which end a text."""
     for line in reversed(front.rstrip("\n").split("\n")):
         if not line.startswith("#["):
-            break
+            return
         derived = re.match(r"#\[derive\((.*)\)\]", line)
-        found.update(it.strip() for it in derived[1].split(",")) if derived else None
-    brings = re.compile(rf"(?m)^use {crate}::[^;]*\b{name}\b[^;]*;")
-    above = (it.read_text() for it in sorted(CRATES.glob("*/src/**/*.rt")) if CRATES / crate not in it.parents)
-    for text in [*implementing(crate, path, name), *filter(brings.search, above)]:
-        for head in re.finditer(rf"(?m)^impl(?:<[^{{]*?>)? ([\w:]+)(?:<[^{{]*?>)? for {name}\b", text):
+        for trait in derived[1].split(",") if derived else []:
+            # thiserror's derive, which is brought in by this name, writes both
+            yield from ("Display", "Error") if trait.strip() in ("DeriveError", "Error", "thiserror::Error") else (trait.strip(),)
+
+
+def traits_of(crate, module, name, front):
+    """The traits of a type, but `From`, whose lines of attributes end the text in front of it."""
+    found = set(derived_in(front))
+    for named, text in names_of_type(crate, module, name):
+        for head in re.finditer(rf"(?m)^impl(?:<[^{{]*?>)? ([\w:]+)(?:<[^{{]*?>)?\s+for {named}(?![\w:])", text):
             found.add(head[1].rpartition("::")[2])
     return sorted(found - {"From"})
 
 
+def methods_of(crate, module, name):
+    """The signatures of a type's methods."""
+    for text in implementing(crate, text_of(crate, module)[1], name):
+        for found in re.finditer(rf"(?m)^impl(?:<[^{{]*?>)? {name}\b[^{{]*?\{{", text):
+            if " for " in " ".join(found[0].split()):
+                continue
+            body = block(text, found.start())
+            for method in re.finditer(r"(?m)^    pub (?:const )?fn ", body):
+                yield "    " + cut(body[method.start() :].lstrip())
+
+
+def behind_alias(crate, module, line):
+    """The type that an alias names by a path, as (crate, module, name)."""
+    named = re.match(r"[A-Za-z][\w:]*", line.split("=", 1)[1].strip())
+    if not named:
+        return None
+    path = tuple(named[0].split("::"))
+    found = follow(crate, module, path) if len(path) > 1 else resolve(crate, module, path[0])
+    return found[1:] if found and found[0] == "item" else None
+
+
 def described(crate, module, name):
     """The lines that describe an item."""
-    text, path = text_of(crate, module)
+    text, _ = text_of(crate, module)
     found = re.search(r"(?m)^" + ITEM.format(name=name), text)
     kind = re.match(r"pub (?:const )?(\w+)", found[0])[1]
     if kind in ("fn", "type", "const"):
         line = text[found.start() :]
         yield cut(line.split("=", 1)[0] if kind == "const" else line)
+        aliased = behind_alias(crate, module, line) if kind == "type" else None
+        yield from methods_of(*aliased) if aliased else ()
         return
     yield cut(text[found.start() :])
-    traits = traits_of(crate, path, name, text[: found.start()]) if kind in ("struct", "enum") else []
+    traits = traits_of(crate, module, name, text[: found.start()]) if kind in ("struct", "enum") else []
     if traits:
         yield f"    impl {', '.join(traits)}"
     if text[found.end() :].split("\n", 1)[0].rstrip().endswith("{") or "{" in text[found.start() :].split("\n\n", 1)[0].split(";", 1)[0]:
@@ -184,13 +231,7 @@ def described(crate, module, name):
                     continue
                 line = " ".join(rest.split(";", 1)[0].split()) if member[1] in ("type", "ghost", "const") else cut(rest.lstrip())
                 yield f"    {line}"
-    for text in implementing(crate, path, name):
-        for found in re.finditer(rf"(?m)^impl(?:<[^{{]*?>)? {name}\b[^{{]*?\{{", text):
-            if " for " in found[0]:
-                continue
-            body = block(text, found.start())
-            for method in re.finditer(r"(?m)^    pub (?:const )?fn ", body):
-                yield "    " + cut(body[method.start() :].lstrip())
+    yield from methods_of(crate, module, name)
 
 
 def listed(path, crate, module, seen):

@@ -279,6 +279,9 @@ static void session(void)
     CHECK(next(answers, ends, 1, room, needed, &step) == GIXP_OK && step.kind == 1 && step.length == needed);
     CHECK(memcmp(room, "0014command=ls-refs\n", 20) == 0);
     CHECK(next(answers, ends, 2, room, 4096, &step) == GIXP_OK && step.kind == 1 && memcmp(room, "0012command=fetch\n", 18) == 0);
+    answers[ends[1] - 1] = '1';
+    CHECK(next(answers, ends, 2, room, 4096, &step) == GIXP_UNTERMINATED_REFS);
+    answers[ends[1] - 1] = '0';
     for (ends[1]--; ends[1] >= ends[0]; ends[1]--)
         CHECK(next(answers, ends, 2, room, 4096, &step) == GIXP_INCOMPLETE);
     size_t len = strlen(SPEC);

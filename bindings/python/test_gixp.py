@@ -177,6 +177,7 @@ class Sessions(unittest.TestCase):
         self.assertEqual(self.code(b""), 10)
         self.assertEqual(self.code(self.greeting[:-4]), 10)
         self.assertEqual(self.code(b"<html>"), 43)
+        self.assertEqual(self.code(self.greeting, self.listed[:-4] + b"0001"), 53)
         self.assertEqual(self.code(self.greeting, self.listed, packet(b"packfile\n")[:5]), 10)
         session = gixp.Session([b"a:b:c"])
         session.answer(self.greeting)

@@ -163,6 +163,10 @@ fn nothing_and_refusals() {
     session.answer(&packet(b"ERR go away\n"));
     let error = session.step().unwrap_err();
     assert_eq!((error.kind(), error.words()), (Kind::Server, b"go away".as_slice()));
+    let mut session = Session::new(["refs/heads/*"]);
+    session.answer(&greeting()).answer(&[line(5, "refs/heads/main"), b"0001".to_vec()].concat());
+    let error = session.step().unwrap_err();
+    assert_eq!((error.kind(), error.to_string().as_str()), (Kind::Refs, "expected flush after ref listing"));
     let mut session = Session::new(["a:b:c"]);
     session.answer(&greeting());
     assert_eq!(session.step().unwrap_err().kind(), Kind::BadSpec);

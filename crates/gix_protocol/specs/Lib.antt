@@ -315,6 +315,7 @@ pub use Rattle.gixp_client.specs.ClientMaps
 pub use Rattle.gixp_client.specs.ClientPromise
 pub use Rattle.gixp_client.specs.Filters
 pub use Rattle.gixp_client.specs.Heard
+pub use Rattle.gixp_client.specs.ListEnds
 pub use Rattle.gixp_client.specs.Listening
 pub use Rattle.gixp_client.specs.Reasons
 pub use Rattle.gixp_client.specs.Requests

@@ -82,5 +82,6 @@ engine_code engine.TooManyAnswers = 31
 engine_code (engine.Spec e) = spec_code e
 engine_code (engine.Handshake e) = handshake_code e
 engine_code (engine.Refs e) = map_code e
+engine_code engine.UnterminatedRefs = 53
 engine_code (engine.Fetch e) = fetch_code e
 engine_code (engine.Pack e) = packet_code e

@@ -236,6 +236,7 @@ pub(crate) fn engine_code(e: &EngineError) -> u32
         EngineError::Spec(e) => spec_code(e),
         EngineError::Handshake(e) => handshake_code(e),
         EngineError::Refs(e) => map_code(e),
+        EngineError::UnterminatedRefs => 53,
         EngineError::Fetch(e) => fetch_code(e),
         EngineError::Pack(e) => packet_code(*e),
     }

@@ -45,6 +45,7 @@ fn text_of(code: u32) -> &'static str {
         50 => "the server's objects have another hash",
         51 => "two refs would go to one local name",
         52 => "the answer to ls-refs is refused",
+        53 => "expected flush after ref listing",
         60 => "the answer to a fetch is refused",
         61 => "the negotiation ended without a pack",
         62 => "a request can't be made",

@@ -7,8 +7,10 @@ use Rattle.gixp_capabilities.specs.Capabilities.{CapabilityValue}
 use Rattle.gixp_refs.specs.declared.handshake.Ref.{Ref}
 use Rattle.gixp_requests.specs.Feature.{FeatureValue}
 use Rattle.gixp_requests.specs.Command.{TableValue, git_table}
+use Rattle.gixp_packetline.specs.declared.protocol.MessageKind.{MessageKind}
 use Rattle.gixp_packetline.specs.declared.protocol.Protocol.{Protocol}
-use Rattle.gixp_refmap.specs.Listing.{Listing, listing, Listed}
+use Rattle.gixp_refmap.specs.Listing.{Listing, listing, Lists}
+use Rattle.gixp_refmap.specs.declared.ls_refs.error.Error.{Error as ListError}
 use Rattle.gixp_refmap.specs.declared.refmap.init.Context.{Context}
 use Rattle.gixp_refmap.specs.declared.refmap.init.Error.{Error as MapError}
 use Rattle.gixp_refmap.specs.declared.refmap.init.Error.TheVariants.{Memory}
@@ -19,6 +21,7 @@ use Rattle.gixp_handshake.specs.declared.handshake.ref_map.ObtainRefMap.TheVaria
 use Rattle.gixp_handshake.specs.Obtain.{MakesMap, PreparesBy, ObtainsBy, FetchesList}
 use Rattle.gixp_client.specs.Tables.{asked_table}
 use Rattle.gixp_client.specs.ClientCalls.{ListsInSession, GivesRefs, MapsInSession}
+use Rattle.gixp_client.specs.ListEnds.{whole_refs, are_whole, whole_map}
 use Rattle.gixp_client.specs.SessionStates.{behind_map}
 use Rattle.gixp_client.specs.declared.error.Error.{Error}
 use Rattle.gixp_client.specs.declared.state.State.{State}
@@ -30,14 +33,32 @@ pub state_behind_map : (b b' : Bool) (version : Protocol) (e e' : Error) (s : St
     → s ≡ behind_map b' version e'
 state_behind_map b b' version e e' s h k l = h ∙ (ap (λ (x : Bool). behind_map x version e) k ∙ ap (behind_map b' version) l)
 
--- all refs were listed, by git's table and this name
-pub as_listed : (table : TableValue) (agent name : FeatureValue) (caps : List CapabilityValue) (l : Listing) (old new : Reading)
-    (refs : List Ref) → table ≡ git_table → agent ≡ name → l ≡ listing table None caps agent → Listed l old new refs
-    → Listed (listing git_table None caps name) old new refs
-as_listed table agent name caps l old new refs t a e h =
-    subst (λ (x : FeatureValue). Listed (listing git_table None caps x) old new refs) a
-    (subst (λ (x : TableValue). Listed (listing x None caps agent) old new refs) t
-    (subst (λ (x : Listing). Listed x old new refs) e h))
+-- all refs were listed, or weren't, by git's table and this name
+pub as_lists : (table : TableValue) (agent name : FeatureValue) (caps : List CapabilityValue) (l : Listing) (plain : Bool)
+    (old new : Reading) (r r' : Result (Vec Ref Global) ListError) → table ≡ git_table → agent ≡ name
+    → l ≡ listing table None caps agent → r ≡ r' → Lists l plain old new r
+    → Lists (listing git_table None caps name) plain old new r'
+as_lists table agent name caps l plain old new r r' t a e f h =
+    subst (λ (x : FeatureValue). Lists (listing git_table None caps x) plain old new r') a
+    (subst (λ (x : TableValue). Lists (listing x None caps agent) plain old new r') t
+    (subst (λ (x : Listing). Lists x plain old new r') e
+    (subst (λ (x : Result (Vec Ref Global) ListError). Lists l plain old new x) f h)))
+
+-- why a list is refused, by where it ends
+pub refused_by : (listed : Result (Vec Ref Global) ListError) (b b' : Bool) (e : Error) → Err e ≡ whole_refs listed b → b ≡ b'
+    → whole_refs listed b' ≡ Err e
+refused_by listed b b' e h k = ap (whole_refs listed) (sym k) ∙ sym h
+
+-- why there is no ref map, by whether its refs are whole
+pub unmapped_by : (made : Result RefMap MapError) (b : Bool) (here here' : Bool) (stopped : Option MessageKind) (e : Error)
+    → Err e ≡ whole_map made b → b ≡ are_whole here stopped → here ≡ here' → whole_map made (are_whole here' stopped) ≡ Err e
+unmapped_by made b here here' stopped e h k l =
+    ap (λ (x : Bool). whole_map made (are_whole x stopped)) (sym l) ∙ (ap (whole_map made) (sym k) ∙ sym h)
+
+-- its refs are whole
+pub whole_by : (b : Bool) (here here' : Bool) (stopped : Option MessageKind) → b ≡ true → b ≡ are_whole here stopped → here ≡ here'
+    → are_whole here' stopped ≡ true
+whole_by b here here' stopped h k l = ap (λ (x : Bool). are_whole x stopped) (sym l) ∙ (sym k ∙ h)
 
 -- by what was prepared of these refs
 pub made_of_refs : (table : TableValue) (agent : FeatureValue) (context : Context) (caps : List CapabilityValue) (refs : Vec Ref Global)

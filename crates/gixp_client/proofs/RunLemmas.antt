@@ -49,11 +49,12 @@ as_session parties table agent name shaken request old came new progress t a f =
 
 -- so is a ref map
 pub as_obtained : (table table' : TableValue) (agent name : FeatureValue) (context : Context) (h : Handshake) (plain : Bool)
-    (old new : Reading) (r : Result RefMap MapError) → table ≡ table' → agent ≡ name
-    → Obtains table agent context h plain old new r → Obtains table' name context h plain old new r
-as_obtained table table' agent name context h plain old new r t a o =
-    subst (λ (x : TableValue). Obtains x name context h plain old new r) t
-    (subst (λ (x : FeatureValue). Obtains table x context h plain old new r) a o)
+    (old new : Reading) (r r' : Result RefMap MapError) → table ≡ table' → agent ≡ name → r ≡ r'
+    → Obtains table agent context h plain old new r → Obtains table' name context h plain old new r'
+as_obtained table table' agent name context h plain old new r r' t a e o =
+    subst (λ (x : TableValue). Obtains x name context h plain old new r') t
+    (subst (λ (x : FeatureValue). Obtains table x context h plain old new r') a
+    (subst (λ (x : Result RefMap MapError). Obtains table agent context h plain old new x) e o))
 
 -- what a negotiation knows, by its parts
 pub same_knowledge : (t u : Tags) (s r : Shallow) (o p e f : Objects) (l m : LocalRefs) → t ≡ u → s ≡ r → o ≡ p → e ≡ f → l ≡ m

@@ -4,6 +4,7 @@ pub mod Unshallowed
 pub mod Filters
 pub mod ClientError
 pub mod ClientCalls
+pub mod ListEnds
 pub mod SessionStates
 pub mod ServerWords
 pub mod Reasons

@@ -13,7 +13,7 @@ use Rattle.gixp_handshake.specs.declared.handshake.error.Error.TheVariants as sh
 use Rattle.gixp_client.specs.declared.consumer.PackError.{PackError}
 use Rattle.gixp_client.specs.declared.consumer.PackError.TheVariants as pack
 use Rattle.gixp_client.specs.declared.error.Error.{Error}
-use Rattle.gixp_client.specs.declared.error.Error.TheVariants.{Handshake, Refs, Request, Answer, Pack, Rest}
+use Rattle.gixp_client.specs.declared.error.Error.TheVariants.{Handshake, Refs, UnterminatedRefs, Request, Answer, Pack, Rest}
 
 -- what was read: a server's own error and an allocation failure have sentences of their own
 abbrev pub read_reason : ReadError → Option (List ℕ)
@@ -69,4 +69,5 @@ reason (Request e) = client_reason e
 reason (Answer e) = answer_reason e
 reason (Pack e) = pack_reason e
 reason (Rest e) = read_reason e
+reason UnterminatedRefs = Some (codes "expected flush after ref listing")
 reason _ = None

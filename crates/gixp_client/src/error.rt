@@ -48,7 +48,9 @@ pub enum Error {
     Refs(parse::Error),
     /// The server doesn't take the command that lists refs. Nothing was sent.
     UnsupportedListing,
-    /// The server names objects by a hash function that isn't known.
+    /// A list of refs ended at another packet than a flush packet, so that refs may be missing in it (gitprotocol-v2, "ls-refs").
+    UnterminatedRefs,
+    /// The server names objects by a hash function other than SHA-1 (gitprotocol-v2, "object-format").
     UnknownObjectFormat {
         /// What it calls the function.
         format: BString,
@@ -156,6 +158,7 @@ impl Error {
             Error::Answer(e) => answer_reason(e),
             Error::Pack(e) => pack_reason(e),
             Error::Rest(e) => read_reason(e),
+            Error::UnterminatedRefs => Some("expected flush after ref listing"),
             _ => None,
         }
     }
@@ -180,8 +183,9 @@ impl Display for Rest<'_> {
             Error::UnsupportedListing => f.write_str(
                 "the server doesn't list refs as it is asked to",
             ),
+            Error::UnterminatedRefs => f.write_str("the list of refs isn't whole"),
             Error::UnknownObjectFormat { format } => {
-                write!(f, "the server names objects by {format}, which isn't known")
+                write!(f, "mismatched algorithms: client sha1; server {format}")
             }
             Error::Conflicts(e) => write!(f, "the refs can't be mapped: {e}"),
             Error::Request(e) => write!(f, "a request wasn't sent: {e:?}"),

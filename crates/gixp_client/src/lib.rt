@@ -9,6 +9,7 @@ mod fetched;
 mod fetching;
 mod heard;
 pub mod laws;
+mod list_ends;
 mod listen;
 mod once;
 mod over;

@@ -1,5 +1,5 @@
 //! A session with a server.
-ghost use Rattle.std.specs.Prelude.{◌≡◌, ◌≢◌, ◌⊎◌, [], Some, None, Ok, Err, IfOk, IfErr, OnOk, MatchResult, is_some, string_bytes, Vec};
+ghost use Rattle.std.specs.Prelude.{◌≡◌, ◌≢◌, ◌⊎◌, true, [], Some, None, Ok, Err, IfOk, IfErr, OnOk, MatchResult, is_some, string_bytes, Bool, Vec, Result};
 ghost use Rattle.std.specs.Option.{option_map};
 ghost use Rattle.std.specs.declared.alloc.Global.{Global as Allocator};
 ghost use Rattle.gixp_wire.specs.declared.service.Service.TheVariants.{UploadPack};
@@ -7,16 +7,19 @@ ghost use Rattle.gixp_wire.specs.Greeting.{parameters_of};
 ghost use Rattle.gixp_refs.specs.declared.handshake.Ref.{Ref as ListedRef};
 ghost use Rattle.gixp_refmap.specs.declared.ls_refs.error.Error.{Error as ListError};
 ghost use Rattle.gixp_refmap.specs.declared.refmap.init.Error.{Error as MapError};
+ghost use Rattle.gixp_refmap.specs.declared.refmap.map.RefMap.{RefMap as MadeMap};
+ghost use Rattle.gixp_refmap.specs.Mapping.{unknown_format};
 ghost use Rattle.gixp_handshake.specs.HandshakeValues.{refs_value};
 ghost use Rattle.gixp_handshake.specs.ObtainProgress.{TellsObtained};
 ghost use Rattle.gixp_handshake.specs.ShakeProgress.{TellsShake};
-ghost use Rattle.gixp_client.specs.ClientError.{of_list, of_init};
 ghost use Rattle.gixp_client.specs.ClientCalls.{client_feature, OpensSession, ListsInSession, GivesRefs, MapsInSession, ClosesSession};
 ghost use Rattle.gixp_client.specs.Filters.{offers_filter};
+ghost use Rattle.gixp_client.specs.ListEnds.{IsUnasked, is_flush, are_whole, whole_refs, whole_map};
 ghost use Rattle.gixp_client.specs.SessionStates.{behind_refusal, behind_map};
 
 use crate::error::Error;
 use crate::heard::Heard;
+use crate::list_ends::{are_whole, expect_format, is_at_flush, whole_map, whole_refs};
 use crate::listen::Listener;
 use crate::request::Request;
 use crate::settle::can_filter;
@@ -197,18 +200,22 @@ impl<T: Transport + Drop, L: Listener + Drop, P: NestedProgress + Drop> Session<
     // Asks for all refs, and keeps them.
     fn ask_refs(&mut self) -> Result<(), Error>
         ensures over { self.old.state ≢ State.AtStop → (result ≡ Err Error.Over) × (self.new ≡ self.old) }
+        ensures other { unknown_format self.old.shaken.capabilities ≢ None → self.new ≡ self.old }
+        ensures format { OnOk result (unknown_format self.old.shaken.capabilities ≡ None) }
         ensures listed { OnOk result ((refs : Vec ListedRef Allocator) × ListsInSession (client_feature (string_bytes self.old.agent))
             self.old.shaken T.is_plain (T.reading self.old.transport.inner) (T.reading self.new.transport.inner) (Ok refs)
             × (self.new.shaken ≡ record self.old.shaken { refs = Some refs })) }
-        ensures refused { IfErr result (λ e. ((self.new ≡ self.old) × ((e ≡ Error.Over) ⊎ (e ≡ Error.Memory)))
-            ⊎ ((x : ListError) × ListsInSession (client_feature (string_bytes self.old.agent)) self.old.shaken T.is_plain
-            (T.reading self.old.transport.inner) (T.reading self.new.transport.inner) (Err x) × (e ≡ of_list x)
-            × (self.new.state ≡ behind_refusal self.old.shaken.server_protocol_version (of_list x))
-            × (self.new.shaken ≡ self.old.shaken))) }
+        ensures ended { OnOk result (is_flush (T.reading self.new.transport.inner).stopped ≡ true) }
+        ensures refused { IfErr result (λ e. ((self.new ≡ self.old) × IsUnasked self.old.shaken.capabilities e)
+            ⊎ ((listed : Result (Vec ListedRef Allocator) ListError) × ListsInSession (client_feature (string_bytes self.old.agent))
+            self.old.shaken T.is_plain (T.reading self.old.transport.inner) (T.reading self.new.transport.inner) listed
+            × (whole_refs listed (is_flush (T.reading self.new.transport.inner).stopped) ≡ Err e)
+            × (self.new.state ≡ behind_refusal self.old.shaken.server_protocol_version e) × (self.new.shaken ≡ self.old.shaken))) }
         ensures stays { OnOk result (self.new.state ≡ self.old.state) }
         ensures agent { self.new.agent ≡ self.old.agent }
     {
         self.expect_open()?;
+        expect_format(self.alloc, &self.shaken.capabilities)?;
         let table = CommandTable::git();
         let name = agent_feature(self.alloc, self.agent.as_str())?;
         let command = LsRefsCommand::new(
@@ -218,13 +225,13 @@ impl<T: Transport + Drop, L: Listener + Drop, P: NestedProgress + Drop> Session<
             &self.shaken.capabilities,
             name,
         )?;
-        match command.invoke_blocking(self.alloc, &mut self.transport, &mut self.progress) {
+        let listed = command.invoke_blocking(self.alloc, &mut self.transport, &mut self.progress);
+        match whole_refs(listed, is_at_flush(&self.transport)) {
             Ok(refs) => {
                 self.shaken.refs = Some(refs);
                 Ok(())
             }
             Err(e) => {
-                let e = Error::from(e);
                 self.state = behind_refusal(self.shaken.server_protocol_version, &e);
                 Err(e)
             }
@@ -236,19 +243,23 @@ impl<T: Transport + Drop, L: Listener + Drop, P: NestedProgress + Drop> Session<
     ///
     /// # Errors
     ///
-    /// `Refs`, `Request` or `UnsupportedListing` where they can't be listed, `Over`, or `Memory`; `state` says what stands then, and
-    /// no refs are kept.
+    /// `Refs`, `Request` or `UnsupportedListing` where they can't be listed, `UnterminatedRefs` where the list ends at another packet
+    /// than a flush packet, `UnknownObjectFormat` where the server names objects by another hash function than SHA-1, to which nothing
+    /// is sent, `Over`, or `Memory`. `state` says what stands then, and no refs are kept.
     pub fn list(&mut self) -> Result<(), Error>
         ensures here { self.old.shaken.refs ≢ None → (result ≡ Ok tt) × (self.new ≡ self.old) }
         ensures over { self.old.shaken.refs ≡ None → self.old.state ≢ State.AtStop → (result ≡ Err Error.Over) × (self.new ≡ self.old) }
+        ensures other { unknown_format self.old.shaken.capabilities ≢ None → self.new ≡ self.old }
+        ensures format { self.old.shaken.refs ≡ None → OnOk result (unknown_format self.old.shaken.capabilities ≡ None) }
         ensures listed { self.old.shaken.refs ≡ None → OnOk result ((refs : Vec ListedRef Allocator) × ListsInSession
             (client_feature (string_bytes self.old.agent)) self.old.shaken T.is_plain (T.reading self.old.transport.inner)
             (T.reading self.new.transport.inner) (Ok refs) × (self.new.shaken ≡ record self.old.shaken { refs = Some refs })) }
-        ensures refused { IfErr result (λ e. ((self.new ≡ self.old) × ((e ≡ Error.Over) ⊎ (e ≡ Error.Memory)))
-            ⊎ ((x : ListError) × ListsInSession (client_feature (string_bytes self.old.agent)) self.old.shaken T.is_plain
-            (T.reading self.old.transport.inner) (T.reading self.new.transport.inner) (Err x) × (e ≡ of_list x)
-            × (self.new.state ≡ behind_refusal self.old.shaken.server_protocol_version (of_list x))
-            × (self.new.shaken ≡ self.old.shaken))) }
+        ensures ended { self.old.shaken.refs ≡ None → OnOk result (is_flush (T.reading self.new.transport.inner).stopped ≡ true) }
+        ensures refused { IfErr result (λ e. ((self.new ≡ self.old) × IsUnasked self.old.shaken.capabilities e)
+            ⊎ ((listed : Result (Vec ListedRef Allocator) ListError) × ListsInSession (client_feature (string_bytes self.old.agent))
+            self.old.shaken T.is_plain (T.reading self.old.transport.inner) (T.reading self.new.transport.inner) listed
+            × (whole_refs listed (is_flush (T.reading self.new.transport.inner).stopped) ≡ Err e)
+            × (self.new.state ≡ behind_refusal self.old.shaken.server_protocol_version e) × (self.new.shaken ≡ self.old.shaken))) }
         ensures stays { OnOk result (self.new.state ≡ self.old.state) }
         ensures agent { self.new.agent ≡ self.old.agent }
     {
@@ -266,7 +277,8 @@ impl<T: Transport + Drop, L: Listener + Drop, P: NestedProgress + Drop> Session<
     pub fn refs(&mut self) -> Result<&[Ref], Error>
         ensures given { IfOk result (λ refs. GivesRefs (client_feature (string_bytes self.old.agent)) self.old.shaken T.is_plain
             (T.reading self.old.transport.inner) self.old.shaken.refs refs.now) }
-        ensures refused { IfErr result (λ e. (e ≡ Error.Over) ⊎ (e ≡ Error.Memory) ⊎ ((x : ListError) × (e ≡ of_list x))) }
+        ensures refused { IfErr result (λ e. IsUnasked self.old.shaken.capabilities e
+            ⊎ ((listed : Result (Vec ListedRef Allocator) ListError) × (is_ended : Bool) × (whole_refs listed is_ended ≡ Err e))) }
     {
         self.list()?;
         match &self.shaken.refs {
@@ -293,17 +305,22 @@ impl<T: Transport + Drop, L: Listener + Drop, P: NestedProgress + Drop> Session<
     ///
     /// # Errors
     ///
-    /// `Refs`, `Request` or `UnsupportedListing` where they can't be listed, `Conflicts` where two refs go to one local name,
-    /// `UnknownObjectFormat` where the server names objects by another hash function, `Over`, or `Memory`.
+    /// `Refs`, `Request` or `UnsupportedListing` where they can't be listed, `UnterminatedRefs` where the list ends at another packet
+    /// than a flush packet, `Conflicts` where two refs go to one local name, `UnknownObjectFormat` where the server names objects by
+    /// another hash function than SHA-1, to which nothing is sent, `Over`, or `Memory`.
     pub fn map(&mut self, request: &Request) -> Result<RefMap, Error>
         ensures over { self.old.state ≢ State.AtStop → (result ≡ Err Error.Over) × (self.new ≡ self.old) }
         ensures mapped { IfOk result (λ m. MapsInSession request.now (client_feature (string_bytes self.old.agent))
             self.old.shaken T.is_plain
             (T.reading self.old.transport.inner) (T.reading self.new.transport.inner) (Ok m)) }
-        ensures refused { IfErr result (λ e. ((self.new ≡ self.old) × ((e ≡ Error.Over) ⊎ (e ≡ Error.Memory)))
-            ⊎ ((x : MapError) × MapsInSession request.now (client_feature (string_bytes self.old.agent)) self.old.shaken T.is_plain
-            (T.reading self.old.transport.inner) (T.reading self.new.transport.inner) (Err x) × (e ≡ of_init x)
-            × (self.new.state ≡ behind_map (is_some self.old.shaken.refs) self.old.shaken.server_protocol_version (of_init x)))) }
+        ensures whole { OnOk result (are_whole (is_some self.old.shaken.refs) (T.reading self.new.transport.inner).stopped ≡ true) }
+        ensures format { OnOk result (unknown_format self.old.shaken.capabilities ≡ None) }
+        ensures other { unknown_format self.old.shaken.capabilities ≢ None → self.new ≡ self.old }
+        ensures refused { IfErr result (λ e. ((self.new ≡ self.old) × IsUnasked self.old.shaken.capabilities e)
+            ⊎ ((made : Result MadeMap MapError) × MapsInSession request.now (client_feature (string_bytes self.old.agent))
+            self.old.shaken T.is_plain (T.reading self.old.transport.inner) (T.reading self.new.transport.inner) made
+            × (whole_map made (are_whole (is_some self.old.shaken.refs) (T.reading self.new.transport.inner).stopped) ≡ Err e)
+            × (self.new.state ≡ behind_map (is_some self.old.shaken.refs) self.old.shaken.server_protocol_version e))) }
         ensures stays { OnOk result (self.new.state ≡ self.old.state) }
         ensures told { IfOk result (λ m. TellsObtained P.told self.old.shaken.refs self.old.progress (Ok m) self.new.progress) }
         ensures handshake { self.new.shaken ≡ record self.old.shaken { refs = self.new.shaken.refs } }
@@ -311,6 +328,7 @@ impl<T: Transport + Drop, L: Listener + Drop, P: NestedProgress + Drop> Session<
         ensures agent { self.new.agent ≡ self.old.agent }
     {
         self.expect_open()?;
+        expect_format(self.alloc, &self.shaken.capabilities)?;
         let context = request.context()?;
         let name = agent_feature(self.alloc, self.agent.as_str())?;
         let here = self.refs_here()?;
@@ -326,10 +344,9 @@ impl<T: Transport + Drop, L: Listener + Drop, P: NestedProgress + Drop> Session<
             &mut self.transport,
         );
         self.shaken.refs = here;
-        match made {
+        match whole_map(made, are_whole(is_here, &self.transport)) {
             Ok(map) => Ok(map),
             Err(e) => {
-                let e = Error::from(e);
                 self.state = behind_map(is_here, version, &e);
                 Err(e)
             }

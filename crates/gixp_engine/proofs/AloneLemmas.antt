@@ -17,7 +17,7 @@ use Rattle.gixp_fetch.specs.Fetch.{World, Parties}
 use Rattle.gixp_fetch.specs.Fetched.{Fetches, call_of}
 use Rattle.gixp_engine.specs.declared.consumer.Left.{Left}
 use Rattle.gixp_engine.specs.declared.error.EngineError.{EngineError}
-use Rattle.gixp_engine.specs.Alone.{engine_agent, engine_call, end_of_fetch, CarriesCall, ShakesAlone, MapsAlone, EngineSession, fetched}
+use Rattle.gixp_engine.specs.Alone.{engine_agent, engine_call, end_of_fetch, CarriesCall, ShakesAlone, MapsAlone, EngineSession, ends_refs, fetched}
 
 -- what the engine hands in is its table and its name
 pub carries-call : {N I A S C P X : Type 0} (parties : Parties N I A S C P X) (first : World N I S C)
@@ -35,11 +35,11 @@ module _ (Receives : RefMap → Handshake → Reading → Reading → Result (Op
   -- all three steps
   pub session-ran : (context : Context) (plain : Bool) (old mid behind new : Reading) (h k : Handshake) (m : RefMap)
       (r : Result (Option Outcome) (FetchError AllocError Left)) (ended : Result (Option Protocol) EngineError)
-      → ShakesAlone plain old mid (Ok h) → MapsAlone context h plain mid behind (Ok m) → k ≡ without_refs h
-      → (m.mappings.items ≡ [] → ⊥) → Receives m k behind new r → ended ≡ end_of_fetch k.server_protocol_version r
+      → ShakesAlone plain old mid (Ok h) → MapsAlone context h plain mid behind (Ok m) → ends_refs behind.stopped ≡ true
+      → k ≡ without_refs h → (m.mappings.items ≡ [] → ⊥) → Receives m k behind new r → ended ≡ end_of_fetch k.server_protocol_version r
       → EngineSession Receives context plain old new ended
-  session-ran context plain old mid behind new h k m r ended s l e some f q =
-      fetched h mid behind m r s l some (subst (λ x. Receives m x behind new r) e f)
+  session-ran context plain old mid behind new h k m r ended s l whole e some f q =
+      fetched h mid behind m r s l whole some (subst (λ x. Receives m x behind new r) e f)
       (q ∙ ap (λ (x : Handshake). end_of_fetch x.server_protocol_version r) e)
 
 -- a test that fails refutes what it tells

@@ -1,8 +1,10 @@
 -- A session without an account: a handshake, the ref map of the server's refs, and a fetch of what is mapped, whose pack is left.
-use Rattle.std.specs.Prelude.{◌≡◌, ◌⊎◌, ⊤, false, List, [], ◌∷◌, codes, Option, Some, None, Result, Ok, Err, IfOk, IsOk, Bool}
+use Rattle.std.specs.Prelude.{◌≡◌, ◌⊎◌, ⊤, true, false, List, [], ◌∷◌, codes, Option, Some, None, Result, Ok, Err, IfOk, IsOk, Bool}
 use Rattle.std.specs.FinMap as finite
 use Rattle.std.specs.declared.alloc.AllocError.{AllocError}
 use Rattle.gixp_hash.specs.declared.object_id.ObjectId.{ObjectId}
+use Rattle.gixp_packetline.specs.declared.protocol.MessageKind.{MessageKind}
+use Rattle.gixp_packetline.specs.declared.protocol.MessageKind.TheVariants.{Flush}
 use Rattle.gixp_packetline.specs.declared.protocol.Protocol.{Protocol}
 use Rattle.gixp_packetline.specs.Reading.{Reading}
 use Rattle.gixp_wire.specs.declared.service.Service.TheVariants.{UploadPack}
@@ -32,7 +34,7 @@ use Rattle.gixp_fetch.specs.Fetch.{World, Parties}
 use Rattle.gixp_fetch.specs.Fetched.{FetchCall, Fetches, call_of, unlocked_world}
 use Rattle.gixp_engine.specs.declared.consumer.Left.{Left}
 use Rattle.gixp_engine.specs.declared.error.EngineError.{EngineError}
-use Rattle.gixp_engine.specs.declared.error.EngineError.TheVariants.{Handshake as Unshaken, Refs as Unmapped, Fetch as Unfetched}
+use Rattle.gixp_engine.specs.declared.error.EngineError.TheVariants.{Handshake as Unshaken, Refs as Unmapped, UnterminatedRefs, Fetch as Unfetched}
 
 -- how the client names itself
 abbrev pub engine_agent : FeatureValue
@@ -53,6 +55,25 @@ pub record ShakesAlone (plain : Bool) (old new : Reading) (r : Result Handshake 
 abbrev pub MapsAlone : Context → Handshake → Bool → Reading → Reading → Result RefMap MapError → Type 0
 MapsAlone context h plain old new r = ObtainsMappings git_table engine_agent context h plain old new r
     ⊎ ((new ≡ old) × (r ≡ Err map.Memory))
+
+-- refs are whole where the reader is at a flush packet behind them (gitprotocol-v2, "ls-refs"; gitprotocol-pack, "Reference Discovery")
+abbrev pub ends_refs : Option MessageKind → Bool
+ends_refs (Some Flush) = true
+ends_refs _ = false
+
+-- why there is no ref map where the reader is at no flush packet: refs that were read aren't whole, whether they can be mapped or not
+abbrev pub unmapped_of_cut : MapError → EngineError
+unmapped_of_cut (map.UnknownObjectFormat format) = UnterminatedRefs
+unmapped_of_cut (map.MappingValidation e) = UnterminatedRefs
+unmapped_of_cut (map.ListRefs e) = Unmapped (map.ListRefs e)
+unmapped_of_cut map.Memory = Unmapped map.Memory
+
+-- the ref map of refs, if these are whole
+abbrev pub map_of_whole : Result RefMap MapError → Bool → Result RefMap EngineError
+map_of_whole (Ok m) true = Ok m
+map_of_whole (Ok m) false = Err UnterminatedRefs
+map_of_whole (Err e) true = Err (Unmapped e)
+map_of_whole (Err e) false = Err (unmapped_of_cut e)
 
 -- what a fetch is handed in: no tags come but those that are mapped
 abbrev pub engine_call : Handshake → ShallowValue → FetchCall
@@ -108,13 +129,17 @@ end_of_fetch version (Err e) = Err (Unfetched e)
 
 module _ (Receives : RefMap → Handshake → Reading → Reading → Result (Option Outcome) (FetchError AllocError Left) → Type 0)
     (context : Context) (plain : Bool) (old : Reading) where
-  -- a session up to its pack: its handshake was refused, or its ref map was, or nothing is mapped, or what is mapped was fetched
+  -- a session up to its pack: its handshake was refused, or its ref map was, or its refs aren't whole, or nothing is mapped, or what is
+  -- mapped was fetched
   pub data EngineSession (new : Reading) (ended : Result (Option Protocol) EngineError) : Type 0 where
     unshaken : (e : HandshakeError) → ShakesAlone plain old new (Err e) → ended ≡ Err (Unshaken e) → EngineSession new ended
-    unmapped : (h : Handshake) (mid : Reading) (e : MapError) → ShakesAlone plain old mid (Ok h)
-        → MapsAlone context h plain mid new (Err e) → ended ≡ Err (Unmapped e) → EngineSession new ended
+    unmapped : (h : Handshake) (mid : Reading) (r : Result RefMap MapError) (e : EngineError) → ShakesAlone plain old mid (Ok h)
+        → MapsAlone context h plain mid new r → map_of_whole r (ends_refs new.stopped) ≡ Err e → ended ≡ Err e
+        → EngineSession new ended
     empty : (h : Handshake) (mid : Reading) (m : RefMap) → ShakesAlone plain old mid (Ok h)
-        → MapsAlone context h plain mid new (Ok m) → m.mappings.items ≡ [] → ended ≡ Ok None → EngineSession new ended
+        → MapsAlone context h plain mid new (Ok m) → ends_refs new.stopped ≡ true → m.mappings.items ≡ [] → ended ≡ Ok None
+        → EngineSession new ended
     fetched : (h : Handshake) (mid behind : Reading) (m : RefMap) (r : Result (Option Outcome) (FetchError AllocError Left))
-        → ShakesAlone plain old mid (Ok h) → MapsAlone context h plain mid behind (Ok m) → (m.mappings.items ≡ [] → ⊥)
+        → ShakesAlone plain old mid (Ok h) → MapsAlone context h plain mid behind (Ok m) → ends_refs behind.stopped ≡ true
+        → (m.mappings.items ≡ [] → ⊥)
         → Receives m (without_refs h) behind new r → ended ≡ end_of_fetch h.server_protocol_version r → EngineSession new ended

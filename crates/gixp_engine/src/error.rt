@@ -36,6 +36,9 @@ pub enum EngineError {
     /// The refs weren't listed, or their mappings don't go together.
     #[error("{0}")]
     Refs(refmap::init::Error),
+    /// The list of refs ended at another packet than a flush packet, so that refs may be missing in it (gitprotocol-v2, "ls-refs").
+    #[error("expected flush after ref listing")]
+    UnterminatedRefs,
     /// The fetch failed.
     #[error("{0}")]
     Fetch(FetchError<AllocError, Left>),

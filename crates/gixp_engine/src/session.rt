@@ -1,10 +1,10 @@
 //! A session over the answers so far.
-ghost use Rattle.std.specs.Prelude.{◌≡◌, None, Ok, IfOk};
+ghost use Rattle.std.specs.Prelude.{◌≡◌, true, None, Ok, IfOk};
 ghost use Rattle.gixp_requests.specs.Feature.{feature_value};
 ghost use Rattle.gixp_handshake.specs.Taken.{without_refs};
 ghost use Rattle.gixp_fetch.specs.Fetch.{parties_of};
 ghost use Rattle.gixp_fetch.specs.FetchShallow.{shallow_value};
-ghost use Rattle.gixp_engine.specs.Alone.{engine_agent, engine_call, end_of_fetch, ShakesAlone, MapsAlone, CarriesAlone, FetchesAlone, OffersAlone, EngineSession};
+ghost use Rattle.gixp_engine.specs.Alone.{engine_agent, engine_call, end_of_fetch, ends_refs, unmapped_of_cut, map_of_whole, ShakesAlone, MapsAlone, CarriesAlone, FetchesAlone, OffersAlone, EngineSession};
 
 use crate::consumer::{LeavePack, Left};
 use crate::error::EngineError;
@@ -21,7 +21,7 @@ use gixp_hash::ObjectId;
 use gixp_negotiate::negotiate::Negotiate;
 use gixp_negotiate::negotiate::negotiation::{NegotiateContext, Negotiation};
 use gixp_negotiators::HaveList;
-use gixp_packetline::Protocol;
+use gixp_packetline::{ExtendedBufRead, MessageKind, Protocol};
 use gixp_progress::Discard;
 use gixp_refmap::RefMap;
 use gixp_refmap::fetch::Tags;
@@ -55,6 +55,49 @@ fn greet<T: Transport>(alloc: Global, transport: &mut T) -> Result<Handshake, ha
         Vec::new(alloc),
         &mut quiet,
     )
+}
+
+// Whether the reader is at a flush packet.
+fn is_at_flush<T: ExtendedBufRead>(reader: &T) -> bool
+    ensures { result ≡ ends_refs (T.reading reader.now).stopped }
+{
+    matches!(reader.stopped_at(), Some(MessageKind::Flush))
+}
+
+// Why there is no ref map where the reader is at no flush packet.
+fn unmapped_of_cut(e: init::Error) -> EngineError
+    ensures { result ≡ unmapped_of_cut e }
+{
+    match e {
+        init::Error::UnknownObjectFormat { .. } | init::Error::MappingValidation(_) => {
+            EngineError::UnterminatedRefs
+        }
+        init::Error::ListRefs(e) => EngineError::Refs(init::Error::ListRefs(e)),
+        init::Error::Memory => EngineError::Refs(init::Error::Memory),
+    }
+}
+
+// The ref map, unless its refs were read and aren't whole.
+fn map_of_whole(made: Result<RefMap, init::Error>, is_whole: bool) -> Result<RefMap, EngineError>
+    ensures whole { result ≡ map_of_whole made is_whole }
+    ensures made { IfOk result (λ m. (made ≡ Ok m) × (is_whole ≡ true)) }
+{
+    match made {
+        Ok(map) => {
+            if is_whole {
+                Ok(map)
+            } else {
+                Err(EngineError::UnterminatedRefs)
+            }
+        }
+        Err(e) => {
+            if is_whole {
+                Err(EngineError::Refs(e))
+            } else {
+                Err(unmapped_of_cut(e))
+            }
+        }
+    }
 }
 
 // The ref map of the server, which is asked for the refspecs' prefixes.
@@ -208,9 +251,10 @@ pub(crate) fn run<'a, O: Objects, T: Transport>(
         Ok(handshake) => handshake,
         Err(e) => return Err(EngineError::Handshake(e)),
     };
-    let map = match map_refs(alloc, &mut handshake, specs, transport) {
+    let made = map_refs(alloc, &mut handshake, specs, transport);
+    let map = match map_of_whole(made, is_at_flush(transport)) {
         Ok(map) => map,
-        Err(e) => return Err(EngineError::Refs(e)),
+        Err(e) => return Err(e),
     };
     if map.is_empty() {
         return Ok(None);

@@ -1,18 +1,61 @@
--- Refs that aren't listed are a reason why there is no ref map.
-use Rattle.std.proofs.Common.{inl, inr}
-use Rattle.gix_protocol.specs.MapErrorType.TheVariants.{ListRefs}
+-- Why refs aren't listed, and that this is a reason why there is no ref map.
+use Rattle.std.proofs.Common.{rules, ◌≡◌, ◌⊎◌, Bool, true, false, List, Result, Ok, Err, ap, inl, inr, subst}
+use Rattle.std.specs.Prelude.{Vec}
+use Rattle.std.specs.declared.alloc.Global.{Global}
+use Rattle.gix_protocol.specs.Capabilities.{CapabilityValue}
+use Rattle.gix_protocol.specs.ClientError.{of_list, of_init}
+use Rattle.gix_protocol.specs.Feature.{FeatureValue}
+use Rattle.gix_protocol.specs.HandshakeType.{Handshake}
+use Rattle.gix_protocol.specs.ListEnds.{IsUnasked, whole_refs, whole_map}
+use Rattle.gix_protocol.specs.ListErrorType.{Error as ListError}
+use Rattle.gix_protocol.specs.MapErrorType.{Error as MapError}
+use Rattle.gix_protocol.specs.MapErrorType.TheVariants.{UnknownObjectFormat, MappingValidation, ListRefs, Memory}
+use Rattle.gix_protocol.specs.Reading.{Reading}
+use Rattle.gix_protocol.specs.RefMapType.{RefMap}
+use Rattle.gix_protocol.specs.RefType.{Ref}
 use Rattle.gix_protocol.specs.SessionErrorType.{Error}
-use Rattle.gixp_fetch_session.specs.Mapped.{IsUnlisted, IsUnmapped}
+use Rattle.gix_protocol.specs.SessionErrorType.TheVariants.{UnterminatedRefs}
+use Rattle.gixp_fetch_session.specs.Mapped.{ListsIf, IsUnlisted, IsUnmapped}
 use Rattle.gixp_fetch_session.specs.Unfetched.{FailsWithin}
 use Rattle.gixp_fetch_session.specs.declared.failure.Failure.{Failure}
 use Rattle.gixp_fetch_session.specs.declared.failure.Step.{Step}
 
-by_list : (e : Error) → IsUnlisted e → IsUnmapped e
-by_list e h = elim h [
-  | inl over ↦ inl over
-  | inr h' ↦ elim h' [ inl memory ↦ inr (inl memory) | inr x ↦ inr (inr (ListRefs x.0, x.1)) ]
+by_list : (caps : List CapabilityValue) (e : Error) → IsUnlisted caps e → IsUnmapped caps e
+by_list caps e h = elim h [
+  | inl unasked ↦ inl unasked
+  | inr h' ↦ elim h' [ inl unended ↦ inr (inl unended) | inr x ↦ inr (inr (ListRefs x.0, x.1)) ]
 ]
 
 -- a map isn't made for want of the refs
-pub unmapped : (step : Step) (f : Failure) → FailsWithin step IsUnlisted f → FailsWithin step IsUnmapped f
-unmapped step f h = record { error = h.error; holds = by_list h.error h.holds; told = h.told }
+pub unmapped : (caps : List CapabilityValue) (step : Step) (f : Failure) → FailsWithin step (IsUnlisted caps) f
+    → FailsWithin step (IsUnmapped caps) f
+unmapped caps step f h = record { error = h.error; holds = by_list caps h.error h.holds; told = h.told }
+
+-- a list that is refused
+pub unlisted_of : (listed : Result (Vec Ref Global) ListError) (is_ended : Bool) (e : Error) → whole_refs listed is_ended ≡ Err e
+    → (e ≡ UnterminatedRefs) ⊎ ((x : ListError) × (e ≡ of_list x))
+unlisted_of (Ok refs) true e h = search (rules, h)
+unlisted_of (Ok refs) false e h = inl (search (rules, h))
+unlisted_of (Err x) is_ended e h = inr (x, search (rules, h))
+
+-- a ref map that is refused
+pub unmapped_of : (made : Result RefMap MapError) (is_whole : Bool) (e : Error) → whole_map made is_whole ≡ Err e
+    → (e ≡ UnterminatedRefs) ⊎ ((x : MapError) × (e ≡ of_init x))
+unmapped_of (Ok m) true e h = search (rules, h)
+unmapped_of (Ok m) false e h = inl (search (rules, h))
+unmapped_of (Err x) true e h = inr (x, search (rules, h))
+unmapped_of (Err (UnknownObjectFormat format)) false e h = inl (search (rules, h))
+unmapped_of (Err (MappingValidation x)) false e h = inl (search (rules, h))
+unmapped_of (Err (ListRefs x)) false e h = inr (ListRefs x, search (rules, h))
+unmapped_of (Err Memory) false e h = inr (Memory, search (rules, h))
+
+-- what the server can do stays as it is while refs are listed
+kept_capabilities : (lists : Bool) (agent : FeatureValue) (shaken kept : Handshake) (plain : Bool) (old new : Reading)
+    → ListsIf lists agent shaken plain old new kept → kept.capabilities ≡ shaken.capabilities
+kept_capabilities true agent shaken kept plain old new h = ap (λ (x : Handshake). x.capabilities) h.2
+kept_capabilities false agent shaken kept plain old new h = ap (λ (x : Handshake). x.capabilities) h.1
+
+pub unasked_then : (lists : Bool) (agent : FeatureValue) (shaken kept : Handshake) (plain : Bool) (old new : Reading) (e : Error)
+    → ListsIf lists agent shaken plain old new kept → IsUnasked kept.capabilities e → IsUnasked shaken.capabilities e
+unasked_then lists agent shaken kept plain old new e h u =
+    subst (λ (caps : List CapabilityValue). IsUnasked caps e) (kept_capabilities lists agent shaken kept plain old new h) u

@@ -1,10 +1,12 @@
 -- The ref map of a session: for many refspecs it is made of all refs, and no prefix is sent.
-use Rattle.std.specs.Prelude.{◌≡◌, ◌⊎◌, ◌&&◌, ℕ, Bool, true, false, nat_lt, Some, is_none, Vec, Result, Ok}
+use Rattle.std.specs.Prelude.{◌≡◌, ◌⊎◌, ◌&&◌, ℕ, Bool, true, false, nat_lt, List, Some, is_none, Vec, Result, Ok}
 use Rattle.std.specs.declared.alloc.Global.{Global}
+use Rattle.gix_protocol.specs.Capabilities.{CapabilityValue}
 use Rattle.gix_protocol.specs.ClientCalls.{ListsInSession, MapsInSession}
 use Rattle.gix_protocol.specs.ClientError.{of_list, of_init}
 use Rattle.gix_protocol.specs.Feature.{FeatureValue}
 use Rattle.gix_protocol.specs.HandshakeType.{Handshake}
+use Rattle.gix_protocol.specs.ListEnds.{IsUnasked}
 use Rattle.gix_protocol.specs.ListErrorType.{Error as ListError}
 use Rattle.gix_protocol.specs.MapErrorType.{Error as MapError}
 use Rattle.gix_protocol.specs.Reading.{Reading}
@@ -12,7 +14,7 @@ use Rattle.gix_protocol.specs.RefMapType.{RefMap}
 use Rattle.gix_protocol.specs.RefType.{Ref}
 use Rattle.gix_protocol.specs.RequestType.{Request}
 use Rattle.gix_protocol.specs.SessionErrorType.{Error}
-use Rattle.gix_protocol.specs.SessionErrorType.TheVariants.{Over, Memory}
+use Rattle.gix_protocol.specs.SessionErrorType.TheVariants.{UnterminatedRefs}
 
 -- whether all refs are listed for so many refspecs: where there are more than this, and the refs aren't here
 abbrev pub lists_all : (most count : ℕ) → Handshake → Bool
@@ -32,10 +34,10 @@ pub record MapsListed (lists : Bool) (request : Request) (agent : FeatureValue) 
   pub listed : ListsIf lists agent shaken plain old middle kept
   pub maps : MapsInSession request agent kept plain middle new r
 
--- why refs aren't listed
-abbrev pub IsUnlisted : Error → Type 0
-IsUnlisted e = (e ≡ Over) ⊎ (e ≡ Memory) ⊎ ((x : ListError) × (e ≡ of_list x))
+-- why a server that can do this doesn't list its refs: it isn't asked, the list isn't ended, or it can't be read
+abbrev pub IsUnlisted : List CapabilityValue → Error → Type 0
+IsUnlisted caps e = IsUnasked caps e ⊎ (e ≡ UnterminatedRefs) ⊎ ((x : ListError) × (e ≡ of_list x))
 
 -- why there is no ref map
-abbrev pub IsUnmapped : Error → Type 0
-IsUnmapped e = (e ≡ Over) ⊎ (e ≡ Memory) ⊎ ((x : MapError) × (e ≡ of_init x))
+abbrev pub IsUnmapped : List CapabilityValue → Error → Type 0
+IsUnmapped caps e = IsUnasked caps e ⊎ (e ≡ UnterminatedRefs) ⊎ ((x : MapError) × (e ≡ of_init x))

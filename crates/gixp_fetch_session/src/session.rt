@@ -227,7 +227,7 @@ pub fn refs<T: Transport + Drop, L: Listener + Drop, S: NestedProgress + Drop>(
 ) -> Result<&[Ref], Failure>
     ensures given { IfOk result (λ refs. GivesRefs (client_feature (string_bytes session.old.agent)) session.old.shaken T.is_plain
         (T.reading session.old.transport.inner) session.old.shaken.refs refs.now) }
-    ensures refused { IfErr result (FailsWithin Step.Listing IsUnlisted) }
+    ensures refused { IfErr result (FailsWithin Step.Listing (IsUnlisted session.old.shaken.capabilities)) }
 {
     match session.refs() {
         Ok(refs) => Ok(refs),
@@ -246,7 +246,7 @@ fn list_for<T: Transport + Drop, L: Listener + Drop, S: NestedProgress + Drop>(
         (client_feature (string_bytes session.old.agent)) session.old.shaken T.is_plain (T.reading session.old.transport.inner)
         (T.reading session.new.transport.inner) session.new.shaken) }
     ensures agent { session.new.agent ≡ session.old.agent }
-    ensures refused { IfErr result (FailsWithin Step.Listing IsUnlisted) }
+    ensures refused { IfErr result (FailsWithin Step.Listing (IsUnlisted session.old.shaken.capabilities)) }
 {
     if count <= MOST_PREFIXED {
         return Ok(());
@@ -267,7 +267,7 @@ pub fn map<T: Transport + Drop, L: Listener + Drop, S: NestedProgress + Drop>(
     ensures mapped { IfOk result (λ m. MapsListed (lists_all MOST_PREFIXED (length request.now.refspecs.items) session.old.shaken)
         request.now (client_feature (string_bytes session.old.agent)) session.old.shaken T.is_plain
         (T.reading session.old.transport.inner) (T.reading session.new.transport.inner) (Ok m)) }
-    ensures refused { IfErr result (FailsWithin Step.Listing IsUnmapped) }
+    ensures refused { IfErr result (FailsWithin Step.Listing (IsUnmapped session.old.shaken.capabilities)) }
 {
     match list_for(alloc, session, request.refspecs.len()) {
         Ok(()) => {}

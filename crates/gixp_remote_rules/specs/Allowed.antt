@@ -1,10 +1,13 @@
 -- Which transports the user allows (git-config, "protocol.allow"; git, "GIT_ALLOW_PROTOCOL").
-use Rattle.std.specs.Prelude.{ℕ, ◌==◌, ◌||◌, Bool, true, false, if◌then◌else◌, List, ◌++◌, codes, Option, Some, None, unwrap_or}
+use Rattle.std.specs.Prelude.{ℕ, ◌==◌, ◌||◌, Bool, true, false, if◌then◌else◌, List, ◌++◌, codes, Option, Some, None}
 use Rattle.std.specs.List.{list_any, slice_split}
-use Rattle.std.specs.Option.{option_map}
 use Rattle.std.specs.Str.{bytes_eq}
 use Rattle.gixp_remote_rules.specs.declared.policy.Policy.{Policy}
 use Rattle.gixp_remote_rules.specs.declared.policy.Policy.TheVariants.{Always, Never, User}
+use Rattle.gixp_remote_rules.specs.declared.policy.Permission.{Permission}
+use Rattle.gixp_remote_rules.specs.declared.policy.Permission.TheVariants.{Allowed, Forbidden, NoPolicy, NoBoolean}
+use Rattle.gixp_remote_rules.specs.declared.policy.PasswordPolicy.{PasswordPolicy}
+use Rattle.gixp_remote_rules.specs.declared.policy.PasswordPolicy.TheVariants.{Allow, Warn, Die, Refuse}
 use Rattle.gixp_remote_rules.specs.Config.{SettingOf, value_of, text_is_true}
 use Rattle.gixp_remote_rules.specs.Words.{is_word}
 
@@ -42,22 +45,40 @@ abbrev pub policy_in : List SettingOf → List ℕ → Option Policy
 policy_in settings transport =
     policy_by (value_of settings (allow_name transport)) (value_of settings (codes "protocol.allow")) transport
 
--- whether a policy allows it, to a server that the user named or not
-abbrev pub allows : Bool → Policy → Bool
-allows is_from_user Always = true
-allows is_from_user Never = false
-allows is_from_user User = is_from_user
+abbrev pub permission_by : Bool → Permission
+permission_by is_allowed = if is_allowed then Allowed else Forbidden
 
--- whether the user named the server (git, "GIT_PROTOCOL_FROM_USER"): unless the variable is false
-abbrev pub is_from_user : Option (List ℕ) → Bool
-is_from_user None = true
-is_from_user (Some word) = unwrap_or (text_is_true word) true
+-- where the user has to have named the server
+abbrev pub permission_of_user : Option Bool → Permission
+permission_of_user None = NoBoolean
+permission_of_user (Some is_allowed) = permission_by is_allowed
+
+-- by a policy, to a server that the user named or not
+abbrev pub permission_in : Option Bool → Option Policy → Permission
+permission_in is_from_user None = NoPolicy
+permission_in is_from_user (Some Always) = Allowed
+permission_in is_from_user (Some Never) = Forbidden
+permission_in is_from_user (Some User) = permission_of_user is_from_user
+
+-- whether the user named the server (git, "GIT_PROTOCOL_FROM_USER"): none where the variable is no boolean
+abbrev pub is_from_user : Option (List ℕ) → Option Bool
+is_from_user None = Some true
+is_from_user (Some word) = text_is_true word
 
 -- whether a list with colons (58) between its words has one
 abbrev pub lists : List ℕ → List ℕ → Bool
 lists list word = list_any (λ part. bytes_eq part word) (slice_split (λ b. b == 58) list)
 
--- whether a transport is allowed: by the list where there is one, else by its policy; none where a setting names no policy
-abbrev pub is_allowed : Option (List ℕ) → List SettingOf → List ℕ → Bool → Option Bool
-is_allowed (Some list) settings transport is_from_user = Some (lists list transport)
-is_allowed None settings transport is_from_user = option_map (allows is_from_user) (policy_in settings transport)
+-- whether a transport is allowed: by the list where there is one, else by its policy
+abbrev pub permission_of : Option (List ℕ) → List SettingOf → List ℕ → Option Bool → Permission
+permission_of (Some list) settings transport is_from_user = permission_by (lists list transport)
+permission_of None settings transport is_from_user = permission_in is_from_user (policy_in settings transport)
+
+-- what becomes of a URL with a password in it (git-config, "transfer.credentialsInUrl"); none where the setting has another word
+abbrev pub password_policy : Option (List ℕ) → Option PasswordPolicy
+password_policy None = Some Refuse
+password_policy (Some word) =
+    if bytes_eq word (codes "allow") then Some Allow
+    else if bytes_eq word (codes "warn") then Some Warn
+    else if bytes_eq word (codes "die") then Some Die
+    else None

@@ -8,7 +8,9 @@ use Rattle.gixp_remote_rules.specs.declared.dialogue.Depth.{Depth}
 use Rattle.gixp_remote_rules.specs.declared.dialogue.Depth.TheVariants.{Any}
 use Rattle.gixp_remote_rules.specs.declared.dialogue.Reply.{Reply}
 use Rattle.gixp_remote_rules.specs.declared.dialogue.Reply.TheVariants.{Ok as OkReply, Unsupported, Error}
-use Rattle.gixp_remote_rules.specs.Dialogue.{depth_of, put}
+use Rattle.gixp_remote_rules.specs.declared.dialogue.Family.{Family}
+use Rattle.gixp_remote_rules.specs.declared.dialogue.Family.TheVariants.{All}
+use Rattle.gixp_remote_rules.specs.Dialogue.{depth_of, family_of, put}
 
 -- all choices
 pub record Chosen : Type 0 where
@@ -27,6 +29,7 @@ pub record Chosen : Type 0 where
   pub is_refetch : Bool
   pub filter : Option (List ℕ)
   pub is_from_promisor : Bool
+  pub family : Family
 
 abbrev pub chosen : Choices → Chosen
 chosen c = record {
@@ -45,6 +48,7 @@ chosen c = record {
   is_refetch = c.is_refetch;
   filter = option_map bstring_bytes c.filter;
   is_from_promisor = c.is_from_promisor;
+  family = c.family;
 }
 
 -- before an option
@@ -65,6 +69,7 @@ nothing_chosen = record {
   is_refetch = false;
   filter = None;
   is_from_promisor = false;
+  family = All;
 }
 
 -- a value that is true or false, and what is told of it
@@ -104,6 +109,11 @@ with_format c value =
     else if bytes_eq value (codes "sha1") then (c, OkReply)
     else (c, Unsupported)
 
+-- which addresses are used, where the value says it
+abbrev pub with_family : Chosen → Option Family → Chosen × Reply
+with_family c None = (c, Error)
+with_family c (Some family) = (record c { family = family }, OkReply)
+
 -- one of the other options
 abbrev pub with_other : Chosen → List ℕ → List ℕ → Chosen × Reply
 with_other c name value =
@@ -111,6 +121,7 @@ with_other c name value =
     else if bytes_eq name (codes "rejectshallow") then (record c { rejects_shallow = true }, OkReply)
     else if bytes_eq name (codes "from-promisor") then (record c { is_from_promisor = true }, OkReply)
     else if bytes_eq name (codes "object-format") then with_format c value
+    else if bytes_eq name (codes "family") then with_family c (family_of value)
     else (c, Unsupported)
 
 -- the first of these that there is

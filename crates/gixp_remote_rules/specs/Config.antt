@@ -1,5 +1,5 @@
 -- The user's settings, as `git config --list --null` lists them, and what their values mean (git-config, "Values").
-use Rattle.std.specs.Prelude.{ℕ, ◌+◌, ◌==◌, ◌||◌, Bool, true, false, not, if◌then◌else◌, List, [], ◌∷◌, map, take, drop, codes, Option, Some, None, unwrap_or}
+use Rattle.std.specs.Prelude.{ℕ, ◌+◌, ◌==◌, ◌||◌, ◌&&◌, Bool, true, false, not, length, if◌then◌else◌, List, [], ◌∷◌, map, take, drop, codes, Option, Some, None, unwrap_or}
 use Rattle.std.specs.Option.{option_map}
 use Rattle.std.specs.List.{position, fold, flat_map, list_all, slice_split}
 use Rattle.std.specs.Char.{is_ascii_digit}
@@ -52,9 +52,18 @@ text_of s = unwrap_or s.value []
 abbrev pub value_of : List SettingOf → List ℕ → Option (List ℕ)
 value_of settings name = option_map text_of (last_named settings name)
 
+-- a number without its sign (45 or 43)
+abbrev pub without_sign : List ℕ → List ℕ
+without_sign [] = []
+without_sign (b ∷ rest) = if b == 45 || b == 43 then rest else b ∷ rest
+
+abbrev pub digits_are_true : List ℕ → Option Bool
+digits_are_true digits =
+    if not (length digits == 0) && list_all is_ascii_digit digits then Some (not (list_all (λ b. b == 48) digits)) else None
+
 -- whether a number isn't zero
 abbrev pub number_is_true : List ℕ → Option Bool
-number_is_true value = if list_all is_ascii_digit value then Some (not (list_all (λ b. b == 48) value)) else None
+number_is_true value = digits_are_true (without_sign value)
 
 -- whether a value is true or false
 abbrev pub text_is_true : List ℕ → Option Bool

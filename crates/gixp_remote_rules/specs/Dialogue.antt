@@ -8,6 +8,8 @@ use Rattle.gixp_remote_rules.specs.declared.dialogue.Reply.{Reply}
 use Rattle.gixp_remote_rules.specs.declared.dialogue.Reply.TheVariants.{Ok as OkReply, Unsupported, Error}
 use Rattle.gixp_remote_rules.specs.declared.dialogue.Depth.{Depth}
 use Rattle.gixp_remote_rules.specs.declared.dialogue.Depth.TheVariants.{Any, Commits, All}
+use Rattle.gixp_remote_rules.specs.declared.dialogue.Family.{Family}
+use Rattle.gixp_remote_rules.specs.declared.dialogue.Family.TheVariants.{All as FamilyAll, Ipv4, Ipv6}
 
 -- a command of git's
 pub data GitCommand : Type 0 where
@@ -52,6 +54,14 @@ reply_text Error = codes "error the value can't be read\n"
 -- a value that is true or false
 abbrev pub switch_of : List ℕ → Option Bool
 switch_of value = if bytes_eq value (codes "true") then Some true else if bytes_eq value (codes "false") then Some false else None
+
+-- which addresses a value names
+abbrev pub family_of : List ℕ → Option Family
+family_of value =
+    if bytes_eq value (codes "ipv4") then Some Ipv4
+    else if bytes_eq value (codes "ipv6") then Some Ipv6
+    else if bytes_eq value (codes "all") then Some FamilyAll
+    else None
 
 abbrev pub put_as : Bool → Option Bool → Bool × Reply
 put_as before None = (before, Error)

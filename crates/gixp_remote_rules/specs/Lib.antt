@@ -16,3 +16,5 @@ pub mod Batch
 pub mod Asked
 pub mod Bounds
 pub mod Conversation
+pub mod Unpacking
+pub mod Plain

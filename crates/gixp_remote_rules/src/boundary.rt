@@ -1,7 +1,7 @@
 //! What becomes of the shallow boundary of the repository that fetches (gitrepository-layout, "shallow"; git-fetch, `--depth`,
 //! `--update-shallow`).
 ghost use Rattle.std.specs.Prelude.{◌≡◌, ◌++◌, IfOk};
-ghost use Rattle.gixp_remote_rules.specs.Taken.{added, came, boundary_after, boundary_value, first_stranger, stranger_at, taking_of};
+ghost use Rattle.gixp_remote_rules.specs.Taken.{added, came, boundary_after, boundary_value, first_stranger, stranger_at, taking_of, look_by, look_of, roots};
 ghost use Rattle.gixp_remote_rules.specs.Choosing.{chosen};
 
 use crate::dialogue::Choices;
@@ -33,6 +33,35 @@ pub fn taking_of(choices: &Choices) -> Taking
     }
 }
 
+/// What git is asked before anything is kept of a fetch.
+#[derive(Clone, Copy, Debug, PartialEq, Eq)]
+pub enum Look {
+    /// Nothing: git looks at what came itself, after the fetch.
+    Nothing,
+    /// Whether anything is missing under the boundary that a depth makes.
+    Deepened,
+    /// Whether anything is missing under the boundary that stays, since the server's is another one.
+    Unasked,
+}
+
+// By what git asked for.
+fn look_by(taking: Taking, is_cloning: bool, changes: bool, is_bounded: bool) -> Look
+    ensures { result ≡ look_by taking is_cloning changes is_bounded }
+{
+    match taking {
+        Taking::Asked if changes && !is_cloning => Look::Deepened,
+        Taking::Nothing if is_bounded => Look::Unasked,
+        Taking::Asked | Taking::Nothing | Taking::Came => Look::Nothing,
+    }
+}
+
+/// What git is asked before anything is kept, by whether the boundary changes, and whether the server named one.
+pub fn look_of(choices: &Choices, changes: bool, is_bounded: bool) -> Look
+    ensures { result ≡ look_of (chosen choices.now) changes is_bounded }
+{
+    look_by(taking_of(choices), choices.is_cloning, changes, is_bounded)
+}
+
 /// What becomes of the boundary.
 #[derive(Debug, Drop, PartialEq, Eq)]
 pub enum Boundary {
@@ -58,6 +87,21 @@ pub fn added(
         .copied()
         .filter(|id| !old.contains(id))
         .collect(alloc)
+}
+
+/// The ids from which git looks for what is missing: those that are wanted, and those that leave the old boundary for the new one.
+pub fn roots(
+    alloc: Global,
+    wanted: &[ObjectId],
+    old: &[ObjectId],
+    new: &BTreeSet<ObjectId>,
+) -> Result<Vec<ObjectId>, AllocError>
+    ensures { IfOk result (λ ids. ids.items ≡ roots wanted.now old.now new.now) }
+{
+    let gone = added(alloc, new, old)?;
+    let mut ids = Vec::from_slice(alloc, wanted)?;
+    ids.extend_from_slice(&gone)?;
+    Ok(ids)
 }
 
 // Where the first id stands that is no commit here.

@@ -6,7 +6,7 @@ ghost use Rattle.bstr.specs.BStr.{bstr_bytes};
 ghost use Rattle.std.specs.Option.{option_map};
 ghost use Rattle.bstr.specs.Owned.{bstring_bytes};
 ghost use Rattle.gixp_remote_rules.specs.Config.{entry_of, entries_of, settings_of, setting_value, settings_in, last_named, text_of, value_of};
-ghost use Rattle.gixp_remote_rules.specs.Config.{number_is_true, text_is_true, is_true};
+ghost use Rattle.gixp_remote_rules.specs.Config.{without_sign, number_is_true, text_is_true, is_true};
 
 use crate::text::{is_word, place_of};
 use bstr::{BStr, BString};
@@ -142,12 +142,29 @@ fn are_zeros(value: &[u8]) -> bool
     value.iter().all(|b| *b == b'0')
 }
 
+// A number without its sign.
+fn without_sign(value: &[u8]) -> &[u8]
+    ensures { result.now ≡ without_sign value.now }
+{
+    match value {
+        [first, rest @ ..] => {
+            if *first == b'-' || *first == b'+' {
+                rest
+            } else {
+                value
+            }
+        }
+        [] => value,
+    }
+}
+
 // Whether a number isn't zero, none where a text is no number.
 fn number_is_true(value: &[u8]) -> Option<bool>
     ensures { result ≡ number_is_true value.now }
 {
-    if are_digits(value) {
-        Some(!are_zeros(value))
+    let digits = without_sign(value);
+    if !digits.is_empty() && are_digits(digits) {
+        Some(!are_zeros(digits))
     } else {
         None
     }

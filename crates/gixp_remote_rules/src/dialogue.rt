@@ -1,8 +1,8 @@
 //! What git asks of a remote helper, and the replies (gitremote-helpers).
 ghost use Rattle.std.specs.Prelude.{◌≡◌, ◌&&◌, not, IfOk, IfNone, OnErr, Some, None};
 ghost use Rattle.std.specs.Option.{option_map};
-ghost use Rattle.gixp_remote_rules.specs.Choosing.{chosen, nothing_chosen, with_switch, with_history, with_format, with_other, with_option, limits, has_depth, asks_closed};
-ghost use Rattle.gixp_remote_rules.specs.Dialogue.{cut_blank, command_value, command_of, switch_of, depth_of, put, reply_text, with_digit, number_behind, number_of};
+ghost use Rattle.gixp_remote_rules.specs.Choosing.{chosen, nothing_chosen, with_switch, with_history, with_format, with_family, with_other, with_option, limits, has_depth, asks_closed};
+ghost use Rattle.gixp_remote_rules.specs.Dialogue.{cut_blank, command_value, command_of, switch_of, depth_of, family_of, put, reply_text, with_digit, number_behind, number_of};
 
 use crate::text::place_of;
 use bstr::BString;
@@ -92,6 +92,17 @@ pub enum Depth {
     All,
 }
 
+/// Which addresses of a server are used (git-fetch, "--ipv4", "--ipv6").
+#[derive(Clone, Copy, Debug, PartialEq, Eq)]
+pub enum Family {
+    /// Any of them.
+    All,
+    /// IPv4 addresses.
+    Ipv4,
+    /// IPv6 addresses.
+    Ipv6,
+}
+
 /// What git's options choose.
 #[derive(Debug, Drop, PartialEq, Eq)]
 pub struct Choices {
@@ -125,6 +136,8 @@ pub struct Choices {
     pub filter: Option<BString>,
     /// What comes may lead to objects that the server has promised (gitrepository-layout, "objects/pack"; partial-clone).
     pub is_from_promisor: bool,
+    /// Which addresses of the server are used.
+    pub family: Family,
 }
 
 // A value that is true or false.
@@ -194,6 +207,21 @@ fn depth_of(value: &[u8]) -> Option<Depth>
     }
 }
 
+// Which addresses a value names.
+fn family_of(value: &[u8]) -> Option<Family>
+    ensures { result ≡ family_of value.now }
+{
+    if value == b"ipv4".as_slice() {
+        Some(Family::Ipv4)
+    } else if value == b"ipv6".as_slice() {
+        Some(Family::Ipv6)
+    } else if value == b"all".as_slice() {
+        Some(Family::All)
+    } else {
+        None
+    }
+}
+
 // Keeps a value that is true or false.
 fn put(place: &mut bool, value: &[u8]) -> Reply
     ensures { (place.new, result) ≡ put place.old value.now }
@@ -238,6 +266,7 @@ impl Choices {
             is_refetch: false,
             filter: None,
             is_from_promisor: false,
+            family: Family::All,
         }
     }
 
@@ -336,8 +365,23 @@ impl Choices {
             Reply::Ok
         } else if name == b"object-format".as_slice() {
             self.take_format(value)
+        } else if name == b"family".as_slice() {
+            self.take_family(value)
         } else {
             Reply::Unsupported
+        }
+    }
+
+    // Which addresses are used.
+    fn take_family(&mut self, value: &[u8]) -> Reply
+        ensures { (chosen self.new, result) ≡ with_family (chosen self.old) (family_of value.now) }
+    {
+        match family_of(value) {
+            Some(family) => {
+                self.family = family;
+                Reply::Ok
+            }
+            None => Reply::Error,
         }
     }
 

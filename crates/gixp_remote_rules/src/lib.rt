@@ -10,6 +10,7 @@ mod conversation;
 mod dialogue;
 mod exchange;
 mod indexed;
+mod plain;
 mod policy;
 mod proxy;
 mod question;
@@ -18,23 +19,32 @@ mod server;
 mod ssh;
 mod text;
 mod told;
+mod unpacking;
 mod words;
 
 pub use batch::Batch;
-pub use boundary::{Boundary, Taking, added, boundary_after, taking_of};
+pub use boundary::{Boundary, Look, Taking, added, boundary_after, look_of, roots, taking_of};
 pub use bounds::bound_said;
 pub use config::{Setting, Settings, is_true};
 pub use conversation::{Conversation, Step};
-pub use dialogue::{Choices, Command, Depth, Reply, number_of, read_command};
+pub use dialogue::{Choices, Command, Depth, Family, Reply, number_of, read_command};
 pub use exchange::{read_answer, send};
 pub use indexed::{kept_pack, pack_file, told_pack};
-pub use policy::{Policy, is_allowed, is_from_user};
+pub use plain::plain_text;
+pub use policy::{
+    PasswordPolicy, Permission, Policy, is_from_user, password_policy, permission_of,
+};
 pub use proxy::proxy_for;
-pub use question::{Question, listing_words, question_words};
+pub use question::{
+    Question, Within, listing_words, pack_variables, question_variables, question_words, within_of,
+};
 pub use request::{Program, Request, Start, Task, request_text};
 pub use server::quoted;
-pub use ssh::{Variant, first_word, probe_words, server_words, ssh_words, variant_of};
+pub use ssh::{
+    SshCall, SshError, Variant, first_word, probe_words, server_words, ssh_words, variant_of,
+};
 pub use told::{batch_told, capabilities, tells_closed};
+pub use unpacking::{USUAL_LIMIT, limit_in, may_unpack, pack_count, unpack_words, unpacks};
 pub use words::{
     checks_closed, here_words, index_words, joined, object_check, object_variables,
     server_variables, web_words,

@@ -5,7 +5,7 @@ ghost use Rattle.std.specs.Option.{option_map};
 ghost use Rattle.std.specs.Str.{bytes_eq};
 ghost use Rattle.bstr.specs.BStr.{bstr_bytes};
 ghost use Rattle.gixp_remote_rules.specs.Config.{settings_in, value_of};
-ghost use Rattle.gixp_remote_rules.specs.Allowed.{policy_of, policy_without, allow_name, policy_for_all, policy_in, allows, is_from_user, lists, is_allowed};
+ghost use Rattle.gixp_remote_rules.specs.Allowed.{policy_of, policy_without, allow_name, policy_for_all, policy_in, permission_by, permission_of_user, permission_in, is_from_user, lists, permission_of, password_policy};
 
 use crate::config::{Settings, text_is_true};
 use crate::text::is_word;
@@ -21,6 +21,19 @@ pub enum Policy {
     Never,
     /// Where the user named the server.
     User,
+}
+
+/// Whether a transport is allowed.
+#[derive(Clone, Copy, Debug, PartialEq, Eq)]
+pub enum Permission {
+    /// It is.
+    Allowed,
+    /// It isn't.
+    Forbidden,
+    /// A setting has none of git's words.
+    NoPolicy,
+    /// It depends on whether the user named the server, and that variable is no boolean of git's.
+    NoBoolean,
 }
 
 // The policy of a word.
@@ -117,54 +130,104 @@ fn policy_in(
     }
 }
 
-// Whether a policy allows a transport.
-fn allows(policy: Policy, is_from_user: bool) -> bool
-    ensures { result ≡ allows is_from_user policy }
+// The permission of what is allowed, or not.
+fn permission_by(is_allowed: bool) -> Permission
+    ensures { result ≡ permission_by is_allowed }
 {
-    match policy {
-        Policy::Always => true,
-        Policy::Never => false,
-        Policy::User => is_from_user,
+    if is_allowed {
+        Permission::Allowed
+    } else {
+        Permission::Forbidden
     }
 }
 
-/// Whether the user named the server, by `GIT_PROTOCOL_FROM_USER`: unless that is false.
-pub fn is_from_user(variable: Option<&[u8]>) -> bool
+// The permission where the user has to have named the server.
+fn permission_of_user(is_from_user: Option<bool>) -> Permission
+    ensures { result ≡ permission_of_user is_from_user }
+{
+    match is_from_user {
+        Some(is_allowed) => permission_by(is_allowed),
+        None => Permission::NoBoolean,
+    }
+}
+
+// The permission by a policy, where a setting names one.
+fn permission_in(policy: Option<Policy>, is_from_user: Option<bool>) -> Permission
+    ensures { result ≡ permission_in is_from_user policy }
+{
+    match policy {
+        Some(Policy::Always) => Permission::Allowed,
+        Some(Policy::Never) => Permission::Forbidden,
+        Some(Policy::User) => permission_of_user(is_from_user),
+        None => Permission::NoPolicy,
+    }
+}
+
+/// Whether the user named the server, by `GIT_PROTOCOL_FROM_USER`. None where its value is no boolean of git's.
+pub fn is_from_user(variable: Option<&[u8]>) -> Option<bool>
     ensures { result ≡ is_from_user (option_map (λ v. v.now) variable.entry) }
 {
     match variable {
-        Some(word) => match text_is_true(word) {
-            Some(is_true) => is_true,
-            None => true,
-        },
-        None => true,
+        Some(word) => text_is_true(word),
+        None => Some(true),
     }
 }
 
 /// Whether a transport is allowed: by the list of `GIT_ALLOW_PROTOCOL` where that is set, else by its own setting, else by
-/// `protocol.allow`, else as git has it. None where a setting has none of git's words.
+/// `protocol.allow`, else as git has it.
 ///
 /// # Errors
 ///
 /// An allocation failure alone.
-pub fn is_allowed(
+pub fn permission_of(
     alloc: Global,
     transport: &[u8],
     settings: &Settings,
     list: Option<&[u8]>,
-    is_from_user: bool,
-) -> Result<Option<bool>, AllocError>
-    ensures { IfOk result (λ allowed. allowed
-        ≡ is_allowed (option_map (λ l. l.now) list.entry) (settings_in settings.now) transport.now is_from_user) }
+    is_from_user: Option<bool>,
+) -> Result<Permission, AllocError>
+    ensures { IfOk result (λ permission. permission
+        ≡ permission_of (option_map (λ l. l.now) list.entry) (settings_in settings.now) transport.now is_from_user) }
 {
     match list {
         Some(list) => {
             let is_listed = lists(alloc, list, transport)?;
-            Ok(Some(is_listed))
+            Ok(permission_by(is_listed))
         }
-        None => match policy_in(alloc, settings, transport)? {
-            Some(policy) => Ok(Some(allows(policy, is_from_user))),
-            None => Ok(None),
-        },
+        None => {
+            let policy = policy_in(alloc, settings, transport)?;
+            Ok(permission_in(policy, is_from_user))
+        }
+    }
+}
+
+/// What becomes of a URL with a password in it (git-config, "transfer.credentialsInUrl").
+#[derive(Clone, Copy, Debug, PartialEq, Eq)]
+pub enum PasswordPolicy {
+    /// It is taken.
+    Allow,
+    /// It is taken, with a warning.
+    Warn,
+    /// It is refused, by the user's setting.
+    Die,
+    /// It is refused, since no setting takes it: git can't see the password after `gixp::`, and would show it and write it down.
+    Refuse,
+}
+
+/// What becomes of a URL with a password in it, by the setting. None where the setting has none of git's words.
+pub fn password_policy(setting: Option<&[u8]>) -> Option<PasswordPolicy>
+    ensures { result ≡ password_policy (option_map (λ s. s.now) setting.entry) }
+{
+    let Some(word) = setting else {
+        return Some(PasswordPolicy::Refuse);
+    };
+    if word == b"allow".as_slice() {
+        Some(PasswordPolicy::Allow)
+    } else if word == b"warn".as_slice() {
+        Some(PasswordPolicy::Warn)
+    } else if word == b"die".as_slice() {
+        Some(PasswordPolicy::Die)
+    } else {
+        None
     }
 }

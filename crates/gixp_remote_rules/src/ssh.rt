@@ -1,15 +1,18 @@
 //! The words that ssh is started with, by the kind of its program (git-config, "ssh.variant").
 ghost use Rattle.std.specs.Prelude.{◌≡◌, ◌∷◌, ◌++◌, [], IfOk, OnOk, map};
+ghost use Rattle.gixp_remote_rules.specs.declared.ssh.SshError.TheVariants.{Memory};
 ghost use Rattle.std.specs.Option.{option_map};
 ghost use Rattle.bstr.specs.Owned.{bstring_bytes};
 ghost use Rattle.gixp_remote_rules.specs.Ssh.{named_variant, base_of, by_program, behind_blanks, before, word_at, first_word, variant_of};
-ghost use Rattle.gixp_remote_rules.specs.Ssh.{first_words, port_option, port_words, ssh_words, server_command, server_words, probe_words};
+ghost use Rattle.gixp_remote_rules.specs.Ssh.{call_value, has_families, version_words, family_words, batch_words, port_option, port_words, call_words, family_refusal, port_refusal, refusal_of, GivesWords, ssh_words, server_command, with_command, server_words, with_question, probe_words};
 
+use crate::dialogue::Family;
 use crate::server::quoted;
 use crate::text::{is_word, place_of};
 use crate::words::{add, add_all, joined};
 use bstr::BString;
 use std::alloc::{AllocError, Global};
+use thiserror::Error;
 
 /// A kind of ssh, by the options that it takes.
 #[derive(Clone, Copy, Debug, PartialEq, Eq)]
@@ -137,28 +140,51 @@ pub fn variant_of(chosen: Option<&[u8]>, program: &[u8]) -> Variant
     }
 }
 
-// The options before a port.
-fn first_words(
-    alloc: Global,
-    variant: Variant,
-    sends_version: bool,
-) -> Result<Vec<BString>, AllocError>
-    ensures { IfOk result (λ words. map bstring_bytes words.items ≡ first_words variant sends_version) }
+/// What ssh is to reach, and how.
+#[derive(Clone, Copy)]
+pub struct SshCall<'a> {
+    /// Whether the version of the protocol is sent.
+    pub sends_version: bool,
+    /// Which addresses of the host are used.
+    pub family: Family,
+    /// The port, where the URL has one.
+    pub port: Option<&'a [u8]>,
+    /// The user and the host.
+    pub host: &'a [u8],
+}
+
+/// Why a kind of ssh isn't started.
+#[derive(Clone, Copy, Debug, PartialEq, Eq, Error)]
+pub enum SshError {
+    /// It can't be limited to IPv4 addresses.
+    #[error("ssh variant 'simple' does not support -4")]
+    Ipv4,
+    /// It can't be limited to IPv6 addresses.
+    #[error("ssh variant 'simple' does not support -6")]
+    Ipv6,
+    /// It takes no port.
+    #[error("ssh variant 'simple' does not support setting port")]
+    Port,
+    /// An allocation failed.
+    #[error("out of memory")]
+    Memory,
+}
+
+impl From<AllocError> for SshError {
+    ghost from_gives = { λ _ e. e ≡ Memory };
+
+    fn from(_e: AllocError) -> Self {
+        SshError::Memory
+    }
+}
+
+// Whether a kind of ssh can be limited to addresses of one family.
+fn has_families(variant: Variant) -> bool
+    ensures { result ≡ has_families variant }
 {
-    let mut words = Vec::new(alloc);
     match variant {
-        Variant::Ssh => {
-            if sends_version {
-                add(alloc, &mut words, b"-o")?;
-                add(alloc, &mut words, b"SendEnv=GIT_PROTOCOL")?;
-            }
-            Ok(words)
-        }
-        Variant::TortoisePlink => {
-            add(alloc, &mut words, b"-batch")?;
-            Ok(words)
-        }
-        Variant::Auto | Variant::Simple | Variant::Plink => Ok(words),
+        Variant::Simple => false,
+        Variant::Auto | Variant::Ssh | Variant::Plink | Variant::TortoisePlink => true,
     }
 }
 
@@ -173,31 +199,135 @@ fn port_option(variant: Variant) -> Option<&'static [u8]>
     }
 }
 
-/// The options after the name of ssh, and the host. None where the kind takes no port and there is one.
+// Why a kind of ssh isn't limited to addresses of one family.
+fn family_refusal(variant: Variant, family: Family) -> Option<SshError>
+    ensures { result ≡ family_refusal variant family }
+{
+    if has_families(variant) {
+        return None;
+    }
+    match family {
+        Family::All => None,
+        Family::Ipv4 => Some(SshError::Ipv4),
+        Family::Ipv6 => Some(SshError::Ipv6),
+    }
+}
+
+// Why a kind of ssh isn't given a port.
+fn port_refusal(variant: Variant, port: Option<&[u8]>) -> Option<SshError>
+    ensures { result ≡ port_refusal variant (option_map (λ p. p.now) port.entry) }
+{
+    match (port_option(variant), port) {
+        (None, Some(_)) => Some(SshError::Port),
+        _ => None,
+    }
+}
+
+// Why a kind of ssh isn't started.
+fn refusal_of(variant: Variant, family: Family, port: Option<&[u8]>) -> Option<SshError>
+    ensures { result ≡ refusal_of variant family (option_map (λ p. p.now) port.entry) }
+{
+    match family_refusal(variant, family) {
+        Some(e) => Some(e),
+        None => port_refusal(variant, port),
+    }
+}
+
+// The options that send the version, by a variable.
+fn add_version(
+    alloc: Global,
+    words: &mut Vec<BString>,
+    variant: Variant,
+    sends_version: bool,
+) -> Result<(), AllocError>
+    ensures { OnOk result (map bstring_bytes words.new.items ≡ map bstring_bytes words.old.items ++ version_words variant sends_version) }
+{
+    if sends_version && variant == Variant::Ssh {
+        add(alloc, words, b"-o")?;
+        add(alloc, words, b"SendEnv=GIT_PROTOCOL")?;
+    }
+    Ok(())
+}
+
+// The option for addresses of one family.
+fn add_family(
+    alloc: Global,
+    words: &mut Vec<BString>,
+    variant: Variant,
+    family: Family,
+) -> Result<(), AllocError>
+    ensures { OnOk result (map bstring_bytes words.new.items ≡ map bstring_bytes words.old.items ++ family_words variant family) }
+{
+    if has_families(variant) {
+        match family {
+            Family::All => {}
+            Family::Ipv4 => add(alloc, words, b"-4")?,
+            Family::Ipv6 => add(alloc, words, b"-6")?,
+        }
+    }
+    Ok(())
+}
+
+// The option by which TortoisePlink asks nothing.
+fn add_batch(alloc: Global, words: &mut Vec<BString>, variant: Variant) -> Result<(), AllocError>
+    ensures { OnOk result (map bstring_bytes words.new.items ≡ map bstring_bytes words.old.items ++ batch_words variant) }
+{
+    if variant == Variant::TortoisePlink {
+        add(alloc, words, b"-batch")?;
+    }
+    Ok(())
+}
+
+// A port after its option, where the kind has one.
+fn add_port(
+    alloc: Global,
+    words: &mut Vec<BString>,
+    variant: Variant,
+    port: Option<&[u8]>,
+) -> Result<(), AllocError>
+    ensures { OnOk result (map bstring_bytes words.new.items
+        ≡ map bstring_bytes words.old.items ++ port_words (port_option variant) (option_map (λ p. p.now) port.entry)) }
+{
+    if let (Some(option), Some(port)) = (port_option(variant), port) {
+        add(alloc, words, option)?;
+        add(alloc, words, port)?;
+    }
+    Ok(())
+}
+
+// The options, and the host.
+fn call_words(
+    alloc: Global,
+    variant: Variant,
+    call: SshCall<'_>,
+) -> Result<Vec<BString>, AllocError>
+    ensures { IfOk result (λ words. map bstring_bytes words.items ≡ call_words variant (call_value call.entry)) }
+{
+    let mut words = Vec::new(alloc);
+    add_version(alloc, &mut words, variant, call.sends_version)?;
+    add_family(alloc, &mut words, variant, call.family)?;
+    add_batch(alloc, &mut words, variant)?;
+    add_port(alloc, &mut words, variant, call.port)?;
+    add(alloc, &mut words, call.host)?;
+    Ok(words)
+}
+
+/// The options after the name of ssh, and the host.
 ///
 /// # Errors
 ///
-/// An allocation failure alone.
+/// Why the kind isn't started, in git's words, or `Memory`.
 pub fn ssh_words(
     alloc: Global,
     variant: Variant,
-    sends_version: bool,
-    port: Option<&[u8]>,
-    host: &[u8],
-) -> Result<Option<Vec<BString>>, AllocError>
-    ensures { IfOk result (λ words. option_map (λ v. map bstring_bytes v.items) words
-        ≡ ssh_words variant sends_version (option_map (λ p. p.now) port.entry) host.now) }
+    call: SshCall<'_>,
+) -> Result<Vec<BString>, SshError>
+    ensures { GivesWords (ssh_words variant (call_value call.entry)) result }
 {
-    let mut words = first_words(alloc, variant, sends_version)?;
-    if let Some(port) = port {
-        let Some(option) = port_option(variant) else {
-            return Ok(None);
-        };
-        add(alloc, &mut words, option)?;
-        add(alloc, &mut words, port)?;
+    if let Some(e) = refusal_of(variant, call.family, call.port) {
+        return Err(e);
     }
-    add(alloc, &mut words, host)?;
-    Ok(Some(words))
+    Ok(call_words(alloc, variant, call)?)
 }
 
 // The server's own command, for the shell there.
@@ -208,33 +338,57 @@ fn server_command(alloc: Global, path: &[u8]) -> Result<Vec<u8>, AllocError>
     joined(alloc, &[b"git-upload-pack ", &path])
 }
 
-/// All words that a server is started with by ssh: the user's command, the options, the host, and the server's own command. None
-/// where the kind takes no port and there is one.
+// All words that a server is started with, by those of ssh.
+fn with_command(
+    alloc: Global,
+    command: &[u8],
+    words: &[BString],
+    path: &[u8],
+) -> Result<Vec<BString>, AllocError>
+    ensures { IfOk result (λ all. map bstring_bytes all.items
+        ≡ with_command command.now path.now (map bstring_bytes words.now)) }
+{
+    let last = server_command(alloc, path)?;
+    let mut all = Vec::new(alloc);
+    add(alloc, &mut all, command)?;
+    add_all(alloc, &mut all, words)?;
+    add(alloc, &mut all, &last)?;
+    Ok(all)
+}
+
+/// All words that a server is started with by ssh: the user's command, the options, the host, and the server's own command.
 ///
 /// # Errors
 ///
-/// An allocation failure alone.
+/// Why the kind isn't started, in git's words, or `Memory`.
 pub fn server_words(
     alloc: Global,
     command: &[u8],
     variant: Variant,
-    sends_version: bool,
-    port: Option<&[u8]>,
-    host: &[u8],
+    call: SshCall<'_>,
     path: &[u8],
-) -> Result<Option<Vec<BString>>, AllocError>
-    ensures { IfOk result (λ words. option_map (λ v. map bstring_bytes v.items) words
-        ≡ server_words command.now variant sends_version (option_map (λ p. p.now) port.entry) host.now path.now) }
+) -> Result<Vec<BString>, SshError>
+    ensures { GivesWords (server_words command.now variant (call_value call.entry) path.now) result }
 {
-    let Some(more) = ssh_words(alloc, variant, sends_version, port, host)? else {
-        return Ok(None);
-    };
-    let last = server_command(alloc, path)?;
-    let mut words = Vec::new(alloc);
-    add(alloc, &mut words, command)?;
-    add_all(alloc, &mut words, &more)?;
-    add(alloc, &mut words, &last)?;
-    Ok(Some(words))
+    match ssh_words(alloc, variant, call) {
+        Ok(words) => Ok(with_command(alloc, command, &words, path)?),
+        Err(e) => Err(e),
+    }
+}
+
+// The words that ask a program for its settings, by those of ssh.
+fn with_question(
+    alloc: Global,
+    command: &[u8],
+    words: &[BString],
+) -> Result<Vec<BString>, AllocError>
+    ensures { IfOk result (λ all. map bstring_bytes all.items ≡ with_question command.now (map bstring_bytes words.now)) }
+{
+    let mut all = Vec::new(alloc);
+    add(alloc, &mut all, command)?;
+    add(alloc, &mut all, b"-G")?;
+    add_all(alloc, &mut all, words)?;
+    Ok(all)
 }
 
 /// The words by which a program is asked whether it is OpenSSH: that tells its settings then.
@@ -245,19 +399,10 @@ pub fn server_words(
 pub fn probe_words(
     alloc: Global,
     command: &[u8],
-    sends_version: bool,
-    port: Option<&[u8]>,
-    host: &[u8],
-) -> Result<Option<Vec<BString>>, AllocError>
-    ensures { IfOk result (λ words. option_map (λ v. map bstring_bytes v.items) words
-        ≡ probe_words command.now sends_version (option_map (λ p. p.now) port.entry) host.now) }
+    call: SshCall<'_>,
+) -> Result<Vec<BString>, AllocError>
+    ensures { IfOk result (λ words. map bstring_bytes words.items ≡ probe_words command.now (call_value call.entry)) }
 {
-    let Some(more) = ssh_words(alloc, Variant::Ssh, sends_version, port, host)? else {
-        return Ok(None);
-    };
-    let mut words = Vec::new(alloc);
-    add(alloc, &mut words, command)?;
-    add(alloc, &mut words, b"-G")?;
-    add_all(alloc, &mut words, &more)?;
-    Ok(Some(words))
+    let words = call_words(alloc, Variant::Ssh, call)?;
+    with_question(alloc, command, &words)
 }

@@ -149,7 +149,10 @@ fn add_flags(
 }
 
 // The words for a boundary in another file than the repository's.
-fn shallow_words(alloc: Global, shallow: Option<&[u8]>) -> Result<Vec<BString>, AllocError>
+pub(crate) fn shallow_words(
+    alloc: Global,
+    shallow: Option<&[u8]>,
+) -> Result<Vec<BString>, AllocError>
     ensures { IfOk result (λ words. map bstring_bytes words.items ≡ shallow_words (option_map (λ s. s.now) shallow.entry)) }
 {
     let mut words = Vec::new(alloc);

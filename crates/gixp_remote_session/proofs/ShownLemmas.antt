@@ -1,111 +1,62 @@
--- The objects that refs hold, from the last line on.
-use Rattle.std.proofs.Common.{◌≡◌, ℕ, Bool, false, List, [], ◌∷◌, ◌++◌, map, Option, Some, None, refl, ap, sym, ◌∙◌}
-use Rattle.std.specs.Prelude.{option_and_then}
-use Rattle.std.specs.Option.{option_to_list}
-use Rattle.std.specs.FinMap as finite
-use Rattle.std.proofs.lemmas.Grind.{flat_map-append}
-use Rattle.std.proofs.lemmas.List.{append-nil, map-append}
-use Rattle.bstr.specs.BStr.{bstr_bytes}
-use Rattle.bstr.specs.declared.bstr.BStr.{BStr}
-use Rattle.gix_protocol.specs.Object.{Objects}
-use Rattle.gixp_remote_session.specs.ShownRefs.{id_and_name, names_shown, is_led_to, begins_led_to, with_shown, objects_shown, IsUnshown}
+-- The objects of lines that are read one after another.
+use Rattle.std.proofs.Common.{◌≡◌, ℕ, List, [], ◌∷◌, ◌++◌, Option, Some, None, ap, refl, sym, ◌∙◌, append_assoc, append-nil}
+use Rattle.std.specs.Prelude.{option_map, option_and_then}
+use Rattle.std.proofs.lemmas.Option.{none-some, same_Some}
+use Rattle.gixp_remote_session.specs.ShownRefs.{shown_line, shown_lines, IsUnshown}
+use Rattle.gixp_remote_session.specs.declared.local.Shown.{Shown}
 use Rattle.gixp_remote_session.specs.declared.trouble.Trouble.{Trouble}
 use Rattle.gixp_remote_session.specs.declared.trouble.Trouble.TheVariants.{Fetch, Url, Io, Command, Other, Fatal, Told, NoRefs, Word, Memory}
 
--- whether the object before some lines is a tag, where behind them it would be or not
-abbrev pub begins_behind : List (List ℕ × List ℕ) → Bool → Bool
-begins_behind [] is_tag = is_tag
-begins_behind (shown ∷ rest) is_tag = is_led_to shown
+-- these objects in front of those to come
+abbrev pub shown_in_front : List Shown → Option (List Shown) → Option (List Shown)
+shown_in_front xs o = option_map (λ more. xs ++ more) o
 
--- the objects of some lines, before those that are known of the lines behind them
-abbrev pub read_back : List (List ℕ × List ℕ) → Objects → Bool → Option Objects
-read_back [] objects is_tag = Some objects
-read_back (shown ∷ rest) objects is_tag =
-    option_and_then (λ known. with_shown known shown (begins_behind rest is_tag)) (read_back rest objects is_tag)
+-- the objects of all lines are those so far in front of those of the lines to come
+pub record ShownSoFar (all left : List (List ℕ)) (shown : List Shown) : Type 0 where
+  pub split : shown_lines all ≡ shown_in_front shown (shown_lines left)
 
-begins_alike : (lines : List (List ℕ × List ℕ)) → begins_behind lines false ≡ begins_led_to lines
-begins_alike [] = refl
-begins_alike (shown ∷ rest) = refl
+none_in_front : (o : Option (List Shown)) → o ≡ shown_in_front [] o
+none_in_front (Some shown) = refl
+none_in_front None = refl
 
--- all lines
-pub read_all : (lines : List (List ℕ × List ℕ)) → read_back lines finite.empty false ≡ objects_shown lines
-read_all [] = refl
-read_all (shown ∷ rest) =
-    ap (λ tag. option_and_then (λ known. with_shown known shown tag) (read_back rest finite.empty false)) (begins_alike rest)
-    ∙ ap (λ objects. option_and_then (λ known. with_shown known shown (begins_led_to rest)) objects) (read_all rest)
+two_in_front : (xs ys : List Shown) (o : Option (List Shown)) → shown_in_front xs (shown_in_front ys o) ≡ shown_in_front (xs ++ ys) o
+two_in_front xs ys (Some more) = ap Some (sym (append_assoc xs ys more))
+two_in_front xs ys None = refl
 
-begins_last : (front : List (List ℕ × List ℕ)) (shown : List ℕ × List ℕ) (is_tag : Bool)
-    → begins_behind (front ++ shown ∷ []) is_tag ≡ begins_behind front (is_led_to shown)
-begins_last [] shown is_tag = refl
-begins_last (first ∷ front) shown is_tag = refl
+line_in_front : (xs more : List Shown) (first o : Option (List Shown)) → shown_in_front xs first ≡ Some more
+    → shown_in_front xs (option_and_then (λ f. shown_in_front f o) first) ≡ shown_in_front more o
+line_in_front xs more (Some f) o e = two_in_front xs f o ∙ ap (λ l. shown_in_front l o) (same_Some (xs ++ f) more e)
+line_in_front xs more None o e = absurd (none-some more e)
 
--- the last line
-read_last : (front : List (List ℕ × List ℕ)) (shown : List ℕ × List ℕ) (objects new : Objects) (is_tag : Bool)
-    → with_shown objects shown is_tag ≡ Some new → read_back (front ++ shown ∷ []) objects is_tag ≡ read_back front new (is_led_to shown)
-read_last [] shown objects new is_tag e = e
-read_last (first ∷ front) shown objects new is_tag e =
-    ap (λ tag. option_and_then (λ known. with_shown known first tag) (read_back (front ++ shown ∷ []) objects is_tag))
-    (begins_last front shown is_tag)
-    ∙ ap (λ o. option_and_then (λ known. with_shown known first (begins_behind front (is_led_to shown))) o)
-    (read_last front shown objects new is_tag e)
+pub shown-start : (all : List (List ℕ)) → ShownSoFar all all []
+shown-start all = record { split = none_in_front (shown_lines all) }
 
--- a last line whose id isn't one
-unread_last : (front : List (List ℕ × List ℕ)) (shown : List ℕ × List ℕ) (objects : Objects) (is_tag : Bool)
-    → with_shown objects shown is_tag ≡ None → read_back (front ++ shown ∷ []) objects is_tag ≡ None
-unread_last [] shown objects is_tag e = e
-unread_last (first ∷ front) shown objects is_tag e =
-    ap (λ o. option_and_then (λ known. with_shown known first (begins_behind (front ++ shown ∷ []) is_tag)) o)
-    (unread_last front shown objects is_tag e)
+pub shown-more : (all left rest : List (List ℕ)) (line : List ℕ) (shown more : List Shown) → ShownSoFar all left shown
+    → left ≡ line ∷ rest → shown_in_front shown (shown_line line) ≡ Some more → ShownSoFar all rest more
+shown-more all left rest line shown more h e f = record {
+  split = h.split ∙ ap (λ l. shown_in_front shown (shown_lines l)) e ∙ line_in_front shown more (shown_line line) (shown_lines rest) f;
+}
 
--- what the last line has, behind what those before it have
-names_last : (all front : List BStr) (line : BStr) (shown : Option (List ℕ × List ℕ)) → all ≡ front ++ line ∷ []
-    → id_and_name (bstr_bytes line) ≡ shown
-    → names_shown (map bstr_bytes all) ≡ names_shown (map bstr_bytes front) ++ option_to_list shown
-names_last all front line shown e s =
-    ap (λ ls. names_shown (map bstr_bytes ls)) e
-    ∙ ap (λ ls. names_shown ls) (map-append bstr_bytes front (line ∷ []))
-    ∙ flat_map-append (λ l. option_to_list (id_and_name l)) (map bstr_bytes front) (bstr_bytes line ∷ [])
-    ∙ ap (λ more. names_shown (map bstr_bytes front) ++ more)
-    (append-nil (option_to_list (id_and_name (bstr_bytes line))) ∙ ap (λ x. option_to_list x) s)
+pub shown-all : (all left : List (List ℕ)) (shown : List Shown) → ShownSoFar all left shown → left ≡ [] → shown_lines all ≡ Some shown
+shown-all all left shown h e = h.split ∙ ap (λ l. shown_in_front shown (shown_lines l)) e ∙ ap Some (append-nil shown)
 
--- ---- a step of the loop
-
--- a line without a blank
-pub skipped : (all front : List BStr) (line : BStr) (objects : Objects) (is_tag : Bool) → all ≡ front ++ line ∷ []
-    → id_and_name (bstr_bytes line) ≡ None
-    → read_back (names_shown (map bstr_bytes front)) objects is_tag ≡ read_back (names_shown (map bstr_bytes all)) objects is_tag
-skipped all front line objects is_tag e s =
-    ap (λ shown. read_back shown objects is_tag)
-    (sym (names_last all front line None e s ∙ append-nil (names_shown (map bstr_bytes front))))
-
--- a line with an id
-pub read_more : (all front : List BStr) (line : BStr) (shown : List ℕ × List ℕ) (objects new : Objects) (is_tag next : Bool)
-    → all ≡ front ++ line ∷ [] → id_and_name (bstr_bytes line) ≡ Some shown → with_shown objects shown is_tag ≡ Some new
-    → next ≡ is_led_to shown
-    → read_back (names_shown (map bstr_bytes front)) new next ≡ read_back (names_shown (map bstr_bytes all)) objects is_tag
-read_more all front line shown objects new is_tag next e s w n =
-    ap (λ tag. read_back (names_shown (map bstr_bytes front)) new tag) n
-    ∙ sym (ap (λ names. read_back names objects is_tag) (names_last all front line (Some shown) e s)
-    ∙ read_last (names_shown (map bstr_bytes front)) shown objects new is_tag w)
-
-unread_more : (all front : List BStr) (line : BStr) (shown : List ℕ × List ℕ) (objects : Objects) (is_tag : Bool)
-    → all ≡ front ++ line ∷ [] → id_and_name (bstr_bytes line) ≡ Some shown → with_shown objects shown is_tag ≡ None
-    → read_back (names_shown (map bstr_bytes all)) objects is_tag ≡ None
-unread_more all front line shown objects is_tag e s w =
-    ap (λ names. read_back names objects is_tag) (names_last all front line (Some shown) e s)
-    ∙ unread_last (names_shown (map bstr_bytes front)) shown objects is_tag w
+-- a line whose id isn't one
+shown-none : (all left rest : List (List ℕ)) (line : List ℕ) (shown : List Shown) → ShownSoFar all left shown → left ≡ line ∷ rest
+    → shown_line line ≡ None → shown_lines all ≡ None
+shown-none all left rest line shown h e f =
+    h.split ∙ ap (λ l. shown_in_front shown (shown_lines l)) e
+    ∙ ap (λ o. shown_in_front shown (option_and_then (λ g. shown_in_front g (shown_lines rest)) o)) f
 
 -- why a line isn't read is why none are
-pub unshown_more : (all front : List BStr) (line : BStr) (shown : List ℕ × List ℕ) (objects : Objects) (is_tag : Bool) (e : Trouble)
-    → all ≡ front ++ line ∷ [] → id_and_name (bstr_bytes line) ≡ Some shown → IsUnshown (with_shown objects shown is_tag) e
-    → IsUnshown (read_back (names_shown (map bstr_bytes all)) objects is_tag) e
-unshown_more all front line shown objects is_tag (Fetch failure) a s w = w
-unshown_more all front line shown objects is_tag (Url error) a s w = w
-unshown_more all front line shown objects is_tag (Io kind) a s w = w
-unshown_more all front line shown objects is_tag (Command text) a s w = w
-unshown_more all front line shown objects is_tag (Other why) a s w = (unread_more all front line shown objects is_tag a s w.0, w.1)
-unshown_more all front line shown objects is_tag (Fatal why) a s w = w
-unshown_more all front line shown objects is_tag Told a s w = w
-unshown_more all front line shown objects is_tag NoRefs a s w = w
-unshown_more all front line shown objects is_tag (Word why word) a s w = w
-unshown_more all front line shown objects is_tag Memory a s w = tt
+pub unshown-more : (all left rest : List (List ℕ)) (line : List ℕ) (shown : List Shown) (e : Trouble) → ShownSoFar all left shown
+    → left ≡ line ∷ rest → IsUnshown (shown_line line) e → IsUnshown (shown_lines all) e
+unshown-more all left rest line shown (Fetch failure) h a w = w
+unshown-more all left rest line shown (Url error) h a w = w
+unshown-more all left rest line shown (Io kind) h a w = w
+unshown-more all left rest line shown (Command text) h a w = w
+unshown-more all left rest line shown (Other why) h a w = (shown-none all left rest line shown h a w.0, w.1)
+unshown-more all left rest line shown (Fatal why) h a w = w
+unshown-more all left rest line shown Told h a w = w
+unshown-more all left rest line shown NoRefs h a w = w
+unshown-more all left rest line shown (Word why word) h a w = w
+unshown-more all left rest line shown Memory h a w = tt

@@ -10,10 +10,9 @@ use crate::pack::{Came, PackPlan, make_folder};
 use crate::pipes::BOUNDARY;
 use crate::shell::Shell;
 use crate::trouble::Trouble;
-use bstr::BString;
 use gix_protocol::fetch::shallow_text;
 use gix_protocol::transport::ObjectId;
-use gixp_remote_rules::{Boundary, Request, Taking, added, boundary_after, taking_of};
+use gixp_remote_rules::{Boundary, Choices, Request, Taking, added, boundary_after, taking_of};
 use std::alloc::{AllocError, Global};
 use std::collections::BTreeSet;
 use std::fs;
@@ -35,12 +34,7 @@ pub(crate) fn boundary_of(
     let mut commits = BTreeSet::new(alloc);
     if !ids.is_empty() && taking != Taking::Nothing {
         before = here(order, shell, plan, &[], &ids, false)?;
-        let variables: &[BString] = if came.kept.is_some() {
-            &plan.variables
-        } else {
-            &[]
-        };
-        commits = here(order, shell, plan, variables, &ids, true)?;
+        commits = here(order, shell, plan, came.variables(plan), &ids, true)?;
     }
     let boundary = boundary_after(alloc, taking, &known, &came.boundary, &before, &commits)?;
     Ok((boundary, !before.is_empty()))
@@ -61,31 +55,6 @@ pub(crate) fn lock_boundary(
             "Unable to create (it exists, or can't be written)",
             lock,
         ))
-    }
-}
-
-// Puts a new boundary in the place of the old one, whose lock is held. It is written into the folder of the pack.
-fn write_boundary(
-    rt: &HostRuntime,
-    shell: &mut Shell,
-    places: &Places,
-    plan: &PackPlan,
-    ids: &[ObjectId],
-) -> Result<(), Trouble> {
-    let lock = places.shallow_lock.as_bytes();
-    let text = shallow_text(rt.alloc(), ids)?;
-    if text.is_empty() {
-        let _ = fs::remove_file(rt, places.shallow.as_str());
-        shell.ask(&Request::Free(lock))?;
-        return Ok(());
-    }
-    make_folder(rt, shell, plan)?;
-    let path = format!(in rt.alloc(); "{}/{BOUNDARY}", plan.folder)?;
-    fs::write(rt, path.as_str(), text.as_slice())?;
-    if shell.ask(&Request::Replace(lock, places.shallow.as_bytes()))? == 0 {
-        Ok(())
-    } else {
-        Err(Trouble::Other("the shallow boundary can't be written"))
     }
 }
 
@@ -120,8 +89,8 @@ fn grown(
     Ok(Some(ids))
 }
 
-// The new boundary, where it isn't the old one.
-fn changed(
+/// The new boundary, where it isn't the old one.
+pub(crate) fn changed(
     alloc: Global,
     boundary: &Boundary,
     old: &[ObjectId],
@@ -135,25 +104,57 @@ fn changed(
     }
 }
 
-/// Writes the boundary, where it isn't the same. Its lock is held from the beginning on where a depth was asked for.
-pub(crate) fn change_boundary(
+/// Writes a new boundary into the folder of the pack, under the lock of the old one, which must be the same as when it was read.
+pub(crate) fn prepare_boundary(
     order: Order<'_, '_>,
     shell: &mut Shell,
     places: &Places,
     plan: &PackPlan,
     old: &[ObjectId],
-    boundary: &Boundary,
+    new: &[ObjectId],
 ) -> Result<(), Trouble> {
     let rt = order.reach.rt;
-    let has_lock = order.choices.has_depth();
-    let Some(ids) = changed(rt.alloc(), boundary, old)? else {
-        if has_lock {
-            shell.ask(&Request::Free(places.shallow_lock.as_bytes()))?;
-        }
-        return Ok(());
-    };
-    if !has_lock {
+    if !order.choices.has_depth() {
         lock_boundary(rt.alloc(), shell, places)?;
     }
-    write_boundary(rt, shell, places, plan, &ids)
+    if places.held_boundary(rt)?.as_slice() != old {
+        return Err(Trouble::Fatal("shallow file has changed since we read it"));
+    }
+    let text = shallow_text(rt.alloc(), new)?;
+    make_folder(rt, shell, plan)?;
+    let path = format!(in rt.alloc(); "{}/{BOUNDARY}", plan.folder)?;
+    fs::write(rt, path.as_str(), text.as_slice())?;
+    Ok(())
+}
+
+/// Puts a new boundary that was prepared in the place of the old one.
+pub(crate) fn replace_boundary(
+    rt: &HostRuntime,
+    shell: &mut Shell,
+    places: &Places,
+    new: &[ObjectId],
+) -> Result<(), Trouble> {
+    let lock = places.shallow_lock.as_bytes();
+    if new.is_empty() {
+        let _ = fs::remove_file(rt, places.shallow.as_str());
+        shell.ask(&Request::Free(lock))?;
+        return Ok(());
+    }
+    if shell.ask(&Request::Replace(lock, places.shallow.as_bytes()))? == 0 {
+        Ok(())
+    } else {
+        Err(Trouble::Other("the shallow boundary can't be written"))
+    }
+}
+
+/// Frees the lock of a boundary that stays, where it is held.
+pub(crate) fn leave_boundary(
+    choices: &Choices,
+    shell: &mut Shell,
+    places: &Places,
+) -> Result<(), Trouble> {
+    if choices.has_depth() {
+        shell.ask(&Request::Free(places.shallow_lock.as_bytes()))?;
+    }
+    Ok(())
 }

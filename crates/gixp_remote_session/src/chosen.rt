@@ -1,22 +1,30 @@
 //! What the user's variables and settings choose of a server.
-ghost use Rattle.std.specs.Prelude.{◌≡◌, true, Some, IfOk, IfErr, IsOk};
+ghost use Rattle.std.specs.Prelude.{◌≡◌, ◌≢◌, [], Some, IfOk, IfErr, IsOk, MatchResult, codes, unwrap_or};
 ghost use Rattle.std.specs.Option.{option_map};
 ghost use Rattle.bstr.specs.Owned.{bstring_bytes};
 ghost use Rattle.gix_protocol.specs.Service.{opening_value};
-ghost use Rattle.gixp_remote_rules.specs.Allowed.{is_allowed, is_from_user};
+ghost use Rattle.gixp_remote_rules.specs.Allowed.{permission_of, is_from_user, password_policy};
+ghost use Rattle.gixp_remote_rules.specs.declared.policy.Permission.TheVariants.{Allowed};
+ghost use Rattle.gixp_remote_rules.specs.declared.dialogue.Family.TheVariants.{All};
+ghost use Rattle.gixp_url.specs.Password.{redacted};
 ghost use Rattle.gixp_remote_rules.specs.Config.{settings_in};
 ghost use Rattle.gixp_remote_rules.specs.Proxy.{or_else};
-ghost use Rattle.gixp_remote_session.specs.Troubles.{TellsPolicy};
+ghost use Rattle.gixp_remote_session.specs.Troubles.{TellsPolicy, TreatsPassword, TellsFatal};
 ghost use Rattle.gixp_remote_session.specs.UserChoices.{ssh_by, ssh_read, program_of, variant_by, probed, opening_by};
 
 use crate::trouble::Trouble;
 use bstr::BString;
 use gix_protocol::transport::Opening;
 use gixp_remote_rules::{
-    Program, Settings, Variant, first_word, is_allowed, is_from_user, variant_of,
+    Family, PasswordPolicy, Permission, Program, Settings, Variant, first_word, is_from_user,
+    password_policy, permission_of, variant_of,
 };
-use gixp_url::{Address, Transport};
+use gixp_url::{Address, Transport, redacted};
 use std::alloc::{AllocError, Global};
+
+// Why a URL with a password is refused, where no setting says what becomes of it.
+const PASSWORD_REFUSAL: &str =
+    "the URL has a password in it, which git would show and write down: have a credential helper store it (gitcredentials(7)), or set transfer.credentialsInUrl to allow it";
 
 // What is there, or else this.
 fn or_else<'x>(found: Option<&'x [u8]>, other: Option<&'x [u8]>) -> Option<&'x [u8]>
@@ -36,20 +44,78 @@ pub(crate) fn check_allowed(
     list: Option<&[u8]>,
     from_user: Option<&[u8]>,
 ) -> Result<(), Trouble>
-    ensures allowed { IsOk result → is_allowed (option_map (λ l. l.now) list.entry) (settings_in settings.now) transport.now
-        (is_from_user (option_map (λ v. v.now) from_user.entry)) ≡ Some true }
-    ensures refused { IfErr result (TellsPolicy (is_allowed (option_map (λ l. l.now) list.entry) (settings_in settings.now) transport.now
-        (is_from_user (option_map (λ v. v.now) from_user.entry))) transport.now) }
+    ensures allowed { IsOk result → permission_of (option_map (λ l. l.now) list.entry) (settings_in settings.now) transport.now
+        (is_from_user (option_map (λ v. v.now) from_user.entry)) ≡ Allowed }
+    ensures refused { IfErr result (TellsPolicy (permission_of (option_map (λ l. l.now) list.entry) (settings_in settings.now) transport.now
+        (is_from_user (option_map (λ v. v.now) from_user.entry))) transport.now (unwrap_or (option_map (λ v. v.now) from_user.entry) [])) }
 {
-    let allowed = is_allowed(alloc, transport, settings, list, is_from_user(from_user))?;
-    match allowed {
-        Some(true) => Ok(()),
-        Some(false) => Err(Trouble::of_word(alloc, "this transport is not allowed:", transport)),
-        None => Err(Trouble::of_word(
+    let permission = permission_of(alloc, transport, settings, list, is_from_user(from_user))?;
+    match permission {
+        Permission::Allowed => Ok(()),
+        Permission::Forbidden => Err(Trouble::of_word(
+            alloc,
+            "this transport is not allowed:",
+            transport,
+        )),
+        Permission::NoPolicy => Err(Trouble::of_word(
             alloc,
             "unknown value for the policy of the protocol",
             transport,
         )),
+        Permission::NoBoolean => Err(Trouble::of_variable(
+            alloc,
+            "GIT_PROTOCOL_FROM_USER",
+            from_user.unwrap_or(b""),
+        )),
+    }
+}
+
+// What becomes of a URL with a password, which is shown as this text.
+fn treat_password(
+    alloc: Global,
+    shown: BString,
+    setting: Option<&[u8]>,
+) -> Result<Option<Trouble>, Trouble>
+    ensures { TreatsPassword (unwrap_or (option_map (λ s. s.now) setting.entry) []) (Some (bstring_bytes shown))
+        (password_policy (option_map (λ s. s.now) setting.entry)) result }
+{
+    match password_policy(setting) {
+        Some(PasswordPolicy::Allow) => Ok(None),
+        Some(PasswordPolicy::Warn) => Ok(Some(Trouble::Password(shown))),
+        Some(PasswordPolicy::Die) => Err(Trouble::Password(shown)),
+        Some(PasswordPolicy::Refuse) => Err(Trouble::Fatal(PASSWORD_REFUSAL)),
+        None => Err(Trouble::of_word(
+            alloc,
+            "unrecognized value transfer.credentialsInUrl:",
+            setting.unwrap_or(b""),
+        )),
+    }
+}
+
+/// Refuses a URL with a password in it, unless the setting takes it (git-config, "transfer.credentialsInUrl"). Returns what the user
+/// is warned of.
+pub(crate) fn check_password(
+    alloc: Global,
+    url: &[u8],
+    setting: Option<&[u8]>,
+) -> Result<Option<Trouble>, Trouble>
+    ensures { TreatsPassword (unwrap_or (option_map (λ s. s.now) setting.entry) []) (redacted url.now)
+        (password_policy (option_map (λ s. s.now) setting.entry)) result }
+{
+    match redacted(alloc, url)? {
+        Some(shown) => treat_password(alloc, shown, setting),
+        None => Ok(None),
+    }
+}
+
+/// Refuses addresses of one family: the shell's connection with a server that listens takes any.
+pub(crate) fn check_family(family: Family) -> Result<(), Trouble>
+    ensures { MatchResult result (λ _. family ≡ All) (λ e. (family ≢ All) × TellsFatal (codes "git:// can't be limited to addresses of IPv4 or IPv6 here") e) }
+{
+    if family == Family::All {
+        Ok(())
+    } else {
+        Err(Trouble::Fatal("git:// can't be limited to addresses of IPv4 or IPv6 here"))
     }
 }
 

@@ -1,12 +1,12 @@
 //! The words that reach a server, and the session with it.
-ghost use Rattle.std.specs.Prelude.{◌≡◌, ◌≢◌, ◌↔◌, IfOk, IsOk, IsSome, Ok, Some};
+ghost use Rattle.std.specs.Prelude.{◌≡◌, ◌≢◌, IfOk, Ok};
 ghost use Rattle.std.specs.Option.{option_map};
 ghost use Rattle.bstr.specs.Owned.{bstring_bytes};
 ghost use Rattle.gixp_remote_rules.specs.declared.ssh.Variant.TheVariants.{Auto};
 ghost use Rattle.gixp_remote_session.specs.UserChoices.{IsProbed};
 
 use crate::bounded::{Bounded, Bounds, forget};
-use crate::chosen::{check_allowed, opening_by, probed, ssh_by, variant_by};
+use crate::chosen::{check_allowed, check_family, opening_by, probed, ssh_by, variant_by};
 use crate::pipes::{HEARS, SAYS};
 use crate::setup::{bytes_of, variable, version_word};
 use crate::shell::{NOTHING, Shell, owned};
@@ -17,8 +17,8 @@ use bstr::BString;
 use gix_protocol::transport::{Connection, Discard, Opening, Protocol};
 use gixp_fetch_session::session::open;
 use gixp_remote_rules::{
-    Program, Request, Settings, Start, Task, Variant, here_words, probe_words, proxy_for,
-    server_variables, server_words, web_words,
+    Choices, Family, Program, Request, Settings, SshCall, Start, Task, Variant, here_words,
+    probe_words, proxy_for, server_variables, server_words, web_words,
 };
 use gixp_stateless::Answers;
 use gixp_url::{Address, Transport};
@@ -76,26 +76,28 @@ fn ssh_variant(
     shell: &mut Shell,
     command: &[u8],
     program: Program,
+    call: SshCall<'_>,
 ) -> Result<Variant, Trouble> {
     let named = variable(reach.rt, "GIT_SSH_VARIANT");
     let setting = reach.settings.value(b"ssh.variant");
     let variant = variant_by(bytes_of(&named), setting, program, command);
-    unless_auto(reach, shell, command, program, variant)
+    unless_auto(reach.rt, shell, command, program, call, variant)
 }
 
 // The kind that is known, or else what the program shows of itself.
 fn unless_auto(
-    reach: Reach<'_>,
+    rt: &HostRuntime,
     shell: &mut Shell,
     command: &[u8],
     program: Program,
+    call: SshCall<'_>,
     variant: Variant,
 ) -> Result<Variant, Trouble>
     ensures known { variant ≢ Auto → result ≡ Ok variant }
     ensures probed { variant ≡ Auto → IfOk result IsProbed }
 {
     match variant {
-        Variant::Auto => probe(reach, shell, command, program),
+        Variant::Auto => probe(rt, shell, command, program, call),
         Variant::Simple => Ok(Variant::Simple),
         Variant::Ssh => Ok(Variant::Ssh),
         Variant::Plink => Ok(Variant::Plink),
@@ -105,24 +107,16 @@ fn unless_auto(
 
 // Asks a program whether it is OpenSSH.
 fn probe(
-    reach: Reach<'_>,
+    rt: &HostRuntime,
     shell: &mut Shell,
     command: &[u8],
     program: Program,
+    call: SshCall<'_>,
 ) -> Result<Variant, Trouble>
     ensures { IfOk result IsProbed }
 {
-    let host = reach.address.host.as_bytes();
-    let sends_version = version_word(reach.version).is_some();
-    let words = probe_words(
-        reach.rt.alloc(),
-        command,
-        sends_version,
-        port_of(reach),
-        host,
-    )?;
-    let words = taken(words)?;
-    let told = shell.tell(reach.rt, Task::Probe, program, NOTHING, &[], &words)?;
+    let words = probe_words(rt.alloc(), command, call)?;
+    let told = shell.tell(rt, Task::Probe, program, NOTHING, &[], &words)?;
     Ok(probed(told.status))
 }
 
@@ -136,32 +130,28 @@ fn port_of(reach: Reach<'_>) -> Option<&[u8]>
     }
 }
 
-// The words of ssh, unless it takes no port and there is one.
-fn taken(words: Option<Vec<BString>>) -> Result<Vec<BString>, Trouble>
-    ensures taken { IfOk result (λ those. words ≡ Some those) }
-    ensures none { IsOk result ↔ IsSome words }
+// What ssh is to reach.
+fn call_of(reach: Reach<'_>, family: Family) -> SshCall<'_>
+    ensures family { result.family ≡ family }
+    ensures host { result.host.now ≡ bstring_bytes reach.entry.address.now.host }
+    ensures port { option_map (λ p. p.now) result.port ≡ option_map bstring_bytes reach.entry.address.now.port }
 {
-    match words {
-        Some(words) => Ok(words),
-        None => Err(Trouble::Other("ssh variant 'simple' does not support setting port")),
+    SshCall {
+        sends_version: version_word(reach.version).is_some(),
+        family,
+        port: port_of(reach),
+        host: reach.address.host.as_bytes(),
     }
 }
 
 // Starts a server by ssh.
-fn start_ssh(reach: Reach<'_>, shell: &mut Shell) -> Result<(), Trouble> {
-    let alloc = reach.rt.alloc();
+fn start_ssh(reach: Reach<'_>, shell: &mut Shell, family: Family) -> Result<(), Trouble> {
     let (command, program) = ssh_program(reach)?;
-    let variant = ssh_variant(reach, shell, &command, program)?;
-    let words = server_words(
-        alloc,
-        &command,
-        variant,
-        version_word(reach.version).is_some(),
-        port_of(reach),
-        reach.address.host.as_bytes(),
-        reach.address.path.as_bytes(),
-    )?;
-    start(reach, shell, program, &taken(words)?)
+    let call = call_of(reach, family);
+    let variant = ssh_variant(reach, shell, &command, program, call)?;
+    let path = reach.address.path.as_bytes();
+    let words = server_words(reach.rt.alloc(), &command, variant, call, path)?;
+    start(reach, shell, program, &words)
 }
 
 // Starts a server that this machine runs.
@@ -170,8 +160,8 @@ fn start_here(reach: Reach<'_>, shell: &mut Shell) -> Result<(), Trouble> {
     start(reach, shell, Program::Git, &words)
 }
 
-// Connects with a server that listens.
-fn start_socket(reach: Reach<'_>, shell: &mut Shell) -> Result<(), Trouble> {
+// Connects with a server that listens. The user's own program may take any address, as for git.
+fn start_socket(reach: Reach<'_>, shell: &mut Shell, family: Family) -> Result<(), Trouble> {
     let alloc = reach.rt.alloc();
     let port = port_of(reach).unwrap_or(b"9418");
     let host = reach.address.host.as_bytes();
@@ -183,6 +173,7 @@ fn start_socket(reach: Reach<'_>, shell: &mut Shell) -> Result<(), Trouble> {
             start(reach, shell, Program::Command, &words)
         }
         None => {
+            check_family(family)?;
             let words = owned(alloc, &[host, port])?;
             start(reach, shell, Program::Socket, &words)
         }
@@ -249,24 +240,24 @@ fn says_of(
     reach: Reach<'_>,
     from: File,
     to: &mut BufWriter<File>,
-    is_quiet: bool,
+    choices: &Choices,
 ) -> Result<Says, Trouble> {
     if !reach.address.transport.is_web() {
         return Ok(Says::Stream(from));
     }
     let alloc = reach.rt.alloc();
     let mut from = BufReader::new(alloc, from)?;
-    connect_stateless(alloc, &mut from, to, is_quiet)?;
+    connect_stateless(alloc, &mut from, to, choices.is_quiet, choices.family)?;
     Ok(Says::Answers(Answers::new(from)))
 }
 
 // The transport over the two pipes.
-fn open_wire<'a>(reach: Reach<'a>, is_quiet: bool) -> Result<Wire<'a>, Trouble> {
+fn open_wire<'a>(reach: Reach<'a>, choices: &Choices) -> Result<Wire<'a>, Trouble> {
     let alloc = reach.rt.alloc();
     let to = OpenOptions::new().write(true).open(reach.rt, HEARS)?;
     let from = File::open(reach.rt, SAYS)?;
     let mut to = BufWriter::new(alloc, to)?;
-    let says = says_of(reach, from, &mut to, is_quiet)?;
+    let says = says_of(reach, from, &mut to, choices)?;
     let url = reach.address.path.clone()?;
     let connection = Connection::new(
         alloc,
@@ -281,23 +272,36 @@ fn open_wire<'a>(reach: Reach<'a>, is_quiet: bool) -> Result<Wire<'a>, Trouble> 
 }
 
 /// Starts the server, where the user allows its transport. The shell ends one that was started before.
-pub(crate) fn start_server(reach: Reach<'_>, shell: &mut Shell) -> Result<(), Trouble> {
+pub(crate) fn start_server(
+    reach: Reach<'_>,
+    shell: &mut Shell,
+    family: Family,
+) -> Result<(), Trouble> {
     check_policy(reach)?;
     match reach.address.transport {
         Transport::File => start_here(reach, shell),
-        Transport::Ssh => start_ssh(reach, shell),
-        Transport::Git => start_socket(reach, shell),
+        Transport::Ssh => start_ssh(reach, shell, family),
+        Transport::Git => start_socket(reach, shell, family),
         Transport::Http | Transport::Https => start_web(reach, shell),
     }
 }
 
 /// Shakes hands with the server that was started.
-pub(crate) fn shake_hands<'a>(reach: Reach<'a>, is_quiet: bool) -> Result<Talk<'a>, Trouble> {
+pub(crate) fn shake_hands<'a>(reach: Reach<'a>, choices: &Choices) -> Result<Talk<'a>, Trouble> {
     reach.has_failed.set(false);
     forget(reach.bounds);
-    let wire = open_wire(reach, is_quiet)?;
+    let wire = open_wire(reach, choices)?;
     let shown = Shown::new(reach.rt, reach.erases, reach.has_failed)?;
     Ok(open(reach.rt.alloc(), wire, "gixp", shown, Discard)?)
+}
+
+/// Ends a session over which all went well. git's program for a web server saves cookies as it ends by itself, so it is waited for
+/// (git-config, "http.saveCookies").
+pub(crate) fn end_well(reach: Reach<'_>, shell: &mut Shell, session: Talk<'_>) {
+    leave(reach, session);
+    if reach.address.transport.is_web() {
+        let _ = shell.ask(&Request::Status(Task::Server));
+    }
 }
 
 /// Ends a session. A web server isn't told, since it would be one more request.

@@ -2,13 +2,17 @@
 ghost use Rattle.std.specs.Prelude.{◌≡◌};
 ghost use Rattle.gixp_remote_session.specs.Leaving.{was_left};
 
-use crate::boundary::{boundary_of, change_boundary, lock_boundary};
+use crate::boundary::{
+    boundary_of, changed, leave_boundary, lock_boundary, prepare_boundary, replace_boundary,
+};
 use crate::bounded::forget;
-use crate::checks::checks_of;
+use crate::checks::{checks_of, expect_whole};
 use crate::connect::{Reach, leave, shake_hands, start_server};
 use crate::history::shallow_of;
 use crate::local::Places;
-use crate::order::{Order, begin, filter_of, haves_for, known, list_commits, map_of, request_of};
+use crate::order::{
+    Order, begin, begin_borrowing, filter_of, haves_for, known, list_commits, map_of, request_of,
+};
 use crate::pack::{Came, IndexedPack, PackPlan, PackState, place};
 use crate::shell::Shell;
 use crate::trouble::Trouble;
@@ -152,8 +156,9 @@ fn fetch_once_more<'a>(
         }
         commits = list_commits(plan.order, shell, plan.haves)?;
     }
-    start_server(reach, shell)?;
-    let mut session = shake_hands(reach, plan.order.choices.is_quiet)?;
+    let choices = plan.order.choices;
+    start_server(reach, shell, choices.family)?;
+    let mut session = shake_hands(reach, choices)?;
     let came = fetch_by(plan, shell, &mut session, repository, commits);
     settle(reach, session, open, came.is_ok());
     came
@@ -185,7 +190,7 @@ pub(crate) struct Fetched {
     pub(crate) pack: PackPlan,
 }
 
-// Puts the pack and the boundary where git finds them.
+// Puts the pack and the boundary where git finds them. Whatever else may fail is done before.
 fn finish(
     plan: Plan<'_, '_, '_>,
     shell: &mut Shell,
@@ -204,11 +209,19 @@ fn finish(
             &digits,
         ));
     }
+    let new = changed(rt.alloc(), &boundary, old)?;
+    if let Some(new) = &new {
+        prepare_boundary(order, shell, places, plan.pack, old, new)?;
+    }
+    expect_whole(order, shell, plan.pack, came, old, new.as_deref())?;
     let lock = match &came.kept {
         Some(kept) => place(rt, shell, places, plan.pack, &kept.hash)?,
         None => None,
     };
-    change_boundary(order, shell, places, plan.pack, old, &boundary)?;
+    match &new {
+        Some(new) => replace_boundary(rt, shell, places, new)?,
+        None => leave_boundary(order.choices, shell, places)?,
+    }
     let is_closed = match &came.kept {
         Some(kept) => tells_closed(order.choices, kept.is_bounded, was_here, kept.status),
         None => false,
@@ -228,16 +241,17 @@ pub(crate) fn fetch<'a>(
     let mut commits = begin(order, shell)?;
     let places = Places::read(rt, shell)?;
     places.expect_format(alloc, order.choices.is_cloning)?;
-    let old = places.boundary(rt)?;
     if order.choices.has_depth() {
         lock_boundary(alloc, shell, &places)?;
     }
+    let old = places.boundary(rt)?;
     let shallow = shallow_of(rt, shell, order.choices)?;
-    let haves = haves_for(order, places.has_alternates(rt));
+    let has_alternates = places.has_alternates(rt);
+    let haves = haves_for(order, has_alternates);
     if commits.is_none() {
-        commits = list_commits(order, shell, haves)?;
+        commits = begin_borrowing(order, shell, has_alternates, haves)?;
     }
-    let mut repository = known(order, shell, &old, haves)?;
+    let mut repository = known(order, shell, &old, has_alternates, haves)?;
     let checks = checks_of(order, shell)?;
     let pack = PackPlan::new(rt, &places, folder, order.choices, &checks, &old)?;
     let filter = filter_of(alloc, order.choices)?;

@@ -1,9 +1,9 @@
 //! How much of the history is wanted.
-ghost use Rattle.std.specs.Prelude.{◌≡◌, ◌∷◌, [], ◌++◌, map, is_some, IfOk, OnOk};
+ghost use Rattle.std.specs.Prelude.{◌≡◌, ◌∷◌, [], ◌++◌, false, map, is_some, IfOk, IsOk, OnOk};
 ghost use Rattle.bstr.specs.Owned.{bstring_bytes};
 ghost use Rattle.gix_protocol.specs.PartialName.{name_bytes};
 ghost use Rattle.gix_protocol.specs.Shallow.{shallow_value};
-ghost use Rattle.gixp_remote_session.specs.History.{IsPart, IsWished};
+ghost use Rattle.gixp_remote_session.specs.History.{is_twofold, IsPart, IsWished};
 
 use crate::shell::Shell;
 use crate::trouble::Trouble;
@@ -75,15 +75,31 @@ fn cut(rt: &HostRuntime, shell: &mut Shell, choices: &Choices) -> Result<Shallow
     }
 }
 
+// Whether a depth is wanted and a time or names too, which no server takes.
+fn is_twofold(choices: &Choices) -> bool
+    ensures { result ≡ is_twofold choices.now.depth choices.now.excluded.items (is_some choices.now.since) }
+{
+    match choices.depth {
+        Depth::Any => false,
+        Depth::Commits(_) | Depth::All => choices.since.is_some() || !choices.excluded.is_empty(),
+    }
+}
+
 /// What git's options ask for.
 pub(crate) fn shallow_of(
     rt: &HostRuntime,
     shell: &mut Shell,
     choices: &Choices,
 ) -> Result<Shallow, Trouble>
-    ensures { IfOk result (λ s. IsWished choices.now.depth choices.now.is_relative choices.now.excluded.items
+    ensures wished { IfOk result (λ s. IsWished choices.now.depth choices.now.is_relative choices.now.excluded.items
         (is_some choices.now.since) (shallow_value s)) }
+    ensures single { IsOk result → is_twofold choices.now.depth choices.now.excluded.items (is_some choices.now.since) ≡ false }
 {
+    if is_twofold(choices) {
+        return Err(Trouble::Fatal(
+            "deepen and deepen-since (or deepen-not) cannot be used together",
+        ));
+    }
     match choices.depth {
         Depth::All => Ok(Shallow::undo()),
         Depth::Commits(count) => match NonZeroU32::new(count) {

@@ -21,7 +21,7 @@ mod web;
 mod wire;
 
 use crate::remote::converse;
-use crate::trouble::Trouble;
+use crate::trouble::{Trouble, show};
 use std::process::ExitCode;
 
 /// Speaks with git on standard input and output, in the folder of the shell's open files, of which one has the name that git has for
@@ -32,7 +32,7 @@ pub fn run(rt: &HostRuntime) -> ExitCode {
         Ok(()) => ExitCode::SUCCESS,
         Err(Trouble::Told) => ExitCode::from(128),
         Err(e) => {
-            let _ = eprintln!(rt; "{}: {e}", e.speaker());
+            show(rt, e.speaker(), &e);
             ExitCode::from(128)
         }
     }

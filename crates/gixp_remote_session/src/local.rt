@@ -1,22 +1,25 @@
 //! The repository that fetches, as git shows it.
-ghost use Rattle.std.specs.Prelude.{◌≡◌, ◌<◌, ◌==◌, ℕ, List, [], length, map, true, false, codes, is_some, option_map, Some, None, IfOk, IfErr, IfSome, MatchResult, string_bytes};
+ghost use Rattle.std.specs.Prelude.{◌≡◌, ◌<◌, ◌==◌, ◌++◌, ℕ, List, [], length, map, true, false, codes, is_some, option_map, Some, None, IfOk, IfErr, IfSome, OnOk, MatchResult, string_bytes};
 ghost use Rattle.std.specs.FinMap as finite;
 ghost use Rattle.std.specs.List.{slice_split, position};
 ghost use Rattle.bstr.specs.BStr.{bstr_bytes};
 ghost use Rattle.bstr.specs.Owned.{bstring_bytes};
-ghost use Rattle.gixp_remote_session.specs.ShownRefs.{id_and_name, shown_in, objects_shown, IsUnshown, with_shown, kind_shown};
-ghost use Rattle.gixp_remote_session.specs.ShownPlaces.{AreShownPlaces, fits_format};
-ghost use Rattle.gixp_remote_session.specs.Troubles.{TellsOther, TellsWord};
+ghost use Rattle.gixp_remote_session.specs.ShownRefs.{id_text, shown_by, shown_line, shown_in, IsUnshown, kind_shown, with_commit, objects_shown, refs_shown};
+ghost use Rattle.gixp_remote_session.specs.ShownPlaces.{AreShownPlaces, boundary_file, fits_format};
+ghost use Rattle.gixp_remote_session.specs.Troubles.{TellsWord};
 
 use crate::pipes::REFS;
+use crate::setup::variable;
 use crate::shell::{NOTHING, Shell};
 use crate::trouble::Trouble;
 use bstr::{BStr, BString, ByteSlice};
-use gix_protocol::fetch::negotiate::{ObjectKind, StoredObjects, StoredRefs, TextError};
+use gix_protocol::fetch::negotiate::{ObjectKind, StoredObjects, StoredRefs};
 use gix_protocol::fetch::shallow_ids;
 use gix_protocol::transport::ObjectId;
 use gixp_fetch_session::repository::{Repository, tips_of};
-use gixp_remote_rules::{Program, Question, Request, Start, Task, question_words};
+use gixp_remote_rules::{
+    Program, Question, Request, Start, Task, question_variables, question_words,
+};
 use std::alloc::{AllocError, Global};
 use std::fs;
 use std::io::ErrorKind;
@@ -97,36 +100,68 @@ impl Places {
         Err(Trouble::of_word(alloc, "mismatched algorithms: server sha1; client", format))
     }
 
-    /// The boundary that is there.
+    /// The boundary: in the file that `GIT_SHALLOW_FILE` names, where it is set.
     pub(crate) fn boundary(&self, rt: &HostRuntime) -> Result<Vec<ObjectId>, Trouble> {
         let alloc = rt.alloc();
-        let text = match fs::read(rt, self.shallow.as_str()) {
-            Ok(text) => text,
-            Err(e) => match e.kind() {
-                ErrorKind::NotFound => Vec::new(alloc),
-                kind => return Err(Trouble::Io(kind)),
-            },
-        };
-        match shallow_ids(alloc, &text) {
-            Ok(ids) => Ok(ids),
-            Err(_) => Err(Trouble::Other("the shallow boundary can't be read")),
+        let named = variable(rt, "GIT_SHALLOW_FILE");
+        match boundary_file(alloc, self.shallow.as_str(), named.as_deref())? {
+            Some(path) => boundary_in(rt, path.as_str()),
+            None => Ok(Vec::new(alloc)),
         }
     }
 
-    /// Whether there is a file of alternates.
+    /// The boundary in the repository's own file.
+    pub(crate) fn held_boundary(&self, rt: &HostRuntime) -> Result<Vec<ObjectId>, Trouble> {
+        boundary_in(rt, self.shallow.as_str())
+    }
+
+    /// Whether objects are borrowed.
     pub(crate) fn has_alternates(&self, rt: &HostRuntime) -> bool {
         match format!(in rt.alloc(); "{}/info/alternates", self.objects) {
-            Ok(path) => fs::metadata(rt, path.as_str()).is_ok(),
+            Ok(path) => {
+                fs::metadata(rt, path.as_str()).is_ok()
+                    || variable(rt, "GIT_ALTERNATE_OBJECT_DIRECTORIES").is_some()
+            }
             Err(_) => false,
         }
     }
 }
 
-// What can't be read in a text of git's.
-fn unread(_e: TextError) -> Trouble
-    ensures { TellsOther (codes "the repository can't be read") result }
+// The file of the boundary, by the variable: none where that is empty. This program stands in the folder of the shell's open files,
+// from which a path that isn't absolute leads to the shell's own folder first.
+fn boundary_file(
+    alloc: Global,
+    own: &str,
+    named: Option<&str>,
+) -> Result<Option<String>, AllocError>
+    ensures { IfOk result (λ path. option_map string_bytes path ≡ boundary_file own.now (option_map (λ n. n.now) named.entry)) }
 {
-    Trouble::Other("the repository can't be read")
+    let Some(path) = named else {
+        return Ok(Some(String::from_str(alloc, own)?));
+    };
+    if path.is_empty() {
+        Ok(None)
+    } else if path.as_bytes().starts_with(b"/") {
+        Ok(Some(String::from_str(alloc, path)?))
+    } else {
+        Ok(Some(format!(in alloc; "../cwd/{path}")?))
+    }
+}
+
+// The boundary in a file: none where there is no such file, or it is a folder.
+fn boundary_in(rt: &HostRuntime, path: &str) -> Result<Vec<ObjectId>, Trouble> {
+    let alloc = rt.alloc();
+    let text = match fs::read(rt, path) {
+        Ok(text) => text,
+        Err(e) => match e.kind() {
+            ErrorKind::NotFound | ErrorKind::IsADirectory => Vec::new(alloc),
+            kind => return Err(Trouble::Io(kind)),
+        },
+    };
+    match shallow_ids(alloc, &text) {
+        Ok(ids) => Ok(ids),
+        Err(_) => Err(Trouble::Other("the shallow boundary can't be read")),
+    }
 }
 
 // The lines of a text, without their ends.
@@ -144,63 +179,100 @@ fn blank_in(line: &[u8]) -> Option<usize>
     line.iter().position(|b| *b == b' ')
 }
 
-// What stands before the first blank of a line, and the name behind it.
-fn id_and_name(line: &[u8]) -> Option<(&[u8], &[u8])>
-    ensures { option_map (λ shown. (shown.0.now, shown.1.now)) result ≡ id_and_name line.now }
+/// An object that git lists.
+#[derive(Clone, Copy)]
+pub(crate) struct Shown {
+    pub(crate) id: ObjectId,
+    pub(crate) is_commit: bool,
+}
+
+// The text of the id in a line, and whether it is a commit's: after the id of another object come a blank and its name.
+fn id_text(line: &[u8]) -> (&[u8], bool)
+    ensures { (result.0.now, result.1) ≡ id_text line.now }
 {
     match blank_in(line) {
-        Some(at) => Some((&line[..at], &line[at + 1..])),
-        None => None,
+        Some(at) => (&line[..at], false),
+        None => (line, true),
     }
 }
 
-// The kind of an object, by whether it is a tag.
-fn kind_of(is_tag: bool) -> ObjectKind
-    ensures { result ≡ kind_shown is_tag }
+// The object of a line that isn't empty.
+fn shown_by(line: &[u8]) -> Result<Shown, Trouble>
+    ensures { MatchResult result (λ s. shown_by (id_text line.now) ≡ Some s) (IsUnshown (shown_by (id_text line.now))) }
 {
-    if is_tag {
-        ObjectKind::Tag
-    } else {
-        ObjectKind::Commit
-    }
-}
-
-// Adds the object of a line, by whether it is a tag.
-fn add_shown(
-    objects: &mut StoredObjects,
-    shown: (&[u8], &[u8]),
-    is_tag: bool,
-) -> Result<(), Trouble>
-    ensures { MatchResult result (λ _. with_shown objects.old (shown.entry.0.now, shown.entry.1.now) is_tag ≡ Some objects.new)
-        (IsUnshown (with_shown objects.old (shown.entry.0.now, shown.entry.1.now) is_tag)) }
-{
-    match ObjectId::from_hex(shown.0) {
-        Ok(id) => {
-            objects.add(id, kind_of(is_tag))?;
-            Ok(())
-        }
+    let (text, is_commit) = id_text(line);
+    match ObjectId::from_hex(text) {
+        Ok(id) => Ok(Shown { id, is_commit }),
         Err(_) => Err(Trouble::Other("the repository can't be read")),
     }
 }
 
-// The objects that refs hold, by the lines of `git show-ref -d`: after a tag comes the object that it leads to.
-fn objects_of(alloc: Global, text: &[u8]) -> Result<StoredObjects, Trouble>
-    ensures shown { IfOk result (λ objects. objects_shown (shown_in text.now) ≡ Some objects) }
-    ensures unshown { IfErr result (IsUnshown (objects_shown (shown_in text.now))) }
+// Adds the object of a line, unless it is empty.
+fn add_shown(shown: &mut Vec<Shown>, line: &[u8]) -> Result<(), Trouble>
+    ensures added { OnOk result (option_map (λ first. shown.old.items ++ first) (shown_line line.now) ≡ Some shown.new.items) }
+    ensures unshown { IfErr result (IsUnshown (shown_line line.now)) }
 {
-    let mut lines = lines_of(alloc, text)?;
+    if !line.is_empty() {
+        shown.push(shown_by(line)?)?;
+    }
+    Ok(())
+}
+
+/// The objects that git lists, a line for each.
+pub(crate) fn shown_in(alloc: Global, text: &[u8]) -> Result<Vec<Shown>, Trouble>
+    ensures shown { IfOk result (λ shown. shown_in text.now ≡ Some shown.items) }
+    ensures unshown { IfErr result (IsUnshown (shown_in text.now)) }
+{
+    let mut shown = Vec::new(alloc);
+    let lines = lines_of(alloc, text)?;
+    'lines: for line in &lines {
+        add_shown(&mut shown, line.as_bytes())?;
+    }
+    Ok(shown)
+}
+
+// The kind of an object that is listed: all that are no commits count as tags.
+fn kind_of(is_commit: bool) -> ObjectKind
+    ensures { result ≡ kind_shown is_commit }
+{
+    if is_commit {
+        ObjectKind::Commit
+    } else {
+        ObjectKind::Tag
+    }
+}
+
+// The objects that are listed.
+fn objects_of(alloc: Global, shown: &[Shown]) -> Result<StoredObjects, AllocError>
+    ensures { IfOk result (λ objects. objects ≡ objects_shown shown.now) }
+{
     let mut objects = StoredObjects::new(alloc);
-    let mut is_tag = false;
-    'lines: while let Some(line) = lines.pop() {
-        let Some(shown) = id_and_name(line.as_bytes()) else {
-            continue;
-        };
-        match add_shown(&mut objects, shown, is_tag) {
-            Ok(()) => is_tag = shown.1.ends_with(b"^{}"),
-            Err(e) => return Err(e),
-        }
+    'shown: for one in shown {
+        objects.add(one.id, kind_of(one.is_commit))?;
     }
     Ok(objects)
+}
+
+// Adds a commit that refs lead to, under a name of its own.
+fn add_ref(alloc: Global, refs: &mut StoredRefs, one: &Shown) -> Result<(), AllocError>
+    ensures { OnOk result (refs.new ≡ with_commit refs.old one.now) }
+{
+    if one.is_commit {
+        let name = Vec::from_slice(alloc, &one.id.to_hex())?;
+        refs.add(name, one.id, one.id)?;
+    }
+    Ok(())
+}
+
+// Refs that lead to the commits that are listed: their names don't count.
+fn refs_of(alloc: Global, shown: &[Shown]) -> Result<StoredRefs, AllocError>
+    ensures { IfOk result (λ refs. refs ≡ refs_shown shown.now) }
+{
+    let mut refs = StoredRefs::new(alloc);
+    'shown: for one in shown {
+        add_ref(alloc, &mut refs, one)?;
+    }
+    Ok(refs)
 }
 
 /// A repository that nothing is known of.
@@ -221,12 +293,13 @@ pub(crate) fn new_repository(alloc: Global, boundary: Vec<ObjectId>) -> Reposito
 /// Has git tell what the refs hold and lead to, over a pipe of its own, so that nothing waits for it meanwhile.
 pub(crate) fn ask_refs(alloc: Global, shell: &mut Shell) -> Result<(), Trouble> {
     let words = question_words(alloc, Question::Refs)?;
+    let variables = question_variables(alloc, &[])?;
     shell.send(&Request::Start(Start {
         task: Task::Refs,
         program: Program::Git,
         input: NOTHING,
         output: REFS,
-        variables: &[],
+        variables: &variables,
         words: &words,
     }))
 }
@@ -242,12 +315,12 @@ pub(crate) fn repository(
 {
     let alloc = rt.alloc();
     let text = fs::read(rt, REFS)?;
-    if shell.ask(&Request::Status(Task::Refs))? > 1 {
+    if shell.ask(&Request::Status(Task::Refs))? != 0 {
         return Err(Trouble::Other("the repository can't be read"));
     }
-    let mut refs = StoredRefs::new(alloc);
-    refs.read_refs(alloc, &text).map_err(unread)?;
-    let objects = objects_of(alloc, &text)?;
+    let shown = shown_in(alloc, &text)?;
+    let objects = objects_of(alloc, &shown)?;
+    let mut refs = refs_of(alloc, &shown)?;
     let tips = Some(tips_of(alloc, &mut refs, &objects)?);
     Ok(Repository {
         objects,

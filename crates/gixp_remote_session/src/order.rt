@@ -22,7 +22,9 @@ use gix_protocol::fetch::{RefMap, Shallow, Tags};
 use gix_protocol::transport::{Kind, ObjectId};
 use gixp_fetch_local::Haves;
 use gixp_fetch_session::repository::Repository;
-use gixp_remote_rules::{Choices, Program, Question, Request, Start, Task, listing_words};
+use gixp_remote_rules::{
+    Choices, Program, Question, Request, Start, Task, listing_words, question_variables,
+};
 use std::alloc::{AllocError, Global};
 use std::fs::File;
 
@@ -108,12 +110,13 @@ fn start_listing(order: Order<'_, '_>, shell: &mut Shell) -> Result<(), Trouble>
     let alloc = order.reach.rt.alloc();
     let most = variable(order.reach.rt, "GIXP_COMMITS");
     let words = listing_words(alloc, bytes_of(&most))?;
+    let variables = question_variables(alloc, &[])?;
     shell.ask(&Request::Start(Start {
         task: Task::Listing,
         program: Program::Git,
         input: NOTHING,
         output: COMMITS,
-        variables: &[],
+        variables: &variables,
         words: &words,
     }))?;
     Ok(())
@@ -151,22 +154,28 @@ pub(crate) fn list_commits(
     Ok(Some(File::open(order.reach.rt, COMMITS)?))
 }
 
-// Whether nothing of the repository is known, or counts.
-fn is_new(choices: &Choices) -> bool
-    ensures { result ≡ (choices.now.is_cloning || choices.now.is_refetch) }
-{
-    choices.is_cloning || choices.is_refetch
-}
-
 /// Has git begin with all that it is asked for, each beside the others: the places of the repository, its refs, and the list of the
 /// commits, as far as it is known that they are offered.
 pub(crate) fn begin(order: Order<'_, '_>, shell: &mut Shell) -> Result<Option<File>, Trouble> {
     shell.watch()?;
     shell.ask_places()?;
-    if !is_new(order.choices) {
+    if offers_commits(order.choices, false) {
         ask_refs(order.reach.rt.alloc(), shell)?;
     }
     list_commits(order, shell, haves_for(order, false))
+}
+
+/// Has git begin with the refs and the commits too, where they count since objects are borrowed.
+pub(crate) fn begin_borrowing(
+    order: Order<'_, '_>,
+    shell: &mut Shell,
+    has_alternates: bool,
+    haves: Haves,
+) -> Result<Option<File>, Trouble> {
+    if offers_commits(order.choices, has_alternates) && !offers_commits(order.choices, false) {
+        ask_refs(order.reach.rt.alloc(), shell)?;
+    }
+    list_commits(order, shell, haves)
 }
 
 /// What is known of the repository that fetches: what its refs hold, and its commits where a negotiator chooses among them.
@@ -174,11 +183,12 @@ pub(crate) fn known(
     order: Order<'_, '_>,
     shell: &mut Shell,
     boundary: &[ObjectId],
+    has_alternates: bool,
     haves: Haves,
 ) -> Result<Repository, Trouble> {
     let alloc = order.reach.rt.alloc();
     let boundary = Vec::from_slice(alloc, boundary)?;
-    if is_new(order.choices) {
+    if !offers_commits(order.choices, has_alternates) {
         return Ok(new_repository(alloc, boundary));
     }
     let mut found = repository(order.reach.rt, shell, boundary)?;

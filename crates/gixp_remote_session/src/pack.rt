@@ -1,5 +1,5 @@
 //! Where the pack goes: git indexes it in a folder for objects of its own, and it is put beside the others once it is wanted.
-ghost use Rattle.std.specs.Prelude.{◌≡◌, ⊤, ◌∷◌, [], ◌++◌, true, false, map, codes, None, IfOk, IfSome, OnOk, string_bytes};
+ghost use Rattle.std.specs.Prelude.{◌≡◌, ⊤, ◌∷◌, [], ◌++◌, true, false, map, codes, None, is_some, IfOk, IfSome, OnOk, string_bytes};
 ghost use Rattle.bstr.specs.Owned.{bstring_bytes};
 ghost use Rattle.gixp_remote_rules.specs.Choosing.{chosen};
 ghost use Rattle.gixp_remote_rules.specs.Indexed.{pack_file};
@@ -9,7 +9,7 @@ ghost use Rattle.gixp_remote_session.specs.Troubles.{kind_of};
 use crate::bounded::Bounds;
 use crate::local::Places;
 use crate::pipes::{BOUNDARY, IDS, KEPT, PACK};
-use crate::setup::variable;
+use crate::setup::{variable, within};
 use crate::shell::Shell;
 use crate::trouble::Trouble;
 use bstr::{BString, ByteSlice};
@@ -18,6 +18,7 @@ use gix_protocol::transport::ObjectId;
 use gixp_fetch_local::PackPlace;
 use gixp_remote_rules::{
     Choices, Program, Request, Start, Task, index_words, kept_pack, object_variables, pack_file,
+    pack_variables,
 };
 use std::alloc::Global;
 use std::cell::RefCell;
@@ -235,6 +236,19 @@ pub(crate) struct Came {
     pub(crate) boundary: Vec<ObjectId>,
 }
 
+impl Came {
+    /// The variables by which git sees what came, if anything did.
+    pub(crate) fn variables<'x>(&self, plan: &'x PackPlan) -> &'x [BString]
+        ensures came { is_some self.now.kept ≡ true → result.now ≡ plan.now.variables.items }
+        ensures none { is_some self.now.kept ≡ false → result.now ≡ [] }
+    {
+        match self.kept {
+            Some(_) => &plan.variables,
+            None => &[],
+        }
+    }
+}
+
 // The kind of a trouble, for a call that reports kinds alone.
 fn kind_of(e: &Trouble) -> ErrorKind
     ensures { result ≡ kind_of e.now }
@@ -315,7 +329,8 @@ impl<'a> IndexedPack<'a> {
         make_folder(&self.rt, self.shell, &self.plan)?;
         self.is_bounded = self.write_boundary()?;
         let words = words_by(&self.plan.words, &self.plan.bounded_words, self.is_bounded);
-        start_git(self.shell, &self.plan.variables, words)?;
+        let variables = pack_variables(self.rt.alloc(), within(&self.rt), &self.plan.variables)?;
+        start_git(self.shell, &variables, words)?;
         // what is offered is offered: the list takes its time to end, and nothing waits for that now
         self.shell.end(Task::Listing)?;
         let writer = OpenOptions::new().write(true).open(&self.rt, PACK)?;
@@ -424,6 +439,8 @@ pub(crate) fn place(
     if fs::metadata(rt, path_of(&index)?).is_ok() {
         return Ok(None);
     }
+    // a folder for objects may have none for packs, as git's own for what a hook looks at
+    fs::create_dir_all(rt, format!(in alloc; "{}/pack", places.objects)?.as_str())?;
     let lock = pack_file(alloc, to, hash, b".keep")?;
     let status = shell.ask(&Request::Hold(&lock))?;
     // a pack whose missing objects are promised is none before it says so

@@ -1,16 +1,17 @@
 //! The conversation with git.
 use crate::bounded::Bounds;
-use crate::connect::{Reach, leave, shake_hands, start_server};
+use crate::chosen::check_password;
+use crate::connect::{Reach, end_well, leave, shake_hands, start_server};
 use crate::fetching::{Open, fetch};
 use crate::listing::{RefsTold, refs_told};
 use crate::order::Order;
 use crate::pack::clear_folder;
-use crate::setup::{Given, read_given, read_settings, variable, version_of};
+use crate::setup::{Given, read_given, read_settings, variable, version_of, within};
 use crate::shell::Shell;
-use crate::trouble::Trouble;
+use crate::trouble::{Trouble, show};
 use bstr::{BString, ByteSlice};
 use gixp_fetch_session::session::refs;
-use gixp_remote_rules::{Conversation, Settings, Step, batch_told};
+use gixp_remote_rules::{Conversation, Settings, Step, Within, batch_told};
 use gixp_url::Address;
 use std::cell::{Cell, RefCell};
 use std::io;
@@ -66,7 +67,7 @@ impl Helper<'_> {
     // with a hash function of the user's gets the server's as soon as the refs are listed, and is asked after that.
     fn begin_server(&mut self) -> Result<(), Trouble> {
         self.shell.watch()?;
-        start_server(self.reach, &mut self.shell)?;
+        start_server(self.reach, &mut self.shell, self.talk.choices.family)?;
         let rt = self.reach.rt;
         if variable(rt, "GIT_DIR").is_some() && variable(rt, "GIT_DEFAULT_HASH").is_none() {
             self.shell.ask_places()?;
@@ -80,7 +81,7 @@ impl Helper<'_> {
         let alloc = self.reach.rt.alloc();
         let tells_format = self.talk.choices.tells_format;
         self.begin_server()?;
-        match shake_hands(self.reach, self.talk.choices.is_quiet) {
+        match shake_hands(self.reach, &self.talk.choices) {
             Ok(mut session) => {
                 let told = refs_told(alloc, refs(alloc, &mut session)?, tells_format)?;
                 self.open = Some(session);
@@ -152,9 +153,13 @@ impl Helper<'_> {
     }
 
     // Ends the session.
-    fn close(&mut self) {
+    fn close(&mut self, is_well: bool) {
         if let Some(session) = self.open.take() {
-            leave(self.reach, session);
+            if is_well {
+                end_well(self.reach, &mut self.shell, session);
+            } else {
+                leave(self.reach, session);
+            }
         }
     }
 }
@@ -199,13 +204,19 @@ fn serve<R: BufRead>(
         mark: Vec::from_slice(alloc, begun.given.mark.as_bytes())?,
     };
     let done = helper.obey_all(first, lines);
-    helper.close();
+    helper.close(done.is_ok());
     done
 }
 
-/// Speaks with git until it has nothing more to ask. The settings are waited for once a server is needed.
+/// Speaks with git until it has nothing more to ask. The settings are waited for once a server is needed. Where git needs an object
+/// to answer another helper, nothing is fetched: that helper would ask again.
 pub(crate) fn converse(rt: &HostRuntime) -> Result<(), Trouble> {
     let alloc = rt.alloc();
+    if within(rt) == Within::Question {
+        return Err(Trouble::Other(
+            "nothing is fetched while a question of another helper is answered",
+        ));
+    }
     let mut given = read_given(rt)?;
     let mut shell = Shell::open(rt, given.requests.as_str(), given.answers.as_str())?;
     let address = Address::read(alloc, &given.url)?;
@@ -216,6 +227,10 @@ pub(crate) fn converse(rt: &HostRuntime) -> Result<(), Trouble> {
         return Ok(());
     }
     let settings = read_settings(alloc, &mut given, &mut shell)?;
+    let setting = settings.value(b"transfer.credentialsinurl");
+    if let Some(warning) = check_password(alloc, &given.url, setting)? {
+        show(rt, "warning", &warning);
+    }
     let begun = Begun {
         rt: rt.clone()?,
         given,

@@ -11,7 +11,7 @@ use crate::trouble::Trouble;
 use gix_protocol::fetch::negotiate::Algorithm;
 use gix_protocol::transport::Protocol;
 use gixp_fetch_local::Haves;
-use gixp_remote_rules::{Request, Settings, Task};
+use gixp_remote_rules::{Request, Settings, Task, Within, within_of};
 use std::alloc::Global;
 use std::env;
 use std::fs::File;
@@ -33,6 +33,11 @@ pub(crate) fn bytes_of(value: &Option<String>) -> Option<&[u8]>
         Some(value) => Some(value.as_bytes()),
         None => None,
     }
+}
+
+/// What another helper waits for that had git start this one.
+pub(crate) fn within(rt: &HostRuntime) -> Within {
+    within_of(bytes_of(&variable(rt, "GIXP_WITHIN")))
 }
 
 /// What the shell says before anything is asked: the words that git started it with, and this program's.

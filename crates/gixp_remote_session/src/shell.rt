@@ -7,7 +7,7 @@ use crate::pipes::{TOLD, WATCHER};
 use crate::trouble::Trouble;
 use bstr::BString;
 use gixp_remote_rules::{
-    Program, Question, Request, Start, Task, question_words, read_answer, send,
+    Program, Question, Request, Start, Task, question_variables, question_words, read_answer, send,
 };
 use std::alloc::Global;
 use std::fs;
@@ -120,12 +120,13 @@ impl Shell {
     // Has git begin to tell something, without waiting until it does.
     fn begin_git(&mut self, question: Question<'_>) -> Result<(), Trouble> {
         let words = question_words(self.alloc, question)?;
+        let variables = question_variables(self.alloc, &[])?;
         self.send(&Request::Start(Start {
             task: Task::Question,
             program: Program::Git,
             input: NOTHING,
             output: TOLD,
-            variables: &[],
+            variables: &variables,
             words: &words,
         }))
     }

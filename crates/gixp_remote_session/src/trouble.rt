@@ -1,12 +1,13 @@
 //! Why the helper ends, and the sentence that says so.
 ghost use Rattle.std.specs.Prelude.{◌≡◌};
 ghost use Rattle.std.specs.IoError.{error_kind};
-ghost use Rattle.gixp_remote_session.specs.Troubles.{TellsWord, speaker_of, is_hang_up};
+ghost use Rattle.gixp_remote_session.specs.Troubles.{TellsWord, TellsVariable, speaker_of, is_hang_up};
 ghost use Rattle.gixp_remote_session.specs.declared.trouble.Trouble.TheVariants as trouble;
 
 use crate::web::NO_VERSION_2;
-use bstr::BString;
+use bstr::{BStr, BString};
 use gixp_fetch_session::failure::Failure;
+use gixp_remote_rules::{SshError, plain_text};
 use gixp_url::UrlError;
 use std::alloc::{AllocError, AllocFailed, Global};
 use std::fmt::Display;
@@ -34,6 +35,12 @@ pub(crate) enum Trouble {
     NoRefs,
     /// Something else, about a word.
     Word(&'static str, BString),
+    /// A variable whose value is no boolean of git's.
+    Variable(&'static str, BString),
+    /// A URL with a password, which is shown without it.
+    Password(BString),
+    /// A kind of ssh.
+    Ssh(SshError),
     /// An allocation failed.
     Memory,
 }
@@ -70,6 +77,14 @@ impl From<UrlError> for Trouble {
     }
 }
 
+impl From<SshError> for Trouble {
+    ghost from_gives = { λ error e. e ≡ trouble.Ssh error };
+
+    fn from(e: SshError) -> Trouble {
+        Trouble::Ssh(e)
+    }
+}
+
 impl From<io::Error> for Trouble {
     ghost from_gives = { λ error e. e ≡ trouble.Io (error_kind error) };
 
@@ -85,6 +100,16 @@ impl Trouble {
     {
         match BString::from_slice(alloc, word) {
             Ok(word) => Trouble::Word(why, word),
+            Err(_) => Trouble::Memory,
+        }
+    }
+
+    /// A variable whose value is no boolean of git's.
+    pub(crate) fn of_variable(alloc: Global, name: &'static str, value: &[u8]) -> Trouble
+        ensures { TellsVariable name.now value.now result }
+    {
+        match BString::from_slice(alloc, value) {
+            Ok(value) => Trouble::Variable(name, value),
             Err(_) => Trouble::Memory,
         }
     }
@@ -106,6 +131,7 @@ impl Trouble {
         match self {
             Trouble::Fetch(e) if e.is_said_by_git() => "fatal",
             Trouble::Word(_, _) | Trouble::Url(_) | Trouble::Fatal(_) | Trouble::NoRefs => "fatal",
+            Trouble::Variable(_, _) | Trouble::Password(_) | Trouble::Ssh(_) => "fatal",
             _ => "git-remote-gixp",
         }
     }
@@ -122,7 +148,31 @@ impl Display for Trouble {
             Trouble::Told => Ok(()),
             Trouble::NoRefs => f.write_str(NO_VERSION_2),
             Trouble::Word(why, word) => write!(f, "{why} '{word}'"),
+            Trouble::Variable(name, value) => {
+                write!(f, "bad boolean environment value '{value}' for '{name}'")
+            }
+            Trouble::Password(url) => write!(f, "URL '{url}' uses plaintext credentials"),
+            Trouble::Ssh(e) => write!(f, "{e}"),
             Trouble::Memory => write!(f, "out of memory"),
+        }
+    }
+}
+
+// A sentence, as git shows it.
+fn plain<D: Display>(alloc: Global, sentence: &D) -> Result<Vec<u8>, AllocError> {
+    let text = format!(in alloc; "{sentence}")?;
+    plain_text(alloc, text.as_bytes())
+}
+
+/// Shows a sentence on standard error after a mark. It may have bytes of a server's or of the user's.
+pub(crate) fn show<D: Display>(rt: &HostRuntime, mark: &str, sentence: &D) {
+    match plain(rt.alloc(), sentence) {
+        Ok(text) => {
+            let text = BStr::new(&text);
+            let _ = eprintln!(rt; "{mark}: {text}");
+        }
+        Err(_) => {
+            let _ = eprintln!(rt; "{mark}: out of memory");
         }
     }
 }

@@ -4,10 +4,11 @@ ghost use Rattle.std.specs.Prelude.{◌≡◌, [], true, Some, None, Err, IfOk, 
 ghost use Rattle.std.specs.Io.BufRead.{DropsThrough};
 ghost use Rattle.std.specs.Io.KnownBytes.{Appends};
 ghost use Rattle.gixp_remote_session.specs.WebServer.{without_end, reply_in, has_reply, IsUnheard, by_list, list_outcome, web_outcome, TellsOutcome};
-ghost use Rattle.gixp_remote_session.specs.WebServer.{option_asked, connect_asked, WasAsked, has_replied, behind_option, behind_replies};
+ghost use Rattle.gixp_remote_session.specs.WebServer.{option_asked, is_limited, family_line, options_asked, connect_asked, WasAsked, has_replied, have_replied, behind_option, behind_options, behind_replies};
 ghost use Rattle.gixp_remote_session.specs.declared.trouble.Trouble.TheVariants.{Told};
 
 use crate::trouble::Trouble;
+use gixp_remote_rules::Family;
 use std::alloc::Global;
 use std::io::{BufRead, Write};
 
@@ -55,22 +56,61 @@ fn ask<R: BufRead, W: Write>(
     reply(alloc, from)
 }
 
-// Lets the program tell the user no more than git does.
-fn set_verbosity<R: BufRead, W: Write>(
+// Sets an option, where it is to be set.
+fn set_option<R: BufRead, W: Write>(
+    alloc: Global,
+    from: &mut R,
+    to: &mut W,
+    is_set: bool,
+    line: &[u8],
+) -> Result<(), Trouble>
+    ensures asked { OnOk result (Appends (W.contents to.old) (W.contents to.new) (option_asked is_set line.now)) }
+    ensures heard { OnOk result (IfSome (R.remaining from.old) (λ bytes. has_replied is_set bytes ≡ true)) }
+    ensures rest { OnOk result (IfSome (R.remaining from.old) (λ bytes. R.remaining from.new ≡ Some (behind_option is_set bytes))) }
+    ensures unheard { IfErr result (IsUnheard (has_replied is_set) (R.remaining from.old)) }
+{
+    if is_set {
+        ask(alloc, from, to, line)?;
+    }
+    Ok(())
+}
+
+// Whether addresses are limited to one family.
+fn is_limited(family: Family) -> bool
+    ensures { result ≡ is_limited family }
+{
+    match family {
+        Family::All => false,
+        Family::Ipv4 | Family::Ipv6 => true,
+    }
+}
+
+// The option for addresses of one family.
+fn family_line(family: Family) -> &'static [u8]
+    ensures { result.now ≡ family_line family }
+{
+    match family {
+        Family::All => b"option family all\n",
+        Family::Ipv4 => b"option family ipv4\n",
+        Family::Ipv6 => b"option family ipv6\n",
+    }
+}
+
+// Lets the program tell the user no more than git does, and use no other addresses.
+fn set_options<R: BufRead, W: Write>(
     alloc: Global,
     from: &mut R,
     to: &mut W,
     is_quiet: bool,
+    family: Family,
 ) -> Result<(), Trouble>
-    ensures asked { OnOk result (Appends (W.contents to.old) (W.contents to.new) (option_asked is_quiet)) }
-    ensures heard { OnOk result (IfSome (R.remaining from.old) (λ bytes. has_replied is_quiet bytes ≡ true)) }
-    ensures rest { OnOk result (IfSome (R.remaining from.old) (λ bytes. R.remaining from.new ≡ Some (behind_option is_quiet bytes))) }
-    ensures unheard { IfErr result (IsUnheard (has_replied is_quiet) (R.remaining from.old)) }
+    ensures asked { OnOk result (Appends (W.contents to.old) (W.contents to.new) (options_asked is_quiet family)) }
+    ensures heard { OnOk result (IfSome (R.remaining from.old) (λ bytes. have_replied is_quiet family bytes ≡ true)) }
+    ensures rest { OnOk result (IfSome (R.remaining from.old) (λ bytes. R.remaining from.new ≡ Some (behind_options is_quiet family bytes))) }
+    ensures unheard { IfErr result (IsUnheard (have_replied is_quiet family) (R.remaining from.old)) }
 {
-    if is_quiet {
-        ask(alloc, from, to, b"option verbosity 0\n")?;
-    }
-    Ok(())
+    set_option(alloc, from, to, is_quiet, b"option verbosity 0\n")?;
+    set_option(alloc, from, to, is_limited(family), family_line(family))
 }
 
 // Why no requests are carried, by the first line of a list of refs.
@@ -101,12 +141,13 @@ pub(crate) fn connect_stateless<R: BufRead, W: Write>(
     from: &mut R,
     to: &mut W,
     is_quiet: bool,
+    family: Family,
 ) -> Result<(), Trouble>
-    ensures outcome { TellsOutcome (web_outcome is_quiet) (R.remaining from.old) result }
-    ensures asked { WasAsked (connect_asked is_quiet) (W.contents to.old) (W.contents to.new) result }
-    ensures rest { OnOk result (IfSome (R.remaining from.old) (λ bytes. R.remaining from.new ≡ Some (behind_replies is_quiet bytes))) }
+    ensures outcome { TellsOutcome (web_outcome is_quiet family) (R.remaining from.old) result }
+    ensures asked { WasAsked (connect_asked is_quiet family) (W.contents to.old) (W.contents to.new) result }
+    ensures rest { OnOk result (IfSome (R.remaining from.old) (λ bytes. R.remaining from.new ≡ Some (behind_replies is_quiet family bytes))) }
 {
-    set_verbosity(alloc, from, to, is_quiet)?;
+    set_options(alloc, from, to, is_quiet, family)?;
     let line = ask(alloc, from, to, b"stateless-connect git-upload-pack\n")?;
     if line.is_empty() {
         Ok(())

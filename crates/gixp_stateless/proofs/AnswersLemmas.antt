@@ -1,88 +1,129 @@
--- What is given of bytes that come in pieces.
-use Rattle.std.proofs.Common.{◌≡◌, ℕ, zero, suc, ◌+◌, ◌-◌, ◌<◌, ◌≤◌, ◌==◌, nat_lt, true, false, if◌then◌else◌, List, [], ◌∷◌, ◌++◌, length, take, drop, Option, Some, None, refl, ap, sym, ◌∙◌, arith, append_assoc, append-nil, length-append, length-drop, take-add, drop-drop, inl, inr, rules}
+-- What is passed on of bytes that come in pieces.
+use Rattle.std.proofs.Common.{◌≡◌, ℕ, zero, suc, ◌+◌, ◌-◌, ◌<◌, ◌≤◌, ◌==◌, nat_lt, Bool, true, false, if◌then◌else◌, List, [], ◌∷◌, ◌++◌, length, take, drop, Option, Some, None, refl, ap, sym, ◌∙◌, arith, append_assoc, append-nil, eqb-true, length-append, length-drop, length-take, take-add, drop-drop, inl, inr, rules}
 use Rattle.std.specs.Option.{option_map}
-use Rattle.std.specs.Prelude.{slice_range}
-use Rattle.std.proofs.lemmas.List.{take-append-le, length-take-le}
+use Rattle.std.specs.Prelude.{slice_range, codes}
+use Rattle.std.proofs.lemmas.List.{take-append-le, take_all, length-take-le}
 use Rattle.std.proofs.Math.Seq.{take-append-add}
 use Rattle.std.specs.Io.KnownBytes.{Keeps, Consumes, IsAtEnd}
 use Rattle.std.proofs.lemmas.Bool.{cases_lt}
 use Rattle.gixp_packetline.specs.Frames.{size_of}
 use Rattle.gixp_stateless.specs.declared.place.Next.{Next}
-use Rattle.gixp_stateless.specs.declared.place.Next.TheVariants.{Line, Payload, Rest}
-use Rattle.gixp_stateless.specs.Answers.{next_of, given_of, given, told_from}
+use Rattle.gixp_stateless.specs.declared.place.Next.TheVariants.{Line, AnswerEnd, Payload, Rest, Nothing}
+use Rattle.gixp_stateless.specs.Order.{needs_digits, steps_left}
+use Rattle.gixp_stateless.specs.Answers.{is_number, next_of, given_count, next_after, given_after, advertised_after, given, told_from}
 
--- digits that are held come first
-pub payload_front : (n : ℕ) (held ys : List ℕ) → given (Payload n) held ys ≡ held ++ given (Payload n) [] ys
-payload_front n held [] = sym (append-nil held)
-payload_front zero held (b ∷ ys) = refl
-payload_front (suc n) held (b ∷ ys) = refl
+-- digits that are held come first, where no others come next
+pub payload_front : (adv : Bool) (n : ℕ) (held ys : List ℕ) → given adv (Payload n) held ys ≡ held ++ given adv (Payload n) [] ys
+payload_front adv n held [] = sym (append-nil held)
+payload_front adv zero held (b ∷ ys) = refl
+payload_front adv (suc n) held (b ∷ ys) = refl
 
-pub rest_front : (held ys : List ℕ) → given Rest held ys ≡ held ++ given Rest [] ys
-rest_front held [] = sym (append-nil held)
-rest_front held (b ∷ ys) = refl
+pub known_front : (adv : Bool) (next : Next) (a b ys : List ℕ) → needs_digits next ≡ false
+    → given adv next (a ++ b) ys ≡ a ++ given adv next b ys
+known_front adv Line a b ys h = cc
+known_front adv AnswerEnd a b ys h = cc
+known_front adv (Payload n) a b ys h = payload_front adv n (a ++ b) ys
+    ∙ (append_assoc a b (given adv (Payload n) [] ys) ∙ ap (λ zs. a ++ zs) (sym (payload_front adv n b ys)))
+known_front adv Rest a b ys h = append_assoc a b ys
+known_front adv Nothing a b ys h = refl
 
 -- a payload comes as it is
-pub payload_part : (n : ℕ) (xs ys : List ℕ) → length xs ≤ n → given (Payload n) [] (xs ++ ys) ≡ xs ++ given (Payload (n - length xs)) [] ys
-payload_part n [] ys h = let e : n ≡ n - 0 = omega arith in ap (λ k. given (Payload k) [] ys) e
-payload_part zero (x ∷ xs) ys h = absurd (omega arith)
-payload_part (suc n) (x ∷ xs) ys h =
+pub payload_part : (adv : Bool) (n : ℕ) (xs ys : List ℕ) → length xs ≤ n
+    → given adv (Payload n) [] (xs ++ ys) ≡ xs ++ given adv (Payload (n - length xs)) [] ys
+payload_part adv n [] ys h = let e : n ≡ n - 0 = omega arith in ap (λ k. given adv (Payload k) [] ys) e
+payload_part adv zero (x ∷ xs) ys h = absurd (omega arith)
+payload_part adv (suc n) (x ∷ xs) ys h =
     let e : n - length xs ≡ suc n - length (x ∷ xs) = omega arith in
-    ap (λ zs. x ∷ zs) (payload_part n xs ys (omega arith)) ∙ ap (λ k. x ∷ (xs ++ given (Payload k) [] ys)) e
+    ap (λ zs. x ∷ zs) (payload_part adv n xs ys (omega arith)) ∙ ap (λ k. x ∷ (xs ++ given adv (Payload k) [] ys)) e
 
 -- and a packet line after it
-pub payload_over : (ys : List ℕ) → given (Payload 0) [] ys ≡ given Line [] ys
-payload_over [] = refl
-payload_over (b ∷ ys) = refl
+pub payload_over : (adv : Bool) (ys : List ℕ) → given adv (Payload 0) [] ys ≡ given adv Line [] ys
+payload_over adv [] = refl
+payload_over adv (b ∷ ys) = refl
 
 -- by the test whether digits are missing
-missing : (held : List ℕ) (x : ℕ) (ys : List ℕ) → length held < 3 → given Line held (x ∷ ys) ≡ given Line (held ++ x ∷ []) ys
-missing held x ys h = let t : nat_lt (length held) 3 ≡ true = search (rules) in rw t refl
+missing : (adv : Bool) (next : Next) (held : List ℕ) (x : ℕ) (ys : List ℕ) → needs_digits next ≡ true → length held < 3
+    → given adv next held (x ∷ ys) ≡ given adv next (held ++ x ∷ []) ys
+missing adv Line held x ys d h = let t : nat_lt (length held) 3 ≡ true = search (rules) in rw t refl
+missing adv AnswerEnd held x ys d h = let t : nat_lt (length held) 3 ≡ true = search (rules) in rw t refl
+missing adv (Payload n) held x ys d h = cc
+missing adv Rest held x ys d h = cc
+missing adv Nothing held x ys d h = cc
 
-whole : (held : List ℕ) (x : ℕ) (ys : List ℕ) → 3 ≤ length held → given Line held (x ∷ ys)
-    ≡ given_of (size_of (held ++ x ∷ [])) (held ++ x ∷ []) ++ given (next_of (size_of (held ++ x ∷ []))) [] ys
-whole held x ys h = let t : nat_lt (length held) 3 ≡ false = search (rules) in rw t refl
+whole : (adv : Bool) (next : Next) (held : List ℕ) (x : ℕ) (ys : List ℕ) → needs_digits next ≡ true → 3 ≤ length held
+    → given adv next held (x ∷ ys) ≡ given_after adv next (size_of (held ++ x ∷ [])) (held ++ x ∷ [])
+    ++ given (advertised_after adv (size_of (held ++ x ∷ []))) (next_after adv next (size_of (held ++ x ∷ []))) [] ys
+whole adv Line held x ys d h = let t : nat_lt (length held) 3 ≡ false = search (rules) in rw t refl
+whole adv AnswerEnd held x ys d h = let t : nat_lt (length held) 3 ≡ false = search (rules) in rw t refl
+whole adv (Payload n) held x ys d h = cc
+whole adv Rest held x ys d h = cc
+whole adv Nothing held x ys d h = cc
 
 -- fewer than four digits
-pub digits_part : (held xs ys : List ℕ) → length held + length xs < 4 → given Line held (xs ++ ys) ≡ given Line (held ++ xs) ys
-digits_part held [] ys h = ap (λ ds. given Line ds ys) (sym (append-nil held))
-digits_part held (x ∷ xs) ys h = missing held x (xs ++ ys) (omega arith)
-    ∙ (digits_part (held ++ x ∷ []) xs ys (omega (arith, length-append held (x ∷ [])))
-    ∙ ap (λ ds. given Line ds ys) (append_assoc held (x ∷ []) xs))
+pub digits_part : (adv : Bool) (next : Next) (held xs ys : List ℕ) → needs_digits next ≡ true → length held + length xs < 4
+    → given adv next held (xs ++ ys) ≡ given adv next (held ++ xs) ys
+digits_part adv next held [] ys d h = ap (λ ds. given adv next ds ys) (sym (append-nil held))
+digits_part adv next held (x ∷ xs) ys d h = missing adv next held x (xs ++ ys) d (omega arith)
+    ∙ (digits_part adv next (held ++ x ∷ []) xs ys d (omega (arith, length-append held (x ∷ [])))
+    ∙ ap (λ ds. given adv next ds ys) (append_assoc held (x ∷ []) xs))
 
-by_size : (size : Option ℕ) (digits ys : List ℕ)
-    → given_of size digits ++ given (next_of size) [] ys ≡ given (next_of size) (given_of size digits) ys
-by_size None digits ys = sym (rest_front digits ys)
-by_size (Some size) digits ys = at (size == 2)
+pub taken_all : (digits : List ℕ) → length digits ≡ 4 → take 4 digits ≡ digits
+taken_all digits four = take_all 4 digits (omega arith)
+
+-- of four digits all are held, or none, and what is held comes first
+taken_front : (adv : Bool) (next : Next) (digits ys : List ℕ)
+    → take (given_count next) digits ++ given adv next [] ys ≡ given adv next (take (given_count next) digits) ys
+taken_front adv Line digits ys = refl
+taken_front adv AnswerEnd digits ys = refl
+taken_front adv (Payload n) digits ys = sym (payload_front adv n (take 4 digits) ys)
+taken_front adv Rest digits ys = refl
+taken_front adv Nothing digits ys = refl
+
+by_size : (adv flag : Bool) (next : Next) (size : Option ℕ) (digits ys : List ℕ) → needs_digits next ≡ true
+    → given_after adv next size digits ++ given flag (next_after adv next size) [] ys
+    ≡ given flag (next_after adv next size) (given_after adv next size digits) ys
+by_size adv flag Line size digits ys d = taken_front flag (next_of adv size) digits ys
+by_size adv flag AnswerEnd size digits ys d = at (is_number 2 size)
   where
-    at : (b : _) → (if b then [] else digits) ++ given (if b then Line else Payload (size - 4)) [] ys
-        ≡ given (if b then Line else Payload (size - 4)) (if b then [] else digits) ys
-    at true = refl
-    at false = sym (payload_front (size - 4) digits ys)
+    at : (b : Bool) → (if b then codes "0000" else []) ++ given flag (if b then Payload 0 else Nothing) [] ys
+        ≡ given flag (if b then Payload 0 else Nothing) (if b then codes "0000" else []) ys
+    at true = sym (payload_front flag 0 (codes "0000") ys)
+    at false = refl
+by_size adv flag (Payload n) size digits ys d = cc
+by_size adv flag Rest size digits ys d = cc
+by_size adv flag Nothing size digits ys d = cc
 
-last_digit : (held : List ℕ) (x : ℕ) (xs ys : List ℕ) → 3 ≤ length held → length xs ≡ 0
-    → given Line held (x ∷ (xs ++ ys)) ≡ given (next_of (size_of (held ++ x ∷ xs)))
-    (given_of (size_of (held ++ x ∷ xs)) (held ++ x ∷ xs)) ys
-last_digit held x [] ys h k = whole held x ys h ∙ by_size (size_of (held ++ x ∷ [])) (held ++ x ∷ []) ys
-last_digit held x (y ∷ xs) ys h k = absurd (omega arith)
+-- what is passed on after four digits
+abbrev pub told_whole : (adv : Bool) → Next → List ℕ → List ℕ → List ℕ
+told_whole adv next digits ys =
+    given (advertised_after adv (size_of digits)) (next_after adv next (size_of digits)) (given_after adv next (size_of digits) digits) ys
+
+last_digit : (adv : Bool) (next : Next) (held : List ℕ) (x : ℕ) (xs ys : List ℕ) → needs_digits next ≡ true → 3 ≤ length held
+    → length xs ≡ 0 → given adv next held (x ∷ (xs ++ ys)) ≡ told_whole adv next (held ++ x ∷ xs) ys
+last_digit adv next held x [] ys d h k = whole adv next held x ys d h
+    ∙ by_size adv (advertised_after adv (size_of (held ++ x ∷ []))) next (size_of (held ++ x ∷ [])) (held ++ x ∷ []) ys d
+last_digit adv next held x (y ∷ xs) ys d h k = absurd (omega arith)
 
 -- four digits
-pub digits_whole : (held xs ys : List ℕ) → length held + length xs ≡ 4 → length held < 4
-    → given Line held (xs ++ ys) ≡ given (next_of (size_of (held ++ xs))) (given_of (size_of (held ++ xs)) (held ++ xs)) ys
-digits_whole held [] ys h k = absurd (omega arith)
-digits_whole held (x ∷ xs) ys h k = elim (cases_lt (length held) 3) [
-  | inl lt ↦ missing held x (xs ++ ys) lt
-      ∙ (digits_whole (held ++ x ∷ []) xs ys (omega (arith, length-append held (x ∷ []))) (omega (arith, length-append held (x ∷ [])))
-      ∙ ap (λ ds. given (next_of (size_of ds)) (given_of (size_of ds) ds) ys) (append_assoc held (x ∷ []) xs))
-  | inr ge ↦ last_digit held x xs ys ge (omega arith)
+pub digits_whole : (adv : Bool) (next : Next) (held xs ys : List ℕ) → needs_digits next ≡ true → length held + length xs ≡ 4
+    → length held < 4 → given adv next held (xs ++ ys) ≡ told_whole adv next (held ++ xs) ys
+digits_whole adv next held [] ys d h k = absurd (omega arith)
+digits_whole adv next held (x ∷ xs) ys d h k = elim (cases_lt (length held) 3) [
+  | inl lt ↦ missing adv next held x (xs ++ ys) d lt
+      ∙ (digits_whole adv next (held ++ x ∷ []) xs ys d (omega (arith, length-append held (x ∷ [])))
+      (omega (arith, length-append held (x ∷ [])))
+      ∙ ap (λ ds. told_whole adv next ds ys) (append_assoc held (x ∷ []) xs))
+  | inr ge ↦ last_digit adv next held x xs ys d ge (omega arith)
 ]
 
 -- digits that came
-pub told : (held xs ys : List ℕ) → length held + length xs ≤ 4 → length held < 4 → given Line held (xs ++ ys) ≡ told_from (held ++ xs) ys
-told held xs ys h k = elim (cases_lt (length (held ++ xs)) 4) [
+pub told : (adv : Bool) (next : Next) (held xs ys : List ℕ) → needs_digits next ≡ true → length held + length xs ≤ 4
+    → length held < 4 → given adv next held (xs ++ ys) ≡ told_from adv next (held ++ xs) ys
+told adv next held xs ys d h k = elim (cases_lt (length (held ++ xs)) 4) [
   | inl lt ↦ let t : nat_lt (length (held ++ xs)) 4 ≡ true = search rules in
-      rw t (digits_part held xs ys (omega (arith, length-append held xs)))
+      rw t (digits_part adv next held xs ys d (omega (arith, length-append held xs)))
   | inr ge ↦ let t : nat_lt (length (held ++ xs)) 4 ≡ false = search rules in
-      rw t (digits_whole held xs ys (omega (arith, length-append held xs)) k)
+      rw t (digits_whole adv next held xs ys d (omega (arith, length-append held xs)) k)
 ]
 
 -- known bytes through a function
@@ -162,54 +203,85 @@ range_parts ds start n end h =
     ∙ (ap (λ xs. take n (drop start ds) ++ take (end - (start + n)) xs) (drop-drop n start ds)
     ∙ ap (λ k. take k (drop start ds) ++ take (end - (start + n)) (drop (start + n) ds)) f))
 
-known_front : (next : Next) (a b ys : List ℕ) → (next ≡ Line → ⊥) → given next (a ++ b) ys ≡ a ++ given next b ys
-known_front Line a b ys h = absurd (h refl)
-known_front (Payload n) a b ys h = payload_front n (a ++ b) ys
-    ∙ (append_assoc a b (given (Payload n) [] ys) ∙ ap (λ zs. a ++ zs) (sym (payload_front n b ys)))
-known_front Rest a b ys h = rest_front (a ++ b) ys ∙ (append_assoc a b (given Rest [] ys) ∙ ap (λ zs. a ++ zs) (sym (rest_front b ys)))
+pub gives_digits : (o : Option (List ℕ)) (adv : Bool) (next : Next) (held out later : List ℕ) → needs_digits next ≡ false
+    → held ≡ out ++ later → Consumes (option_map (given adv next held) o) (option_map (given adv next later) o) out
+gives_digits None adv next held out later l e = tt
+gives_digits (Some bytes) adv next held out later l e =
+    ap (λ ds. given adv next ds bytes) e ∙ known_front adv next out later bytes l
 
-pub gives_digits : (o : Option (List ℕ)) (next : Next) (held out later : List ℕ) → (next ≡ Line → ⊥) → held ≡ out ++ later
-    → Consumes (option_map (given next held) o) (option_map (given next later) o) out
-gives_digits None next held out later l e = tt
-gives_digits (Some bytes) next held out later l e = ap (λ ds. given next ds bytes) e ∙ known_front next out later bytes l
-
-pub reads_payload : (old new : Option (List ℕ)) (next : Next) (held buf rest : List ℕ) (left n : ℕ) → next ≡ Payload left → held ≡ []
-    → n ≤ length buf → length buf ≤ left → 0 < length buf → Consumes old new (take n buf) → (n ≡ 0 → 0 < length buf → IsAtEnd new)
-    → Consumes (option_map (given next held) old) (option_map (given (Payload (left - n)) held) new) (take n (buf ++ rest))
-    × (n ≡ 0 → 0 < length (buf ++ rest) → IsAtEnd (option_map (given (Payload (left - n)) held) new))
-reads_payload old new next held buf rest left n is none fits bound some came at_end =
+pub reads_payload : (old new : Option (List ℕ)) (adv : Bool) (next : Next) (held buf rest : List ℕ) (left n : ℕ)
+    → next ≡ Payload left → held ≡ [] → n ≤ length buf → length buf ≤ left → 0 < length buf → Consumes old new (take n buf)
+    → (n ≡ 0 → 0 < length buf → IsAtEnd new)
+    → Consumes (option_map (given adv next held) old) (option_map (given adv (Payload (left - n)) held) new) (take n (buf ++ rest))
+    × (n ≡ 0 → 0 < length (buf ++ rest) → IsAtEnd (option_map (given adv (Payload (left - n)) held) new))
+reads_payload old new adv next held buf rest left n is none fits bound some came at_end =
     let l : length (take n buf) ≡ n = length-take-le n buf fits in
     rw (is, none, take-append-le n buf rest fits) (
-      consumes_through old new (take n buf) (take n buf) (given (Payload left) []) (given (Payload (left - n)) []) came
-          (λ ys. payload_part left (take n buf) ys (omega arith) ∙ ap (λ k. take n buf ++ given (Payload (left - k)) [] ys) l),
-      λ z _. end_through new (given (Payload (left - n)) []) (at_end z some) refl,
+      consumes_through old new (take n buf) (take n buf) (given adv (Payload left) []) (given adv (Payload (left - n)) []) came
+          (λ ys. payload_part adv left (take n buf) ys (omega arith)
+          ∙ ap (λ k. take n buf ++ given adv (Payload (left - k)) [] ys) l),
+      λ z _. end_through new (given adv (Payload (left - n)) []) (at_end z some) refl,
     )
 
-pub takes_digits : (old new : Option (List ℕ)) (next : Next) (held buf told_digits : List ℕ) (n : ℕ) → next ≡ Line
-    → length held < 4 → length held + n ≤ 4 → n ≤ length buf → told_digits ≡ held ++ take n buf → Consumes old new (take n buf)
-    → Keeps (option_map (given next held) old) (option_map (told_from told_digits) new)
-takes_digits old new next held buf told_digits n is few bound fits e came =
+pub takes_digits : (old new : Option (List ℕ)) (adv : Bool) (next : Next) (held buf told_digits : List ℕ) (n : ℕ)
+    → needs_digits next ≡ true → length held < 4 → length held + n ≤ 4 → n ≤ length buf → told_digits ≡ held ++ take n buf
+    → Consumes old new (take n buf) → Keeps (option_map (given adv next held) old) (option_map (told_from adv next told_digits) new)
+takes_digits old new adv next held buf told_digits n d few bound fits e came =
     let l : length (take n buf) ≡ n = length-take-le n buf fits in
-    rw (is, e) (takes_through old new (take n buf) (given Line held) (told_from (held ++ take n buf)) came
-    (λ ys. told held (take n buf) ys (omega arith) few))
+    rw e (takes_through old new (take n buf) (given adv next held) (told_from adv next (held ++ take n buf)) came
+    (λ ys. told adv next held (take n buf) ys d (omega arith) few))
 
-pub over_payload : (o : Option (List ℕ)) (next : Next) (held : List ℕ) (left : ℕ) → next ≡ Payload left → left ≡ 0 → held ≡ []
-    → Keeps (option_map (given next held) o) (option_map (given Line []) o)
-over_payload o next held left is zero_left none =
-    rw (is, zero_left, none) (keeps_through o o (given (Payload 0) []) (given Line []) (keeps_self o) payload_over)
+pub over_payload : (o : Option (List ℕ)) (adv : Bool) (next : Next) (held : List ℕ) (left : ℕ) → next ≡ Payload left → left ≡ 0
+    → held ≡ [] → Keeps (option_map (given adv next held) o) (option_map (given adv Line []) o)
+over_payload o adv next held left is zero_left none =
+    rw (is, zero_left, none) (keeps_through o o (given adv (Payload 0) []) (given adv Line []) (keeps_self o) (payload_over adv))
 
-rest_all : (xs : List ℕ) → given Rest [] xs ≡ xs
-rest_all [] = refl
-rest_all (x ∷ xs) = refl
-
-pub reads_rest : (old new : Option (List ℕ)) (next : Next) (held buf : List ℕ) (n : ℕ) → next ≡ Rest → held ≡ []
+pub reads_rest : (old new : Option (List ℕ)) (adv : Bool) (next : Next) (held buf : List ℕ) (n : ℕ) → next ≡ Rest → held ≡ []
     → n ≤ length buf → 0 < length buf → Consumes old new (take n buf) → (n ≡ 0 → 0 < length buf → IsAtEnd new)
-    → (n ≤ length buf) × Consumes (option_map (given next held) old) (option_map (given next held) new) (take n buf)
-    × (n ≡ 0 → IsAtEnd (option_map (given next held) new))
-reads_rest old new next held buf n is none fits some came at_end =
+    → (n ≤ length buf) × Consumes (option_map (given adv next held) old) (option_map (given adv next held) new) (take n buf)
+    × (n ≡ 0 → IsAtEnd (option_map (given adv next held) new))
+reads_rest old new adv next held buf n is none fits some came at_end =
     rw (is, none) (
       fits,
-      consumes_through old new (take n buf) (take n buf) (given Rest []) (given Rest []) came
-          (λ ys. rest_all (take n buf ++ ys) ∙ ap (λ zs. take n buf ++ zs) (sym (rest_all ys))),
-      λ z. end_through new (given Rest []) (at_end z some) refl,
+      consumes_through old new (take n buf) (take n buf) (given adv Rest []) (given adv Rest []) came (λ ys. refl),
+      λ z. end_through new (given adv Rest []) (at_end z some) refl,
     )
+
+-- four digits that were taken
+took_whole : (o : Option (List ℕ)) (adv flag : Bool) (next place : Next) (digits held : List ℕ) → length digits ≡ 4
+    → next ≡ next_after adv place (size_of digits) → flag ≡ advertised_after adv (size_of digits)
+    → held ≡ given_after adv place (size_of digits) digits
+    → option_map (given flag next held) o ≡ option_map (told_from adv place digits) o
+took_whole None adv flag next place digits held four n f h = refl
+took_whole (Some bytes) adv flag next place digits held four n f h =
+    let t : nat_lt (length digits) 4 ≡ false = search rules in rw (n, f, h, t) refl
+
+pub took_line : (o : Option (List ℕ)) (adv flag : Bool) (next : Next) (size : Option ℕ) (digits : List ℕ) (start end : ℕ)
+    → length digits ≡ 4 → start ≡ 0 → size ≡ size_of digits → next ≡ next_of adv size → flag ≡ advertised_after adv size
+    → end ≡ given_count next
+    → option_map (given flag next (slice_range digits start end)) o ≡ option_map (told_from adv Line digits) o
+took_line o adv flag next size digits start end four first s n f e =
+    took_whole o adv flag next Line digits (slice_range digits start end) four (n ∙ ap (next_of adv) s) (f ∙ ap (advertised_after adv) s)
+    (first_range digits start end first ∙ ap (λ k. take k digits) (e ∙ ap given_count (n ∙ ap (next_of adv) s)))
+
+is_two : (size : Option ℕ) → is_number 2 size ≡ true → size ≡ Some 2
+is_two None h = cc
+is_two (Some n) h = ap Some (eqb-true n 2 h)
+
+pub took_end : (o : Option (List ℕ)) (adv closes : Bool) (size : Option ℕ) (digits : List ℕ) (start : ℕ)
+    → length digits ≡ 4 → start ≡ 0 → size ≡ size_of digits → closes ≡ is_number 2 size → closes ≡ true
+    → option_map (given adv (Payload 0) (slice_range (codes "0000") start 4)) o ≡ option_map (told_from adv AnswerEnd digits) o
+took_end o adv closes size digits start four first s c is_true =
+    let is : size_of digits ≡ Some 2 = sym s ∙ is_two size (sym c ∙ is_true) in
+    took_whole o adv adv (Payload 0) AnswerEnd digits (slice_range (codes "0000") start 4) four (rw is refl) (rw is refl)
+    (rw is (first_range (codes "0000") start 4 first))
+
+pub took_part : (o : Option (List ℕ)) (adv : Bool) (next : Next) (digits : List ℕ) (start end : ℕ) → end < 4 → start ≡ 0
+    → option_map (given adv next (slice_range digits start end)) o ≡ option_map (told_from adv next (take end digits)) o
+took_part None adv next digits start end few first = refl
+took_part (Some bytes) adv next digits start end few first =
+    let t : nat_lt (length (take end digits)) 4 ≡ true = search (rules, length-take end digits) in
+    rw (first_range digits start end first, t) refl
+
+pub over_steps : (start end left : ℕ) (next : Next) → next ≡ Payload left → end ≤ start → 10 < steps_left start end next
+over_steps start end left next is h = let t : nat_lt start end ≡ false = search rules in rw (is, t) (omega arith)

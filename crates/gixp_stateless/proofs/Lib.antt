@@ -1,2 +1,3 @@
 pub mod AnswersLemmas
 pub mod FrameEndLemmas
+pub mod WholeLemmas

@@ -1,53 +1,93 @@
--- Packet lines without the response-end packets among them (gitprotocol-v2, "Packet-Line Framing"), as bytes.
-use Rattle.std.specs.Prelude.{◌≡◌, ℕ, zero, suc, ◌-◌, ◌≤◌, ◌==◌, nat_lt, Bool, true, false, if◌then◌else◌, List, [], ◌∷◌, ◌++◌, length, take, slice_range, Option, Some, None, Result, Ok, Err}
+-- The packet lines of an advertisement and of whole answers (gitprotocol-v2, "Packet-Line Framing"; gitremote-helpers,
+-- "stateless-connect"), as bytes.
+use Rattle.std.specs.Prelude.{◌≡◌, ℕ, zero, suc, ◌-◌, ◌<◌, ◌≤◌, ◌==◌, nat_lt, Bool, true, false, if◌then◌else◌, List, [], ◌∷◌, ◌++◌, length, take, slice_range, codes, Option, Some, None, Result, Ok, Err}
 use Rattle.std.specs.Option.{option_map}
 use Rattle.std.specs.Io.KnownBytes.{Keeps, Consumes, IsAtEnd}
 use Rattle.gixp_packetline.specs.Frames.{size_of}
 use Rattle.gixp_stateless.specs.declared.place.Next.{Next}
-use Rattle.gixp_stateless.specs.declared.place.Next.TheVariants.{Line, Payload, Rest}
+use Rattle.gixp_stateless.specs.declared.place.Next.TheVariants.{Line, AnswerEnd, Payload, Rest, Nothing}
 use Rattle.gixp_stateless.specs.declared.place.Answers.{Answers}
+use Rattle.gixp_stateless.specs.Order.{needs_digits, steps_left}
 
--- what comes after four digits: the next line after a response-end packet, a payload, or what is no packet line
-abbrev pub next_of : Option ℕ → Next
-next_of None = Rest
-next_of (Some size) = if size == 2 then Line else Payload (size - 4)
+abbrev pub is_number : ℕ → Option ℕ → Bool
+is_number n None = false
+is_number n (Some size) = size == n
 
--- of four digits, those that are given: all but those of a response-end packet
-abbrev pub given_of : Option ℕ → List ℕ → List ℕ
-given_of None digits = digits
-given_of (Some size) digits = if size == 2 then [] else digits
+-- what follows four digits of a packet line: nothing after a response-end packet; after the flush packet of an answer its response-end
+-- packet; else a payload, or what isn't a packet line
+abbrev pub next_of : (advertised : Bool) → Option ℕ → Next
+next_of advertised None = Rest
+next_of advertised (Some size) =
+    if size == 2 then Nothing
+    else if size == 0 then (if advertised then AnswerEnd else Payload 0)
+    else Payload (size - 4)
 
--- what is given of some bytes, and of digits that came before them
-abbrev pub given : Next → (held : List ℕ) → List ℕ → List ℕ
-given next held [] = held
-given Rest held (b ∷ bytes) = held ++ b ∷ bytes
-given (Payload n) held (b ∷ bytes) = elim n [ zero ↦ held ++ given Line (b ∷ []) bytes | suc m ↦ held ++ b ∷ given (Payload m) [] bytes ]
-given Line held (b ∷ bytes) =
-    if nat_lt (length held) 3 then given Line (held ++ b ∷ []) bytes
-    else given_of (size_of (held ++ b ∷ [])) (held ++ b ∷ []) ++ given (next_of (size_of (held ++ b ∷ []))) [] bytes
+-- how many of these digits are passed on before what follows: all, or none
+abbrev pub given_count : Next → ℕ
+given_count Line = 0
+given_count AnswerEnd = 0
+given_count (Payload n) = 4
+given_count Rest = 4
+given_count Nothing = 0
 
--- packet lines without response-end packets
-abbrev pub without_ends : List ℕ → List ℕ
-without_ends bytes = given Line [] bytes
+-- the same where digits come next: a response-end packet after an answer's flush packet lets that be passed on, and anything else ends
+abbrev pub next_after : (advertised : Bool) → Next → Option ℕ → Next
+next_after advertised AnswerEnd size = if is_number 2 size then Payload 0 else Nothing
+next_after advertised _ size = next_of advertised size
 
--- what is given of what comes behind these digits, four at most
-abbrev pub told_from : List ℕ → List ℕ → List ℕ
-told_from digits bytes =
-    if nat_lt (length digits) 4 then given Line digits bytes
-    else given (next_of (size_of digits)) (given_of (size_of digits) digits) bytes
+abbrev pub given_after : (advertised : Bool) → Next → Option ℕ → List ℕ → List ℕ
+given_after advertised AnswerEnd size digits = if is_number 2 size then codes "0000" else []
+given_after advertised _ size digits = take (given_count (next_of advertised size)) digits
 
--- what a reader has still to give
+-- the first flush packet is that of the advertisement
+abbrev pub advertised_after : (advertised : Bool) → Option ℕ → Bool
+advertised_after advertised size = if is_number 0 size then true else advertised
+
+-- what is passed on of some bytes, and of digits that came before them
+abbrev pub given : (advertised : Bool) → Next → (held : List ℕ) → List ℕ → List ℕ
+given advertised Nothing held bytes = held
+given advertised Rest held bytes = held ++ bytes
+given advertised (Payload n) held [] = held
+given advertised (Payload n) held (b ∷ bytes) =
+    elim n [ zero ↦ held ++ given advertised Line (b ∷ []) bytes | suc m ↦ held ++ b ∷ given advertised (Payload m) [] bytes ]
+given advertised Line held [] = held
+given advertised Line held (b ∷ bytes) =
+    if nat_lt (length held) 3 then given advertised Line (held ++ b ∷ []) bytes
+    else given_after advertised Line (size_of (held ++ b ∷ [])) (held ++ b ∷ [])
+    ++ given (advertised_after advertised (size_of (held ++ b ∷ []))) (next_after advertised Line (size_of (held ++ b ∷ []))) [] bytes
+given advertised AnswerEnd held [] = []
+given advertised AnswerEnd held (b ∷ bytes) =
+    if nat_lt (length held) 3 then given advertised AnswerEnd (held ++ b ∷ []) bytes
+    else given_after advertised AnswerEnd (size_of (held ++ b ∷ [])) (held ++ b ∷ [])
+    ++ given (advertised_after advertised (size_of (held ++ b ∷ []))) (next_after advertised AnswerEnd (size_of (held ++ b ∷ []))) [] bytes
+
+-- what is passed on of a stream
+abbrev pub passed_on : List ℕ → List ℕ
+passed_on bytes = given false Line [] bytes
+
+-- what is passed on of what comes after these digits, four at most
+abbrev pub told_from : (advertised : Bool) → Next → List ℕ → List ℕ → List ℕ
+told_from advertised next digits bytes =
+    if nat_lt (length digits) 4 then given advertised next digits bytes
+    else given (advertised_after advertised (size_of digits)) (next_after advertised next (size_of digits))
+    (given_after advertised next (size_of digits) digits) bytes
+
+-- what a reader has still to pass on
 abbrev pub to_come : {R : Type 0} → (R → Option (List ℕ)) → Answers R → Option (List ℕ)
-to_come remaining a = option_map (given a.next (slice_range a.digits a.start a.end)) (remaining a.reader)
+to_come remaining a = option_map (given a.advertised a.next (slice_range a.digits a.start a.end)) (remaining a.reader)
 
--- a call that gives nothing, and tells whether it found the end
-abbrev pub ReadsDigits : {E : Type 0} → Option (List ℕ) → Option (List ℕ) → Result Bool E → Type 0
-ReadsDigits old new (Ok true) = Keeps old new × IsAtEnd new
-ReadsDigits old new (Ok false) = Keeps old new
-ReadsDigits old new (Err e) = Keeps old new
+-- how often it can go on before that
+abbrev pub steps_of : {R : Type 0} → Answers R → ℕ
+steps_of a = steps_left a.start a.end a.next
 
--- a call that gives what it can, or nothing
-abbrev pub GivesOrSteps : {E : Type 0} → Option (List ℕ) → Option (List ℕ) → List ℕ → Result (Option ℕ) E → Type 0
-GivesOrSteps old new buf (Ok (Some n)) = (n ≤ length buf) × Consumes old new (take n buf) × (n ≡ 0 → IsAtEnd new)
-GivesOrSteps old new buf (Ok None) = Keeps old new
-GivesOrSteps old new buf (Err e) = Keeps old new
+-- a call that passes nothing on, and reports whether it found the end; if not, the reader went on
+abbrev pub ReadsDigits : {E : Type 0} → Option (List ℕ) → Option (List ℕ) → (old new : ℕ) → Result Bool E → Type 0
+ReadsDigits old new steps left (Ok true) = Keeps old new × IsAtEnd new
+ReadsDigits old new steps left (Ok false) = Keeps old new × (left < steps)
+ReadsDigits old new steps left (Err e) = Keeps old new
+
+-- a call that passes on what it can, or nothing; then the reader went on
+abbrev pub GivesOrSteps : {E : Type 0} → Option (List ℕ) → Option (List ℕ) → (old new : ℕ) → List ℕ → Result (Option ℕ) E → Type 0
+GivesOrSteps old new steps left buf (Ok (Some n)) = (n ≤ length buf) × Consumes old new (take n buf) × (n ≡ 0 → IsAtEnd new)
+GivesOrSteps old new steps left buf (Ok None) = Keeps old new × (left < steps)
+GivesOrSteps old new steps left buf (Err e) = Keeps old new

@@ -1,3 +1,4 @@
 pub mod Answers
 pub mod Order
 pub mod Others
+pub mod Whole

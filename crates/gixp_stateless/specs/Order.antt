@@ -1,8 +1,25 @@
 -- The digits that a reader holds.
-use Rattle.std.specs.Prelude.{◌≡◌, ℕ, ◌<◌, ◌≤◌}
+use Rattle.std.specs.Prelude.{◌≡◌, ℕ, ◌-◌, ◌<◌, ◌≤◌, Bool, true, false, nat_lt, if◌then◌else◌}
 use Rattle.gixp_stateless.specs.declared.place.Next.{Next}
-use Rattle.gixp_stateless.specs.declared.place.Next.TheVariants.{Line}
+use Rattle.gixp_stateless.specs.declared.place.Next.TheVariants.{Line, AnswerEnd, Payload, Rest, Nothing}
 
--- four at most; they are held from the first on, and are fewer, until it is known what comes
+-- whether digits come next: those of a packet line, or those of an answer's response-end packet
+abbrev pub needs_digits : Next → Bool
+needs_digits Line = true
+needs_digits AnswerEnd = true
+needs_digits (Payload n) = false
+needs_digits Rest = false
+needs_digits Nothing = false
+
+-- four digits at most; where digits come next, they are held from the first on, and are fewer
 abbrev pub IsInOrder : (start end : ℕ) → Next → Type 0
-IsInOrder start end next = (start ≤ end) × (end ≤ 4) × (next ≡ Line → (start ≡ 0) × (end < 4))
+IsInOrder start end next = (start ≤ end) × (end ≤ 4) × (needs_digits next ≡ true → (start ≡ 0) × (end < 4))
+
+-- how often a reader can go on at most before it passes something on, or finds the end: it takes a digit at least, and after an
+-- answer's flush packet the four digits of a response-end packet too
+abbrev pub steps_left : (start end : ℕ) → Next → ℕ
+steps_left start end Line = 10 - end
+steps_left start end AnswerEnd = 5 - end
+steps_left start end (Payload n) = if nat_lt start end then 0 else 11
+steps_left start end Rest = 0
+steps_left start end Nothing = 0

@@ -1,15 +1,16 @@
-//! A reader of packet lines that leaves out response-end packets.
-ghost use Rattle.std.specs.Prelude.{◌≡◌, ◌≢◌, ◌<◌, ◌≤◌, length, take};
+//! A reader of packet lines that passes on whole answers.
+ghost use Rattle.std.specs.Prelude.{◌≡◌, ◌<◌, ◌≤◌, true, false, length, take, IfOk};
 ghost use Rattle.std.specs.Option.{option_map};
 ghost use Rattle.std.specs.Io.{ReadsAtMost};
 ghost use Rattle.std.specs.Io.KnownBytes.{Consumes, ReadConsumes};
 ghost use Rattle.gixp_packetline.specs.Frames.{size_of};
-ghost use Rattle.gixp_stateless.specs.Answers.{next_of, without_ends, told_from, to_come, ReadsDigits, GivesOrSteps};
+ghost use Rattle.gixp_stateless.specs.Order.{needs_digits};
+ghost use Rattle.gixp_stateless.specs.Answers.{is_number, next_of, given_count, advertised_after, passed_on, told_from, to_come, steps_of, ReadsDigits, GivesOrSteps};
 
 use crate::place::{Answers, Next};
 use hex;
 use std::io;
-use std::io::{ErrorKind, Read};
+use std::io::Read;
 
 // The number of four digits.
 fn size_of(digits: &[u8]) -> Option<usize>
@@ -26,24 +27,58 @@ fn size_of(digits: &[u8]) -> Option<usize>
     }
 }
 
-// What comes after four digits.
-fn next_of(size: Option<usize>) -> Next
-    ensures { result ≡ next_of size }
+// What follows four digits of a packet line.
+fn next_of(advertised: bool, size: Option<usize>) -> Next
+    ensures { result ≡ next_of advertised size }
 {
     match size {
-        Some(2) => Next::Line,
+        Some(0) if advertised => Next::AnswerEnd,
+        Some(2) => Next::Nothing,
         Some(size) => Next::Payload(size.saturating_sub(4)),
         None => Next::Rest,
     }
 }
 
+// Whether the flush packet of the advertisement came, after these digits of a packet line too.
+fn advertised_after(advertised: bool, size: Option<usize>) -> bool
+    ensures { result ≡ advertised_after advertised size }
+{
+    match size {
+        Some(0) => true,
+        _ => advertised,
+    }
+}
+
+// Whether these are the digits of a response-end packet.
+fn is_response_end(size: Option<usize>) -> bool
+    ensures { result ≡ is_number 2 size }
+{
+    match size {
+        Some(size) => size == 2,
+        None => false,
+    }
+}
+
+// How many of four digits are passed on before what follows them.
+fn given_count(next: Next) -> usize
+    ensures { result ≡ given_count next }
+{
+    match next {
+        Next::Payload(_) | Next::Rest => 4,
+        _ => 0,
+    }
+}
+
 impl<R: Read> Answers<R> {
-    /// The packet lines of this reader, which is before one.
+    /// The packet lines of this reader, which is at the start of a capability advertisement.
     pub fn new(reader: R) -> Answers<R>
-        ensures { to_come R.remaining result ≡ option_map without_ends (R.remaining reader) }
+        ensures bytes { to_come R.remaining result ≡ option_map passed_on (R.remaining reader) }
+        ensures unread { result.reader ≡ reader }
+        ensures none_held { result.end ≡ 0 }
     {
         Answers {
             reader,
+            advertised: false,
             digits: [0; 4],
             start: 0,
             end: 0,
@@ -54,7 +89,7 @@ impl<R: Read> Answers<R> {
     // Gives digits that are held.
     fn give(&mut self, buf: &mut [u8]) -> usize
         requires held { self.old.start < self.old.end }
-        requires known { self.old.next ≢ Next.Line }
+        requires known { needs_digits self.old.next ≡ false }
         requires room { 0 < length buf.old }
         ensures some { 0 < result }
         ensures bound { result ≤ length buf.new }
@@ -67,28 +102,64 @@ impl<R: Read> Answers<R> {
         count
     }
 
-    // Takes digits that came, and tells by the fourth what comes.
-    fn take_digits(&mut self, digits: [u8; 4], end: usize)
-        requires next { self.old.next ≡ Next.Line }
-        requires bound { end ≤ 4 }
-        ensures { to_come R.remaining self.new ≡ option_map (told_from (take end digits)) (R.remaining self.old.reader) }
+    // Takes the digits of a packet line, and finds what follows them.
+    fn begin_line(&mut self, digits: [u8; 4])
+        requires { self.old.next ≡ Next.Line }
+        ensures bytes { to_come R.remaining self.new
+            ≡ option_map (told_from self.old.advertised Next.Line digits) (R.remaining self.old.reader) }
+        ensures fewer { steps_of self.new < 6 }
     {
+        let size = size_of(&digits);
+        self.next = next_of(self.advertised, size);
+        self.advertised = advertised_after(self.advertised, size);
         self.digits = digits;
-        if end < 4 {
-            self.end = end;
+        self.end = given_count(self.next);
+    }
+
+    // Takes the digits after an answer's flush packet. Those of a response-end packet let the flush packet be passed on.
+    fn end_answer(&mut self, digits: [u8; 4])
+        requires { self.old.next ≡ Next.AnswerEnd }
+        ensures bytes { to_come R.remaining self.new
+            ≡ option_map (told_from self.old.advertised Next.AnswerEnd digits) (R.remaining self.old.reader) }
+        ensures fewer { steps_of self.new < 1 }
+    {
+        if is_response_end(size_of(&digits)) {
+            self.digits = *b"0000";
+            self.end = 4;
+            self.next = Next::Payload(0);
         } else {
-            self.next = next_of(size_of(&digits));
-            self.end = match self.next {
-                Next::Line => 0,
-                _ => 4,
-            };
+            self.end = 0;
+            self.next = Next::Nothing;
         }
     }
 
-    // Reads digits. Returns whether the reader is at its end, and none is held.
+    // Takes digits that came, and finds by the fourth what follows.
+    fn take_digits(&mut self, digits: [u8; 4], end: usize)
+        requires next { needs_digits self.old.next ≡ true }
+        requires more { self.old.end < end }
+        requires bound { end ≤ 4 }
+        ensures bytes { to_come R.remaining self.new
+            ≡ option_map (told_from self.old.advertised self.old.next (take end digits)) (R.remaining self.old.reader) }
+        ensures fewer { steps_of self.new < steps_of self.old }
+    {
+        if end < 4 {
+            self.digits = digits;
+            self.end = end;
+            return;
+        }
+        match self.next {
+            Next::AnswerEnd => self.end_answer(digits),
+            _ => self.begin_line(digits),
+        }
+    }
+
+    // Reads digits. Returns whether nothing more is passed on, since the reader is at its end. A flush packet that is held then isn't
+    // passed on either.
     fn read_digits(&mut self) -> io::Result<bool>
-        requires { self.old.next ≡ Next.Line }
-        ensures { ReadsDigits (to_come R.remaining self.old) (to_come R.remaining self.new) result }
+        requires { needs_digits self.old.next ≡ true }
+        ensures bytes { ReadsDigits (to_come R.remaining self.old) (to_come R.remaining self.new) (steps_of self.old) (steps_of self.new)
+            result }
+        ensures ended { self.old.next ≡ Next.AnswerEnd → IfOk result (λ ended. ended ≡ true → self.new.next ≡ Next.Nothing) }
     {
         let mut digits = self.digits;
         let count = self.reader.read(&mut digits[self.end..])?;
@@ -96,11 +167,20 @@ impl<R: Read> Answers<R> {
             self.take_digits(digits, self.end + count);
             return Ok(false);
         }
-        if self.end == 0 {
-            return Ok(true);
+        match self.next {
+            Next::AnswerEnd => {
+                self.end = 0;
+                self.next = Next::Nothing;
+                Ok(true)
+            }
+            _ => {
+                if self.end == 0 {
+                    return Ok(true);
+                }
+                self.next = Next::Rest;
+                Ok(false)
+            }
         }
-        self.next = Next::Rest;
-        Ok(false)
     }
 
     // Reads of a payload.
@@ -121,10 +201,11 @@ impl<R: Read> Answers<R> {
     // Gives what it can, or takes a step without it.
     fn step(&mut self, buf: &mut [u8]) -> io::Result<Option<usize>>
         requires { 0 < length buf.old }
-        ensures { GivesOrSteps (to_come R.remaining self.old) (to_come R.remaining self.new) buf.new result }
+        ensures { GivesOrSteps (to_come R.remaining self.old) (to_come R.remaining self.new) (steps_of self.old) (steps_of self.new)
+            buf.new result }
     {
         match self.next {
-            Next::Line => {
+            Next::Line | Next::AnswerEnd => {
                 if self.read_digits()? {
                     return Ok(Some(0));
                 }
@@ -148,6 +229,12 @@ impl<R: Read> Answers<R> {
                 }
                 Ok(Some(self.reader.read(buf)?))
             }
+            Next::Nothing => {
+                if self.start < self.end {
+                    return Ok(Some(self.give(buf)));
+                }
+                Ok(Some(0))
+            }
         }
     }
 }
@@ -159,12 +246,10 @@ impl<R: Read> Read for Answers<R> {
         if buf.is_empty() {
             return Ok(0);
         }
-        for _ in 0..u64::MAX {
+        loop {
             if let Some(count) = self.step(buf)? {
                 return Ok(count);
             }
         }
-        // not within a lifetime
-        Err(io::Error::from(ErrorKind::TimedOut))
     }
 }

@@ -1,12 +1,23 @@
-//! The law of what a reader gives, as a function without a body whose contract is the law.
-ghost use Rattle.std.specs.Prelude.{ℕ, List};
-ghost use Rattle.gixp_packetline.specs.Frames.{Frame, End};
+//! Laws of what a reader passes on, each a function without a body whose contract is the law.
+ghost use Rattle.std.specs.Prelude.{◌≡◌, ℕ, List, ◌∷◌, ◌++◌};
+ghost use Rattle.gixp_packetline.specs.Frames.{Frame, special, End};
 ghost use Rattle.gixp_packetline.specs.Grammar.{AreFrames};
-ghost use Rattle.gixp_stateless.specs.Answers.{without_ends};
+ghost use Rattle.gixp_packetline.specs.declared.protocol.MessageKind.TheVariants.{Flush, ResponseEnd};
+ghost use Rattle.gixp_stateless.specs.Answers.{passed_on};
 ghost use Rattle.gixp_stateless.specs.Others.{without_response_ends};
+ghost use Rattle.gixp_stateless.specs.Whole.{whole_stream};
 
-/// The packet lines that are given are those that came, without the response-end packets, and they end alike.
-pub fn packet_lines_are_the_others()
+/// The packet lines that are passed on are those of the advertisement and of the whole answers after it.
+pub fn packet_lines_are_of_whole_answers()
     ensures { (bytes : List ℕ) (frames : List Frame) (end : End) → AreFrames bytes frames end
-        → AreFrames (without_ends bytes) (without_response_ends frames) end }
+        → AreFrames (passed_on bytes) (whole_stream frames end).list (whole_stream frames end).end }
+{}
+
+/// Where a flush packet is passed on after the advertisement's, a response-end packet directly followed it, and the packet lines that
+/// are passed on before it are those that came before it.
+pub fn flush_packets_end_whole_answers()
+    ensures { (frames first second after : List Frame) (end : End)
+        → (whole_stream frames end).list ≡ first ++ special Flush ∷ (second ++ special Flush ∷ after)
+        → (before more : List Frame) × (frames ≡ before ++ special Flush ∷ special ResponseEnd ∷ more)
+        × (without_response_ends before ≡ first ++ special Flush ∷ second) }
 {}

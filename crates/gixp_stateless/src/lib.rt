@@ -1,5 +1,5 @@
-//! What a server without state says, whose answers come each by itself, as over HTTP: packet lines, and after each answer a
-//! response-end packet (gitremote-helpers, "stateless-connect"; gitprotocol-v2, "Packet-Line Framing").
+//! The answers of a server without state, as `git remote-https` passes them on: the capability advertisement, and then each answer
+//! with a response-end packet after it (gitremote-helpers, "stateless-connect"; gitprotocol-v2, "Packet-Line Framing").
 #![tactic(auto)]
 
 mod answers;

@@ -13,12 +13,17 @@ pub(crate) fn push_line(
     stream.extend_from_slice(payload)
 }
 
-/// The packet lines of these payloads. One that is empty is a flush packet.
+/// A payload that stands for a delimiter packet.
+pub(crate) const DELIMITER: &[u8] = b"0001";
+
+/// The packet lines of these payloads. One that is empty is a flush packet, and `DELIMITER` a delimiter packet.
 pub(crate) fn lines(alloc: Global, payloads: &[&[u8]]) -> Result<Vec<u8>, AllocError> {
     let mut stream = Vec::new(alloc);
     for payload in payloads {
         if payload.is_empty() {
             stream.extend_from_slice(b"0000")?;
+        } else if *payload == DELIMITER {
+            stream.extend_from_slice(DELIMITER)?;
         } else {
             push_line(alloc, &mut stream, payload)?;
         }

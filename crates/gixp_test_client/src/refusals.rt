@@ -2,7 +2,8 @@
 use crate::fetches::{branches, fetch, fetch_into, unless_memory};
 use crate::lines::lines;
 use crate::servers::{
-    DENIED, EMPTY, GREETING, OLD, OLD_PACK, OLDER, PACK, REFS, REPORTED, UNPACKED, server,
+    DENIED, EMPTY, GREETING, OLD, OLD_PACK, OLDER, PACK, REFS, REPORTED, SHA256, UNENDED, UNPACKED,
+    server,
 };
 use crate::unreadable::Unreadable;
 use gixp_client::{Error, Session, Silent, State, over_streams};
@@ -51,6 +52,16 @@ const NEW: &[(&[&[&[u8]]], &str, Option<State>)] = &[
         &[GREETING, DENIED],
         "the server said: access denied",
         Some(State::Ended),
+    ),
+    (
+        &[GREETING, UNENDED],
+        "expected flush after ref listing",
+        Some(State::Broken),
+    ),
+    (
+        &[SHA256],
+        "mismatched algorithms: client sha1; server sha256",
+        Some(State::AtStop),
     ),
     (
         &[GREETING, REFS, DENIED],

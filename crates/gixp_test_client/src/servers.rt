@@ -1,5 +1,5 @@
 //! What servers say.
-use crate::lines::lines;
+use crate::lines::{DELIMITER, lines};
 use bstr::BString;
 use gixp_wire::{Bodies, Body};
 use std::alloc::{AllocError, Global};
@@ -17,6 +17,21 @@ pub(crate) const GREETING: &[&[u8]] = &[
 /// Its refs.
 pub(crate) const REFS: &[&[u8]] = &[
     b"7257effbd41e1233eaae5744e614c5c728e3c979 refs/heads/main\n",
+    b"",
+];
+
+/// The same list, which ends at a delimiter packet.
+pub(crate) const UNENDED: &[&[u8]] = &[
+    b"7257effbd41e1233eaae5744e614c5c728e3c979 refs/heads/main\n",
+    DELIMITER,
+];
+
+/// What a server says first that names objects by SHA-256.
+pub(crate) const SHA256: &[&[u8]] = &[
+    b"version 2\n",
+    b"ls-refs=unborn\n",
+    b"fetch=shallow\n",
+    b"object-format=sha256\n",
     b"",
 ];
 

@@ -2,3 +2,4 @@ pub mod Text
 pub mod Decoded
 pub mod Host
 pub mod Url
+pub mod Password

@@ -121,7 +121,7 @@ fn is_scheme_byte(byte: u8) -> bool
 }
 
 // Whether a text may be a scheme.
-fn is_scheme(text: &[u8]) -> bool
+pub(crate) fn is_scheme(text: &[u8]) -> bool
     ensures { result ≡ list_all is_scheme_byte text.now }
 {
     text.iter().all(|byte| is_scheme_byte(*byte))

@@ -4,6 +4,8 @@
 mod address;
 mod decode;
 mod host;
+mod password;
 mod text;
 
 pub use address::{Address, Transport, UrlError};
+pub use password::redacted;

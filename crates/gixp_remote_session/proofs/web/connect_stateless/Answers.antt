@@ -5,12 +5,12 @@ use Rattle.gixp_remote_session.proofs.web.connect_stateless.Goals as goal
 
 pub returns-clause-outcome : goal.returns-clause-outcome
 returns-clause-outcome g c =
-    refused_by_list c.args.is_quiet (g.R.Read.remaining c.args.from.now) (g.R.Read.remaining c.set_verbosity.new.from)
-    (g.R.Read.remaining c.ask.new.from) c.in_ok-line.line.items c.refusal.result c.in_ok-set_verbosity.ensures.heard
-    c.in_ok-set_verbosity.ensures.rest c.in_ok-line.ensures.line c.in_ok-line.ensures.rest (search rules) c.refusal.ensures.outcome
+    refused_by_list c.args.is_quiet c.args.family (g.R.Read.remaining c.args.from.now) (g.R.Read.remaining c.set_options.new.from)
+    (g.R.Read.remaining c.ask.new.from) c.in_ok-line.line.items c.refusal.result c.in_ok-set_options.ensures.heard
+    c.in_ok-set_options.ensures.rest c.in_ok-line.ensures.line c.in_ok-line.ensures.rest (search rules) c.refusal.ensures.outcome
 
 pub returns-clause-asked : goal.returns-clause-asked
 returns-clause-asked g c =
-    asked_list c.args.is_quiet (g.W.Write.contents c.args.to.now) (g.W.Write.contents c.set_verbosity.new.to)
-    (g.W.Write.contents c.ask.new.to) (g.W.Write.contents c.refusal.new.to) c.refusal.result c.in_ok-set_verbosity.ensures.asked
+    asked_list c.args.is_quiet c.args.family (g.W.Write.contents c.args.to.now) (g.W.Write.contents c.set_options.new.to)
+    (g.W.Write.contents c.ask.new.to) (g.W.Write.contents c.refusal.new.to) c.refusal.result c.in_ok-set_options.ensures.asked
     c.in_ok-line.ensures.asked c.refusal.ensures.asked

@@ -1,7 +1,7 @@
 -- A ref map of a session.
-use Rattle.std.proofs.Common.{inr, ap, ◌∙◌}
+use Rattle.std.proofs.Common.{inr, ap, refl, ◌∙◌}
 use Rattle.gixp_requests.specs.Command.{agent_feature}
-use Rattle.gixp_client.proofs.MapLemmas.{state_behind_map}
+use Rattle.gixp_client.proofs.MapLemmas.{state_behind_map, unmapped_by, whole_by}
 use Rattle.gixp_client.proofs.RunLemmas.{as_obtained}
 use Rattle.gixp_client.proofs.session.Session.map.Goals as goal
 
@@ -9,19 +9,23 @@ pub returns-in-Ok-clause-mapped : goal.returns-in-Ok-clause-mapped
 returns-in-Ok-clause-mapped g c = record {
   context = c.in_ok-context.context;
   asked = c.in_ok-context.ensures;
-  obtains = as_obtained _ _ _ _ _ _ _ _ _ _ c.table.ensures (c.in_ok-name.ensures ∙ ap agent_feature c.as_str.ensures.value)
-      c.in-Ok.ensures.map;
+  obtains = as_obtained _ _ _ _ _ _ _ _ _ _ _ c.table.ensures (c.in_ok-name.ensures ∙ ap agent_feature c.as_str.ensures.value)
+      c.in-Ok.ensures.made.0 c.obtain-made.ensures.map;
 }
+
+pub returns-in-Ok-clause-whole : goal.returns-in-Ok-clause-whole
+returns-in-Ok-clause-whole g c =
+    whole_by _ _ _ _ c.in-Ok.ensures.made.1 c.are_whole.ensures c.has_refs-is_here.ensures
 
 pub returns-in-Err-clause-refused : goal.returns-in-Err-clause-refused
 returns-in-Err-clause-refused g c = inr (
-  c.in-Err.e,
+  c.obtain-made.result,
   record {
     context = c.in_ok-context.context;
     asked = c.in_ok-context.ensures;
-    obtains = as_obtained _ _ _ _ _ _ _ _ _ _ c.table.ensures (c.in_ok-name.ensures ∙ ap agent_feature c.as_str.ensures.value)
-        c.in-Err.ensures.map;
+    obtains = as_obtained _ _ _ _ _ _ _ _ _ _ _ c.table.ensures (c.in_ok-name.ensures ∙ ap agent_feature c.as_str.ensures.value)
+        refl c.obtain-made.ensures.map;
   },
-  c.from-e.ensures,
-  state_behind_map _ _ _ _ _ _ c.behind_map-self.ensures c.has_refs-is_here.ensures c.from-e.ensures,
+  unmapped_by _ _ _ _ _ _ c.in-Err.ensures.whole c.are_whole.ensures c.has_refs-is_here.ensures,
+  state_behind_map _ _ _ _ _ _ c.behind_map-self.ensures c.has_refs-is_here.ensures refl,
 )

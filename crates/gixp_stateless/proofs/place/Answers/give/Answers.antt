@@ -13,5 +13,5 @@ returns-clause-given g c =
     let len : length copied ≡ n = ap length is ∙ range_length s.digits s.start n (omega arith) in
     let front : take n (copied ++ drop n c.args.buf.now) ≡ slice_range s.digits s.start (s.start + n) =
     take-append-le n copied (drop n c.args.buf.now) (omega (arith, len)) ∙ (take_all n copied (omega (arith, len)) ∙ is) in
-    gives_digits (g.R.Read.remaining s.reader) s.next _ _ _ c.requires.known
+    gives_digits (g.R.Read.remaining s.reader) s.advertised s.next _ _ _ c.requires.known
     (range_parts s.digits s.start n s.end (omega arith) ∙ ap (λ xs. xs ++ slice_range s.digits (s.start + n) s.end) (sym front))

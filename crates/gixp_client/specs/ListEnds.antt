@@ -1,0 +1,53 @@
+-- Which refs are listed, and where a list of refs ends (gitprotocol-v2, "ls-refs", "object-format").
+use Rattle.std.specs.Prelude.{◌≡◌, ◌||◌, ⊤, Bool, true, false, List, Option, Some, Vec, Result, Ok, Err}
+use Rattle.std.specs.declared.alloc.Global.{Global}
+use Rattle.bstr.specs.Owned.{bstring_bytes}
+use Rattle.gixp_packetline.specs.declared.protocol.MessageKind.{MessageKind}
+use Rattle.gixp_packetline.specs.declared.protocol.MessageKind.TheVariants.{Flush}
+use Rattle.gixp_capabilities.specs.Capabilities.{CapabilityValue}
+use Rattle.gixp_refs.specs.declared.handshake.Ref.{Ref}
+use Rattle.gixp_refmap.specs.Mapping.{unknown_format}
+use Rattle.gixp_refmap.specs.declared.ls_refs.error.Error.{Error as ListError}
+use Rattle.gixp_refmap.specs.declared.refmap.init.Error.{Error as MapError}
+use Rattle.gixp_refmap.specs.declared.refmap.init.Error.TheVariants as init
+use Rattle.gixp_refmap.specs.declared.refmap.map.RefMap.{RefMap}
+use Rattle.gixp_client.specs.ClientError.{of_list, of_init}
+use Rattle.gixp_client.specs.declared.error.Error.{Error}
+use Rattle.gixp_client.specs.declared.error.Error.TheVariants.{UnknownObjectFormat, UnterminatedRefs, Over, Memory}
+
+-- the server isn't asked for refs: the session is over, the server names objects by another hash function than SHA-1, or an allocation
+-- failed
+abbrev pub IsUnasked : List CapabilityValue → Error → Type 0
+IsUnasked caps Over = ⊤
+IsUnasked caps (UnknownObjectFormat format) = unknown_format caps ≡ Some (bstring_bytes format)
+IsUnasked caps Memory = ⊤
+IsUnasked caps _ = ⊥
+
+-- a list is ended by a flush packet: at a delimiter packet it isn't
+abbrev pub is_flush : Option MessageKind → Bool
+is_flush (Some Flush) = true
+is_flush _ = false
+
+-- the refs of a list, if that is ended
+abbrev pub whole_refs : Result (Vec Ref Global) ListError → Bool → Result (Vec Ref Global) Error
+whole_refs (Ok refs) true = Ok refs
+whole_refs (Ok refs) false = Err UnterminatedRefs
+whole_refs (Err e) is_ended = Err (of_list e)
+
+-- the refs of a ref map are whole: they were here, or the list that it was made of is ended
+abbrev pub are_whole : (are_here : Bool) → Option MessageKind → Bool
+are_whole are_here stopped = are_here || is_flush stopped
+
+-- why there is no ref map where the reader is at no flush packet: refs that were read aren't whole, whether they can be mapped or not
+abbrev pub of_unended : MapError → Error
+of_unended (init.UnknownObjectFormat format) = UnterminatedRefs
+of_unended (init.MappingValidation e) = UnterminatedRefs
+of_unended (init.ListRefs e) = of_list e
+of_unended init.Memory = Memory
+
+-- the ref map of refs, if these are whole
+abbrev pub whole_map : Result RefMap MapError → Bool → Result RefMap Error
+whole_map (Ok m) true = Ok m
+whole_map (Ok m) false = Err UnterminatedRefs
+whole_map (Err e) true = Err (of_init e)
+whole_map (Err e) false = Err (of_unended e)

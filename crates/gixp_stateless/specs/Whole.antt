@@ -1,0 +1,22 @@
+-- The packet lines that are passed on: the capability advertisement, and then whole answers (gitprotocol-v2, "Capability Advertisement",
+-- "Packet-Line Framing"; gitremote-helpers, "stateless-connect").
+use Rattle.std.specs.Prelude.{List, [], ◌∷◌}
+use Rattle.gixp_packetline.specs.Frames.{Frame, payload, special, End, ended, Frames, no_frames, with_frame}
+use Rattle.gixp_packetline.specs.declared.protocol.MessageKind.TheVariants.{Flush, Delimiter, ResponseEnd}
+
+-- an answer is packet lines, a flush packet, and directly after it a response-end packet, which isn't passed on; at anything else the
+-- stream ends
+abbrev pub whole_answers : List Frame → End → Frames
+whole_answers [] end = no_frames end
+whole_answers (payload p ∷ frames) end = with_frame (payload p) (whole_answers frames end)
+whole_answers (special Delimiter ∷ frames) end = with_frame (special Delimiter) (whole_answers frames end)
+whole_answers (special Flush ∷ special ResponseEnd ∷ frames) end = with_frame (special Flush) (whole_answers frames end)
+whole_answers _ end = no_frames ended
+
+-- the advertisement is packet lines and a flush packet, and answers follow
+abbrev pub whole_stream : List Frame → End → Frames
+whole_stream [] end = no_frames end
+whole_stream (payload p ∷ frames) end = with_frame (payload p) (whole_stream frames end)
+whole_stream (special Delimiter ∷ frames) end = with_frame (special Delimiter) (whole_stream frames end)
+whole_stream (special Flush ∷ frames) end = with_frame (special Flush) (whole_answers frames end)
+whole_stream _ end = no_frames ended
