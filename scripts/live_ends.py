@@ -6,7 +6,7 @@ import signal
 import subprocess
 import time
 
-from live_harness import by_both, end_session, leaves_nothing, make, running
+from live_harness import PROCESSES, by_both, end_session, files_left, leaves_nothing, make, running
 from live_servers import GREETING, daemon_of, has_loopback, here_ssh, shell_ssh, ssh
 
 MOMENTS = 20
@@ -17,8 +17,7 @@ TRICKLE = "import os, time\nwhile said := os.read(0, 700): os.write(1, said); ti
 # seconds in which git is to end behind a signal, on a machine that has other work
 AT_ONCE = 5
 SIGNALS = signal.SIGTERM, signal.SIGINT, signal.SIGHUP
-PROCESSES = "index-pack", "upload-pack", "pack-objects", "rev-list", "cat-file", "git-remote-gixp", "slow-pack"
-FILES = "objects/pack/*.keep", "objects/pack/tmp_*", "objects/tmp_objdir*", "*.lock"
+SERVERS = "upload-pack", "pack-objects", "slow-pack"
 
 
 def frozen(name, t):
@@ -58,12 +57,12 @@ def hungry(name, t):
     t.check(name, all(status == 128 and "early EOF" in err for status, out, err in ends) and leaves_nothing(t), ends)
 
 
-def left_by(t, client, files=FILES):
-    """What a fetch that was ended left behind: processes, folders, locks."""
+def left_by(t, client=None):
+    """What a fetch that was ended left behind after six seconds: processes, and files of a client."""
     until = time.monotonic() + 6
     while True:
-        processes = [id for word in (*PROCESSES, t.remote.name) for id in running(word, t.room)]
-        left = [*t.room.glob("gixp.*"), *(path for pattern in files for path in client.glob(pattern))]
+        processes = running((*PROCESSES, *SERVERS, t.remote.name), t.room)
+        left = [*files_left(client), *client.glob("objects/pack/tmp_*")] if client else []
         if not (processes or left) or time.monotonic() > until:
             return f"{processes} {left}" if processes or left else ""
         time.sleep(0.05)
@@ -147,7 +146,7 @@ def orphaned(name, t):
         mark.touch()
         took = kill_at(t, t.begin(*words, at=client), "git-remote-gixp", number, signal.SIGKILL, 0.015)
         mark.unlink()
-        left = left_by(t, client, ())
+        left = left_by(t)
         clean = t.run("git", "fsck", "--connectivity-only", at=client)[0] == 0
         status, out, err = t.run(*words, at=client)
         works = status == 0 and t.run("git", "rev-parse", "refs/x/m", at=client)[1] == tip
@@ -155,7 +154,7 @@ def orphaned(name, t):
     # the program waits for a server that waits for it: the watcher ends it
     begun = t.begin("git", "ls-remote", "gixp::ssh://nowhere/x", more=shell_ssh(t, "exec cat"))
     took = kill_at(t, begun, "git-remote-gixp", 1, signal.SIGKILL, 0.3)
-    left = left_by(t, t.room, ())
+    left = left_by(t)
     t.check(f"{name}, a silent server", took is not None and not left, f"{took} {left}")
 
 
