@@ -27,7 +27,8 @@ and from git's own documents, never from what the program printed. A row's lines
                         variable, `=@local` for those of `git rev-parse --local-env-vars`, `=@question` for a question's
     | MORE              goes on with a request, or with a text
     ! ANSWER            what it answers, where it isn't 0; `! end`: it has ended
-    says LINE           a packet line of the server that is started next; 0000, 0001 and 0002 are themselves, `pack` an empty pack
+    says LINE           a packet line of the server that is started next; 0000, 0001 and 0002 are themselves, `pack NUMBER`
+                        the header and the trailer of a pack of so many objects, of one where none is told
     says! TEXT          bytes of its
     heard LINE          a packet line that it was told: all of them, in order, where one is named
     heard! TEXT         bytes that it was told before these
@@ -78,9 +79,9 @@ def packet(payload):
     return f"{len(payload) + 4:04x}".encode() + payload
 
 
-def empty_pack():
-    """A pack without objects, on the first band."""
-    head = b"PACK\0\0\0\2\0\0\0\0"
+def pack_of(count):
+    """The header and the trailer of a pack of so many objects, on the first band."""
+    head = b"PACK\0\0\0\2" + count.to_bytes(4, "big")
     return packet(b"\1" + head + hashlib.sha1(head).digest())
 
 
@@ -250,7 +251,11 @@ class Row:
             self.settle()
             self.begun.stdin.close()
         elif word == "says":
-            self.says += empty_pack() if rest == b"pack" else rest if rest in SPECIAL else packet(self.text(rest) + b"\n")
+            kind, _, count = rest.partition(b" ")
+            if kind == b"pack":
+                self.says += pack_of(int(count or 1))
+            else:
+                self.says += rest if rest in SPECIAL else packet(self.text(rest) + b"\n")
         elif word == "says!":
             self.says += self.text(rest)
         elif word == "file":

@@ -20,6 +20,11 @@ abbrev pub limit_in : List ℕ → Option ℕ
 limit_in text =
     if starts_with nat_eq text (codes "-") then None else Some (unwrap_or (number_of (line_of text)) 4294967295)
 
+-- the limit by both settings, where there are such: that of all transfers counts first, and 100 where there is none
+abbrev pub limit_by : Option ℕ → Option ℕ → ℕ
+limit_by (Some transfer) fetch = transfer
+limit_by None fetch = unwrap_or fetch 100
+
 -- what becomes of a clone, of objects that are promised and of objects that git checks is a pack in any case
 abbrev pub may_unpack : Chosen → Bool → Bool
 may_unpack c has_checks = not c.is_cloning && not c.is_from_promisor && not has_checks

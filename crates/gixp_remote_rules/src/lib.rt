@@ -44,7 +44,7 @@ pub use ssh::{
     SshCall, SshError, Variant, first_word, probe_words, server_words, ssh_words, variant_of,
 };
 pub use told::{batch_told, capabilities, tells_closed};
-pub use unpacking::{USUAL_LIMIT, limit_in, may_unpack, pack_count, unpack_words, unpacks};
+pub use unpacking::{limit_by, limit_in, may_unpack, pack_count, unpack_words, unpacks};
 pub use words::{
     checks_closed, here_words, index_words, joined, object_check, object_variables,
     server_variables, web_words,

@@ -3,7 +3,7 @@ ghost use Rattle.std.specs.Prelude.{◌≡◌, ◌≤◌, ◌+◌, length, IfOk,
 ghost use Rattle.std.specs.Option.{option_map};
 ghost use Rattle.bstr.specs.Owned.{bstring_bytes};
 ghost use Rattle.gixp_remote_rules.specs.Choosing.{chosen};
-ghost use Rattle.gixp_remote_rules.specs.Unpacking.{line_of, limit_in, may_unpack, unpacks, word_at, count_by, pack_count, unpack_words};
+ghost use Rattle.gixp_remote_rules.specs.Unpacking.{line_of, limit_in, limit_by, may_unpack, unpacks, word_at, count_by, pack_count, unpack_words};
 ghost use Rattle.std.specs.Str.{bytes_eq};
 
 use crate::dialogue::{Choices, number_of};
@@ -11,9 +11,6 @@ use crate::text::place_of;
 use crate::words::{add, add_all, add_if, shallow_words};
 use bstr::BString;
 use std::alloc::{AllocError, Global};
-
-/// A pack of fewer objects is unpacked, where no setting says otherwise.
-pub const USUAL_LIMIT: u32 = 100;
 
 // A number without its line end.
 fn line_of(text: &[u8]) -> &[u8]
@@ -33,6 +30,16 @@ pub fn limit_in(text: &[u8]) -> Option<u32>
         None
     } else {
         Some(number_of(line_of(text)).unwrap_or(4294967295))
+    }
+}
+
+/// Below how many objects a pack is unpacked, by `transfer.unpackLimit`, or else by `fetch.unpackLimit`.
+pub fn limit_by(transfer: Option<u32>, fetch: Option<u32>) -> u32
+    ensures { result ≡ limit_by transfer fetch }
+{
+    match transfer {
+        Some(limit) => limit,
+        None => fetch.unwrap_or(100),
     }
 }
 

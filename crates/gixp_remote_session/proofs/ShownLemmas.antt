@@ -59,4 +59,7 @@ unshown-more all left rest line shown (Fatal why) h a w = w
 unshown-more all left rest line shown Told h a w = w
 unshown-more all left rest line shown NoRefs h a w = w
 unshown-more all left rest line shown (Word why word) h a w = w
+unshown-more all left rest line shown (Variable name value) h a w = w
+unshown-more all left rest line shown (Password url) h a w = w
+unshown-more all left rest line shown (Ssh error) h a w = w
 unshown-more all left rest line shown Memory h a w = tt

@@ -1,7 +1,18 @@
 -- Where a pack is indexed, and where it is put.
-use Rattle.std.specs.Prelude.{◌≡◌, ◌||◌, ℕ, Bool, List, ◌++◌, map, codes, Option, Some, None, string_bytes}
+use Rattle.std.specs.Prelude.{◌≡◌, ◌==◌, ◌&&◌, ◌||◌, ℕ, Bool, true, false, not, if◌then◌else◌, List, ◌++◌, length, map, codes, Option, Some, None, string_bytes}
+use Rattle.std.specs.Char.{is_ascii_hexdigit}
+use Rattle.std.specs.List.{list_all}
 use Rattle.std.specs.Str.{bytes_eq}
 use Rattle.bstr.specs.Owned.{bstring_bytes}
+use Rattle.gix_protocol.specs.ObjectIdType.{ObjectId}
+use Rattle.gixp_fetch_session.specs.declared.failure.Failure.{Failure}
+use Rattle.gixp_fetch_session.specs.declared.failure.Failure.TheVariants.{PackRefused}
+use Rattle.gixp_remote_rules.specs.Indexed.{id_value, kept_pack}
+use Rattle.gixp_remote_rules.specs.Unpacking.{unpacks}
+use Rattle.gixp_remote_session.specs.declared.pack.PackState.{PackState}
+use Rattle.gixp_remote_session.specs.declared.pack.PackState.TheVariants.{Unreadable, Refused, Kept, Unpacked, Empty}
+use Rattle.gixp_remote_session.specs.declared.trouble.Trouble.{Trouble}
+use Rattle.gixp_remote_session.specs.declared.trouble.Trouble.TheVariants.{Fetch, Fatal}
 use Rattle.gixp_remote_rules.specs.Choosing.{Chosen}
 use Rattle.gixp_remote_rules.specs.Programs.{index_words, object_variables}
 use Rattle.gixp_remote_session.specs.declared.pack.PackPlan.{PackPlan}
@@ -30,6 +41,56 @@ pub record SamePlan (p q : PackPlan) : Type 0 where
   pub bounded : map bstring_bytes q.bounded_words.items ≡ map bstring_bytes p.bounded_words.items
   pub old : q.old.items ≡ p.old.items
   pub variables : map bstring_bytes q.variables.items ≡ map bstring_bytes p.variables.items
+
+-- whether objects came, which git finds in the folder alone
+abbrev pub has_objects : PackState → Bool
+has_objects (Kept kept) = true
+has_objects (Unpacked bounded) = true
+has_objects state = false
+
+-- whether the server named a boundary before a pack
+abbrev pub is_bounded : PackState → Bool
+is_bounded (Kept kept) = kept.is_bounded
+is_bounded (Unpacked bounded) = bounded
+is_bounded (Empty bounded) = bounded
+is_bounded state = false
+
+-- whether a pack of so many objects is unpacked, by the limit where there is one
+abbrev pub is_unpacked : Option ℕ → ℕ → Bool
+is_unpacked None count = false
+is_unpacked (Some limit) count = unpacks limit count
+
+-- what became of a pack of so many objects that git unpacks, by its status
+abbrev pub unpacked_state : ℕ → Bool → ℕ → Option PackState
+unpacked_state count bounded status =
+    if not (status == 0) then None else if count == 0 then Some (Empty bounded) else Some (Unpacked bounded)
+
+-- what became of one that git indexed
+abbrev pub kept_state : ℕ → ObjectId → Bool → ℕ → PackState
+kept_state count hash is_bounded status =
+    if count == 0 then Empty is_bounded else Kept (record { hash = hash; is_bounded = is_bounded; status = status })
+
+-- a pack is kept, or is empty, by the name that git says
+abbrev pub AreIndexed : Bool → ℕ → Option (List ℕ) → ℕ → Option PackState → Type 0
+AreIndexed is_bounded count None status state = state ≡ None
+AreIndexed is_bounded count (Some name) status state =
+    (hash : ObjectId) × (id_value hash ≡ name) × (state ≡ Some (kept_state count hash is_bounded status))
+
+-- what became of a pack, by what git says of it and its status
+abbrev pub IsOutcome : Bool → Bool → ℕ → List ℕ → ℕ → Option PackState → Type 0
+IsOutcome true is_bounded count text status state = state ≡ unpacked_state count is_bounded status
+IsOutcome false is_bounded count text status state = AreIndexed is_bounded count (kept_pack text status) status state
+
+-- why a fetch failed: a pack that can't be read is one of git's own reasons
+abbrev pub TellsFailure : PackState → Failure → Trouble → Type 0
+TellsFailure Unreadable e (Fatal why) = why.now ≡ codes "protocol error: bad pack header"
+TellsFailure Unreadable e _ = ⊥
+TellsFailure Refused e trouble = trouble ≡ Fetch PackRefused
+TellsFailure state e trouble = trouble ≡ Fetch e
+
+-- the name of a folder of objects: the first two hexadecimal digits of their ids
+abbrev pub is_object_folder : List ℕ → Bool
+is_object_folder name = length name == 2 && list_all is_ascii_hexdigit name
 
 -- the files that each pack has
 abbrev pub is_always_there : List ℕ → Bool

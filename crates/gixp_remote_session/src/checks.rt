@@ -136,10 +136,7 @@ pub(crate) fn expect_whole(
     new: Option<&[ObjectId]>,
 ) -> Result<(), Trouble> {
     let alloc = order.reach.rt.alloc();
-    let is_bounded = match &came.kept {
-        Some(kept) => kept.is_bounded,
-        None => false,
-    };
+    let is_bounded = came.pack.is_bounded();
     let variables = came.variables(plan);
     match look_of(order.choices, new.is_some(), is_bounded) {
         Look::Nothing => Ok(()),

@@ -1,6 +1,7 @@
 //! One fetch of objects by their ids.
 ghost use Rattle.std.specs.Prelude.{◌≡◌};
 ghost use Rattle.gixp_remote_session.specs.Leaving.{was_left};
+ghost use Rattle.gixp_remote_session.specs.Packs.{TellsFailure};
 
 use crate::boundary::{
     boundary_of, changed, leave_boundary, lock_boundary, prepare_boundary, replace_boundary,
@@ -13,9 +14,11 @@ use crate::local::Places;
 use crate::order::{
     Order, begin, begin_borrowing, filter_of, haves_for, known, list_commits, map_of, request_of,
 };
-use crate::pack::{Came, IndexedPack, PackPlan, PackState, place};
+use crate::pack::{BAD_HEADER, Came, PackPlan, PackRules, PackState, QuarantinedPack};
+use crate::place::{place, place_objects};
 use crate::shell::Shell;
 use crate::trouble::Trouble;
+use crate::unpacking::limit_of;
 use crate::wire::Talk;
 use bstr::BString;
 use gix_protocol::client;
@@ -94,6 +97,17 @@ fn keep_pack<P: PackPlace>(
     Ok(boundary.with_unasked(alloc)?)
 }
 
+// Why a fetch failed: a pack that can't be read is one of git's own reasons.
+fn trouble_of(pack: PackState, e: Failure) -> Trouble
+    ensures { TellsFailure pack e result }
+{
+    match pack {
+        PackState::Unreadable => Trouble::Fatal(BAD_HEADER),
+        PackState::Refused => Trouble::Fetch(Failure::PackRefused),
+        _ => Trouble::Fetch(e),
+    }
+}
+
 // A fetch over one session, and what became of the pack.
 fn fetch_by(
     plan: Plan<'_, '_, '_>,
@@ -117,13 +131,14 @@ fn fetch_by(
     if session.version() == Protocol::V2 {
         forget(order.reach.bounds);
     }
-    let place = IndexedPack::new(rt.clone()?, shell, pack, order.reach.bounds);
-    let boundary = fetch_over(order.reach, session, asked, repository, commits, place)?;
-    let kept = match shell.pack {
-        PackState::Kept(kept) => Some(kept),
-        PackState::Begun | PackState::Unbegun => None,
-    };
-    Ok(Came { kept, boundary })
+    let place = QuarantinedPack::new(rt.clone()?, shell, pack, order.reach.bounds);
+    match fetch_over(order.reach, session, asked, repository, commits, place) {
+        Ok(boundary) => Ok(Came {
+            pack: shell.pack,
+            boundary,
+        }),
+        Err(e) => Err(trouble_of(shell.pack, e)),
+    }
 }
 
 // Whether a fetch failed since the server had left, before a pack came. A web server is asked anew by each request.
@@ -190,6 +205,28 @@ pub(crate) struct Fetched {
     pub(crate) pack: PackPlan,
 }
 
+// Puts what came where git finds it. Returns the lock of a pack.
+fn put(
+    rt: &HostRuntime,
+    shell: &mut Shell,
+    places: &Places,
+    plan: &PackPlan,
+    pack: PackState,
+) -> Result<Option<BString>, Trouble> {
+    match pack {
+        PackState::Kept(kept) => place(rt, shell, places, plan, &kept.hash),
+        PackState::Unpacked(_) => {
+            place_objects(rt, places, plan)?;
+            Ok(None)
+        }
+        PackState::Unbegun
+        | PackState::Begun
+        | PackState::Unreadable
+        | PackState::Refused
+        | PackState::Empty(_) => Ok(None),
+    }
+}
+
 // Puts the pack and the boundary where git finds them. Whatever else may fail is done before.
 fn finish(
     plan: Plan<'_, '_, '_>,
@@ -214,17 +251,16 @@ fn finish(
         prepare_boundary(order, shell, places, plan.pack, old, new)?;
     }
     expect_whole(order, shell, plan.pack, came, old, new.as_deref())?;
-    let lock = match &came.kept {
-        Some(kept) => place(rt, shell, places, plan.pack, &kept.hash)?,
-        None => None,
-    };
+    let lock = put(rt, shell, places, plan.pack, came.pack)?;
     match &new {
         Some(new) => replace_boundary(rt, shell, places, new)?,
         None => leave_boundary(order.choices, shell, places)?,
     }
-    let is_closed = match &came.kept {
-        Some(kept) => tells_closed(order.choices, kept.is_bounded, was_here, kept.status),
-        None => false,
+    let is_closed = match came.pack {
+        PackState::Kept(kept) => {
+            tells_closed(order.choices, kept.is_bounded, was_here, kept.status)
+        }
+        _ => false,
     };
     Ok(Reply { lock, is_closed })
 }
@@ -253,7 +289,11 @@ pub(crate) fn fetch<'a>(
     }
     let mut repository = known(order, shell, &old, has_alternates, haves)?;
     let checks = checks_of(order, shell)?;
-    let pack = PackPlan::new(rt, &places, folder, order.choices, &checks, &old)?;
+    let rules = PackRules {
+        checks: &checks,
+        limit: limit_of(order, shell, !checks.is_empty())?,
+    };
+    let pack = PackPlan::new(rt, &places, folder, order.choices, rules, &old)?;
     let filter = filter_of(alloc, order.choices)?;
     let plan = Plan {
         order,

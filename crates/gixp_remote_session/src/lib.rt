@@ -13,10 +13,12 @@ mod local;
 mod order;
 mod pack;
 mod pipes;
+mod place;
 mod remote;
 mod setup;
 mod shell;
 mod trouble;
+mod unpacking;
 mod web;
 mod wire;
 

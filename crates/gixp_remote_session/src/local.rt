@@ -4,6 +4,7 @@ ghost use Rattle.std.specs.FinMap as finite;
 ghost use Rattle.std.specs.List.{slice_split, position};
 ghost use Rattle.bstr.specs.BStr.{bstr_bytes};
 ghost use Rattle.bstr.specs.Owned.{bstring_bytes};
+ghost use Rattle.gix_protocol.specs.Repository.{peeled_ids};
 ghost use Rattle.gixp_remote_session.specs.ShownRefs.{id_text, shown_by, shown_line, shown_in, IsUnshown, kind_shown, with_commit, objects_shown, refs_shown};
 ghost use Rattle.gixp_remote_session.specs.ShownPlaces.{AreShownPlaces, boundary_file, fits_format};
 ghost use Rattle.gixp_remote_session.specs.Troubles.{TellsWord};
@@ -304,21 +305,18 @@ pub(crate) fn ask_refs(alloc: Global, shell: &mut Shell) -> Result<(), Trouble> 
     }))
 }
 
-/// What the refs of the repository hold and lead to, which git was asked for.
-pub(crate) fn repository(
-    rt: &HostRuntime,
-    shell: &mut Shell,
+// What is known of the repository by the objects that git lists.
+fn repository_of(
+    alloc: Global,
+    text: &[u8],
     boundary: Vec<ObjectId>,
 ) -> Result<Repository, Trouble>
+    ensures objects { IfOk result (λ r. option_map objects_shown (shown_in text.now) ≡ Some r.objects) }
+    ensures refs { IfOk result (λ r. option_map (λ shown. peeled_ids (refs_shown shown)) (shown_in text.now) ≡ Some (peeled_ids r.refs)) }
     ensures tips { IfOk result (λ r. is_some r.tips ≡ true) }
     ensures boundary { IfOk result (λ r. r.boundary ≡ boundary) }
 {
-    let alloc = rt.alloc();
-    let text = fs::read(rt, REFS)?;
-    if shell.ask(&Request::Status(Task::Refs))? != 0 {
-        return Err(Trouble::Other("the repository can't be read"));
-    }
-    let shown = shown_in(alloc, &text)?;
+    let shown = shown_in(alloc, text)?;
     let objects = objects_of(alloc, &shown)?;
     let mut refs = refs_of(alloc, &shown)?;
     let tips = Some(tips_of(alloc, &mut refs, &objects)?);
@@ -328,4 +326,21 @@ pub(crate) fn repository(
         tips,
         boundary,
     })
+}
+
+/// What the refs of the repository hold and lead to, which git was asked for. Where a tag leads to an object that is lost, git doesn't
+/// tell, and nothing is known.
+pub(crate) fn repository(
+    rt: &HostRuntime,
+    shell: &mut Shell,
+    boundary: Vec<ObjectId>,
+) -> Result<Repository, Trouble>
+    ensures boundary { IfOk result (λ r. r.boundary ≡ boundary) }
+{
+    let text = fs::read(rt, REFS)?;
+    if shell.ask(&Request::Status(Task::Refs))? == 0 {
+        repository_of(rt.alloc(), &text, boundary)
+    } else {
+        Ok(new_repository(rt.alloc(), boundary))
+    }
 }

@@ -1,9 +1,8 @@
-//! Where the pack goes: git indexes it in a folder for objects of its own, and it is put beside the others once it is wanted.
-ghost use Rattle.std.specs.Prelude.{◌≡◌, ⊤, ◌∷◌, [], ◌++◌, true, false, map, codes, None, is_some, IfOk, IfSome, OnOk, string_bytes};
+//! Where the pack goes: git indexes it, or unpacks it, in a folder for objects of its own.
+ghost use Rattle.std.specs.Prelude.{◌≡◌, ◌≤◌, ◌-◌, ◌&&◌, ⊤, ◌∷◌, [], ◌++◌, true, false, not, min, map, codes, IfOk, IfSome, OnOk, string_bytes};
 ghost use Rattle.bstr.specs.Owned.{bstring_bytes};
 ghost use Rattle.gixp_remote_rules.specs.Choosing.{chosen};
-ghost use Rattle.gixp_remote_rules.specs.Indexed.{pack_file};
-ghost use Rattle.gixp_remote_session.specs.Packs.{pack_folder, IsPlan, SamePlan, is_always_there};
+ghost use Rattle.gixp_remote_session.specs.Packs.{pack_folder, IsPlan, SamePlan, has_objects, is_bounded, is_unpacked, unpacked_state, kept_state, IsOutcome};
 ghost use Rattle.gixp_remote_session.specs.Troubles.{kind_of};
 
 use crate::bounded::Bounds;
@@ -17,16 +16,19 @@ use gix_protocol::fetch::shallow_text;
 use gix_protocol::transport::ObjectId;
 use gixp_fetch_local::PackPlace;
 use gixp_remote_rules::{
-    Choices, Program, Request, Start, Task, index_words, kept_pack, object_variables, pack_file,
-    pack_variables,
+    Choices, Program, Request, Start, Task, index_words, kept_pack, object_variables, pack_count,
+    pack_variables, unpack_words, unpacks,
 };
-use std::alloc::Global;
+use std::alloc::{AllocError, Global};
 use std::cell::RefCell;
 use std::fs::{File, OpenOptions};
 use std::io::{ErrorKind, Read, Write};
-use std::{fs, io};
+use std::{fs, io, mem};
 
-/// What is reported to git of the pack, and where it is put.
+/// What git says of a pack that doesn't begin as one does.
+pub(crate) const BAD_HEADER: &str = "protocol error: bad pack header";
+
+/// Where the pack is put, and by which words and variables of git's.
 #[derive(Drop)]
 pub(crate) struct PackPlan {
     /// The folder in which it is indexed.
@@ -41,6 +43,19 @@ pub(crate) struct PackPlan {
     pub(crate) old: Vec<ObjectId>,
     /// The variables that make git look into that folder.
     pub(crate) variables: Vec<BString>,
+    /// A pack of fewer objects is unpacked; none where each is kept.
+    pub(crate) limit: Option<u32>,
+    /// Whether progress is shown.
+    pub(crate) shows_progress: bool,
+}
+
+/// What the user's settings choose of a pack.
+#[derive(Clone, Copy)]
+pub(crate) struct PackRules<'a> {
+    /// The words for what is checked of its objects.
+    pub(crate) checks: &'a [BString],
+    /// A pack of fewer objects is unpacked; none where each is kept.
+    pub(crate) limit: Option<u32>,
 }
 
 // The words of `git index-pack`, by whether the server named a boundary.
@@ -53,20 +68,6 @@ fn words_by<'x>(
     ensures unbounded { is_bounded ≡ false → result.now ≡ words.now }
 {
     if is_bounded { bounded_words } else { words }
-}
-
-// Has git started that indexes the pack.
-fn start_git(shell: &mut Shell, variables: &[BString], words: &[BString]) -> Result<(), Trouble> {
-    let start = Start {
-        task: Task::Pack,
-        program: Program::Git,
-        input: PACK,
-        output: KEPT,
-        variables,
-        words,
-    };
-    shell.ask(&Request::Start(start))?;
-    Ok(())
 }
 
 // A word more.
@@ -149,27 +150,32 @@ impl PackPlan {
             shallow: self.shallow.clone()?,
             old: Vec::from_slice(alloc, &self.old)?,
             variables: copied(alloc, &self.variables)?,
+            limit: self.limit,
+            shows_progress: self.shows_progress,
         })
     }
 
-    /// A pack for the folder of this name. `checks` are the words for what is checked of its objects.
+    /// A pack for the folder of this name.
     pub(crate) fn new(
         rt: &HostRuntime,
         places: &Places,
         name: &[u8],
         choices: &Choices,
-        checks: &[BString],
+        rules: PackRules<'_>,
         old: &[ObjectId],
     ) -> Result<PackPlan, Trouble>
-        ensures plan { IfOk result (IsPlan (string_bytes places.now.objects) name.now (chosen choices.now) (map bstring_bytes checks.now)) }
+        ensures plan { IfOk result (IsPlan (string_bytes places.now.objects) name.now (chosen choices.now) (map bstring_bytes rules.entry.checks.now)) }
+        ensures limit { IfOk result (λ p. p.limit ≡ rules.entry.limit) }
+        ensures progress { IfOk result (λ p. p.shows_progress ≡ (choices.now.shows_progress && not choices.now.is_quiet)) }
         ensures old { IfOk result (λ p. p.old.items ≡ old.now) }
     {
         let alloc = rt.alloc();
         let room = room_of(name)?;
         let folder = folder_beside(alloc, places.objects.as_str(), room)?;
         let shallow = boundary_in(alloc, folder.as_str())?;
-        let words = index_words(alloc, name, None, choices, checks)?;
-        let bounded_words = index_words(alloc, name, Some(shallow.as_bytes()), choices, checks)?;
+        let words = index_words(alloc, name, None, choices, rules.checks)?;
+        let bounded_words =
+            index_words(alloc, name, Some(shallow.as_bytes()), choices, rules.checks)?;
         let more = variable(rt, "GIT_ALTERNATE_OBJECT_DIRECTORIES");
         let more = match &more {
             Some(more) => Some(more.as_bytes()),
@@ -188,21 +194,10 @@ impl PackPlan {
             shallow,
             old: Vec::from_slice(alloc, old)?,
             variables,
+            limit: rules.limit,
+            shows_progress: choices.tells_progress(),
         })
     }
-}
-
-/// A pack that git indexes as it comes.
-#[derive(Drop)]
-pub(crate) struct IndexedPack<'a> {
-    rt: HostRuntime,
-    shell: &'a mut Shell,
-    plan: PackPlan,
-    bounds: &'a RefCell<Bounds>,
-    /// What git says of the pack, once it is begun.
-    told: Option<File>,
-    /// Whether the server named a boundary before it.
-    is_bounded: bool,
 }
 
 /// What became of a pack.
@@ -210,10 +205,18 @@ pub(crate) struct IndexedPack<'a> {
 pub(crate) enum PackState {
     /// None came.
     Unbegun,
-    /// It isn't indexed.
+    /// It began, and isn't in the folder.
     Begun,
-    /// It is.
+    /// It doesn't begin as a pack does.
+    Unreadable,
+    /// It is indexed.
     Kept(Kept),
+    /// git ended before it had all of it.
+    Refused,
+    /// Its objects are in the folder; and whether the server named a boundary before it.
+    Unpacked(bool),
+    /// It has no objects; and whether the server named a boundary before it.
+    Empty(bool),
 }
 
 /// A pack that is indexed.
@@ -227,11 +230,40 @@ pub(crate) struct Kept {
     pub(crate) status: u32,
 }
 
+impl PackState {
+    /// Whether objects came, which git finds in the folder alone.
+    pub(crate) fn has_objects(self) -> bool
+        ensures { result ≡ has_objects self }
+    {
+        match self {
+            PackState::Kept(_) | PackState::Unpacked(_) => true,
+            PackState::Unbegun
+            | PackState::Begun
+            | PackState::Unreadable
+            | PackState::Refused
+            | PackState::Empty(_) => false,
+        }
+    }
+
+    /// Whether the server named a boundary before a pack.
+    pub(crate) fn is_bounded(self) -> bool
+        ensures { result ≡ is_bounded self }
+    {
+        match self {
+            PackState::Kept(kept) => kept.is_bounded,
+            PackState::Unpacked(is_bounded) | PackState::Empty(is_bounded) => is_bounded,
+            PackState::Unbegun | PackState::Begun | PackState::Unreadable | PackState::Refused => {
+                false
+            }
+        }
+    }
+}
+
 /// What comes of a fetch.
 #[derive(Drop)]
 pub(crate) struct Came {
-    /// The pack, if one came.
-    pub(crate) kept: Option<Kept>,
+    /// What became of the pack.
+    pub(crate) pack: PackState,
     /// The boundary as the server makes it.
     pub(crate) boundary: Vec<ObjectId>,
 }
@@ -239,12 +271,13 @@ pub(crate) struct Came {
 impl Came {
     /// The variables by which git sees what came, if anything did.
     pub(crate) fn variables<'x>(&self, plan: &'x PackPlan) -> &'x [BString]
-        ensures came { is_some self.now.kept ≡ true → result.now ≡ plan.now.variables.items }
-        ensures none { is_some self.now.kept ≡ false → result.now ≡ [] }
+        ensures came { has_objects self.now.pack ≡ true → result.now ≡ plan.now.variables.items }
+        ensures none { has_objects self.now.pack ≡ false → result.now ≡ [] }
     {
-        match self.kept {
-            Some(_) => &plan.variables,
-            None => &[],
+        if self.pack.has_objects() {
+            &plan.variables
+        } else {
+            &[]
         }
     }
 }
@@ -260,55 +293,47 @@ fn kind_of(e: &Trouble) -> ErrorKind
     }
 }
 
-/// What the pack is written into: the pipe to git. Where it can't be opened, each write says why, since a pack is begun in any
-/// case.
+// Has git started that takes the pack.
+fn start_git(shell: &mut Shell, variables: &[BString], words: &[BString]) -> Result<(), Trouble> {
+    let start = Start {
+        task: Task::Pack,
+        program: Program::Git,
+        input: PACK,
+        output: KEPT,
+        variables,
+        words,
+    };
+    shell.ask(&Request::Start(start))?;
+    Ok(())
+}
+
+// Whether a pack of so many objects is unpacked.
+fn is_unpacked(limit: Option<u32>, count: u32) -> bool
+    ensures { result ≡ is_unpacked limit count }
+{
+    match limit {
+        Some(limit) => unpacks(limit, count),
+        None => false,
+    }
+}
+
+// What is done with a pack: git takes it into the folder of its plan.
 #[derive(Drop)]
-pub(crate) enum PackWriter {
-    /// The pipe.
-    Open(File),
-    /// It can't be opened, with this kind.
-    Failed(ErrorKind),
+struct Job<'a> {
+    rt: HostRuntime,
+    shell: &'a mut Shell,
+    plan: PackPlan,
+    bounds: &'a RefCell<Bounds>,
+    // What git says of the pack, once it is started.
+    told: Option<File>,
+    // Whether the server named a boundary before it.
+    is_bounded: bool,
+    // How many objects it has, and whether they are unpacked.
+    count: u32,
+    is_unpacked: bool,
 }
 
-impl Write for PackWriter {
-    fn write(&mut self, buf: &[u8]) -> io::Result<usize> {
-        match self {
-            PackWriter::Open(file) => file.write(buf),
-            PackWriter::Failed(kind) => Err(io::Error::from(*kind)),
-        }
-    }
-
-    fn flush(&mut self) -> io::Result<()> {
-        match self {
-            PackWriter::Open(file) => file.flush(),
-            PackWriter::Failed(kind) => Err(io::Error::from(*kind)),
-        }
-    }
-}
-
-impl<'a> IndexedPack<'a> {
-    /// Before a pack comes.
-    pub(crate) fn new(
-        rt: HostRuntime,
-        shell: &'a mut Shell,
-        plan: PackPlan,
-        bounds: &'a RefCell<Bounds>,
-    ) -> IndexedPack<'a>
-        ensures plan { result.plan ≡ plan }
-        ensures told { result.told ≡ None }
-        ensures bounded { result.is_bounded ≡ false }
-    {
-        shell.pack = PackState::Unbegun;
-        IndexedPack {
-            rt,
-            shell,
-            plan,
-            bounds,
-            told: None,
-            is_bounded: false,
-        }
-    }
-
+impl Job<'_> {
     // Writes what the server makes of the boundary into its file. Returns whether it said something of it.
     fn write_boundary(&self) -> Result<bool, Trouble> {
         let alloc = self.rt.alloc();
@@ -324,25 +349,59 @@ impl<'a> IndexedPack<'a> {
         Ok(true)
     }
 
-    // Starts git, and opens the two pipes.
-    fn start(&mut self) -> Result<File, Trouble> {
+    // Makes the folder, and writes the boundary.
+    fn prepare(&mut self) -> Result<(), Trouble> {
         make_folder(&self.rt, self.shell, &self.plan)?;
         self.is_bounded = self.write_boundary()?;
+        self.shell.pack = PackState::Begun;
+        Ok(())
+    }
+
+    // The variables of git that takes the pack.
+    fn variables(&self) -> Result<Vec<BString>, AllocError> {
+        pack_variables(self.rt.alloc(), within(&self.rt), &self.plan.variables)
+    }
+
+    // Starts git that unpacks the objects.
+    fn start_unpacking(&mut self) -> Result<(), Trouble> {
+        let shallow = if self.is_bounded {
+            Some(self.plan.shallow.as_bytes())
+        } else {
+            None
+        };
+        let words = unpack_words(self.rt.alloc(), shallow, self.plan.shows_progress)?;
+        start_git(self.shell, &self.variables()?, &words)
+    }
+
+    // Starts git that indexes the pack.
+    fn start_indexing(&mut self) -> Result<(), Trouble> {
         let words = words_by(&self.plan.words, &self.plan.bounded_words, self.is_bounded);
-        let variables = pack_variables(self.rt.alloc(), within(&self.rt), &self.plan.variables)?;
-        start_git(self.shell, &variables, words)?;
+        start_git(self.shell, &self.variables()?, words)
+    }
+
+    // Starts git for a pack of this header, opens the two pipes, and passes the header on.
+    fn start(&mut self, header: &[u8]) -> Result<File, Trouble> {
+        let Some(count) = pack_count(header) else {
+            self.shell.pack = PackState::Unreadable;
+            return Err(Trouble::Fatal(BAD_HEADER));
+        };
+        self.count = count;
+        self.is_unpacked = is_unpacked(self.plan.limit, count);
+        if self.is_unpacked {
+            self.start_unpacking()?;
+        } else {
+            self.start_indexing()?;
+        }
         // what is offered is offered: the list takes its time to end, and nothing waits for that now
         self.shell.end(Task::Listing)?;
-        let writer = OpenOptions::new().write(true).open(&self.rt, PACK)?;
+        let mut writer = OpenOptions::new().write(true).open(&self.rt, PACK)?;
         self.told = Some(File::open(&self.rt, KEPT)?);
-        self.shell.pack = PackState::Begun;
+        writer.write_all(header)?;
         Ok(writer)
     }
 
-    // Waits until it is indexed.
-    fn finish(&mut self) -> Result<Kept, Trouble>
-        ensures { IfOk result (λ kept. kept.is_bounded ≡ self.old.is_bounded) }
-    {
+    // Waits until git is done.
+    fn finish(&mut self) -> Result<PackState, Trouble> {
         // the shell waits meanwhile, as git says too little to wait for a reader
         self.shell.send(&Request::Status(Task::Pack))?;
         let mut text = Vec::new(self.rt.alloc());
@@ -350,19 +409,182 @@ impl<'a> IndexedPack<'a> {
             told.read_to_end(&mut text)?;
         }
         let status = self.shell.settle()?;
-        match kept_pack(&text, status) {
-            Some(hash) => Ok(Kept {
-                hash,
-                is_bounded: self.is_bounded,
-                status,
-            }),
+        match self.outcome(&text, status) {
+            Some(state) => Ok(state),
             None => Err(Trouble::Other("git refused the pack")),
+        }
+    }
+
+    // Notes that a write failed: git has ended, and said why.
+    fn note(&mut self, kind: ErrorKind) {
+        if kind == ErrorKind::BrokenPipe {
+            self.shell.pack = PackState::Refused;
+        }
+    }
+
+    // What became of the pack, by what git says of it and its status.
+    fn outcome(&self, text: &[u8], status: u32) -> Option<PackState>
+        ensures { IsOutcome self.now.is_unpacked self.now.is_bounded self.now.count text.now status result }
+    {
+        if self.is_unpacked {
+            return unpacked_state(self.count, self.is_bounded, status);
+        }
+        match kept_pack(text, status) {
+            Some(hash) => Some(kept_state(self.count, hash, self.is_bounded, status)),
+            None => None,
         }
     }
 }
 
-impl PackPlace for IndexedPack<'_> {
-    type Writer = PackWriter;
+// What became of a pack whose objects git unpacks.
+fn unpacked_state(count: u32, is_bounded: bool, status: u32) -> Option<PackState>
+    ensures { result ≡ unpacked_state count is_bounded status }
+{
+    if status != 0 {
+        None
+    } else if count == 0 {
+        Some(PackState::Empty(is_bounded))
+    } else {
+        Some(PackState::Unpacked(is_bounded))
+    }
+}
+
+// What became of a pack that git indexed.
+fn kept_state(count: u32, hash: ObjectId, is_bounded: bool, status: u32) -> PackState
+    ensures { result ≡ kept_state count hash is_bounded status }
+{
+    if count == 0 {
+        PackState::Empty(is_bounded)
+    } else {
+        PackState::Kept(Kept {
+            hash,
+            is_bounded,
+            status,
+        })
+    }
+}
+
+// Where the bytes of a pack go.
+#[derive(Drop)]
+enum Stream {
+    // They are the first of the header, by which git is started.
+    Header(Vec<u8>),
+    // The pipe to git.
+    Git(File),
+    // They can't be taken, with this kind.
+    Failed(ErrorKind),
+}
+
+// How many bytes a header has.
+const HEADER_LEN: usize = 12;
+
+// How many of the next bytes belong to a header of which so many are known.
+fn missing(known: usize, size: usize) -> usize
+    ensures value { result ≡ min (12 - known) size }
+    ensures within { result ≤ size }
+{
+    HEADER_LEN.saturating_sub(known).min(size)
+}
+
+/// What a pack is written into. Where nothing can be written, each write says why, since a pack is begun in any case.
+#[derive(Drop)]
+pub(crate) struct PackWriter<'a> {
+    job: Job<'a>,
+    stream: Stream,
+}
+
+impl PackWriter<'_> {
+    // Takes bytes of the header. Returns how many, and whether it is whole.
+    fn take_header(header: &mut Vec<u8>, buf: &[u8]) -> io::Result<(usize, bool)> {
+        let count = missing(header.len(), buf.len());
+        match header.extend_from_slice(&buf[..count]) {
+            Ok(()) => Ok((count, header.len() == HEADER_LEN)),
+            Err(_) => Err(io::Error::from(ErrorKind::OutOfMemory)),
+        }
+    }
+
+    // Starts git for the header that came.
+    fn start(&mut self) -> io::Result<()> {
+        let stream = mem::replace(&mut self.stream, Stream::Failed(ErrorKind::Other));
+        let Stream::Header(header) = stream else {
+            return Err(io::Error::from(ErrorKind::Other));
+        };
+        match self.job.start(&header) {
+            Ok(file) => {
+                self.stream = Stream::Git(file);
+                Ok(())
+            }
+            Err(e) => {
+                self.stream = Stream::Failed(kind_of(&e));
+                Err(io::Error::from(kind_of(&e)))
+            }
+        }
+    }
+}
+
+impl Write for PackWriter<'_> {
+    fn write(&mut self, buf: &[u8]) -> io::Result<usize> {
+        let (count, is_whole) = match &mut self.stream {
+            Stream::Header(header) => PackWriter::take_header(header, buf)?,
+            Stream::Git(file) => match file.write(buf) {
+                Ok(count) => return Ok(count),
+                Err(e) => {
+                    self.job.note(e.kind());
+                    return Err(e);
+                }
+            },
+            Stream::Failed(kind) => return Err(io::Error::from(*kind)),
+        };
+        if is_whole {
+            self.start()?;
+        }
+        Ok(count)
+    }
+
+    fn flush(&mut self) -> io::Result<()> {
+        match &mut self.stream {
+            Stream::Header(_) => Ok(()),
+            Stream::Git(file) => file.flush(),
+            Stream::Failed(kind) => Err(io::Error::from(*kind)),
+        }
+    }
+}
+
+/// A pack that git takes into a folder of its own as it comes.
+#[derive(Drop)]
+pub(crate) struct QuarantinedPack<'a> {
+    // What is done with it, unless it is being written.
+    job: Option<Job<'a>>,
+}
+
+impl<'a> QuarantinedPack<'a> {
+    /// Before a pack comes.
+    pub(crate) fn new(
+        rt: HostRuntime,
+        shell: &'a mut Shell,
+        plan: PackPlan,
+        bounds: &'a RefCell<Bounds>,
+    ) -> QuarantinedPack<'a>
+        ensures plan { IfSome result.job (λ job. job.plan ≡ plan) }
+    {
+        shell.pack = PackState::Unbegun;
+        QuarantinedPack {
+            job: Some(Job {
+                rt,
+                shell,
+                plan,
+                bounds,
+                told: None,
+                is_bounded: false,
+                count: 0,
+                is_unpacked: false,
+            }),
+        }
+    }
+}
+
+impl<'a> PackPlace for QuarantinedPack<'a> {
+    type Writer = PackWriter<'a>;
 
     ghost begins = { λ p w q. ⊤ };
 
@@ -370,89 +592,36 @@ impl PackPlace for IndexedPack<'_> {
 
     ghost gives_up = { λ p w q. ⊤ };
 
-    fn begin(&mut self) -> io::Result<PackWriter> {
-        match self.start() {
-            Ok(file) => Ok(PackWriter::Open(file)),
-            Err(e) => Ok(PackWriter::Failed(kind_of(&e))),
-        }
+    fn begin(&mut self) -> io::Result<PackWriter<'a>> {
+        let Some(mut job) = self.job.take() else {
+            return Err(io::Error::from(ErrorKind::Other));
+        };
+        let stream = match job.prepare() {
+            Ok(()) => Stream::Header(Vec::new(job.rt.alloc())),
+            Err(e) => Stream::Failed(kind_of(&e)),
+        };
+        Ok(PackWriter { job, stream })
     }
 
-    fn keep(&mut self, writer: PackWriter) -> io::Result<()> {
-        drop(writer);
-        match self.finish() {
-            Ok(kept) => {
-                self.shell.pack = PackState::Kept(kept);
+    fn keep(&mut self, writer: PackWriter<'a>) -> io::Result<()> {
+        let PackWriter { mut job, stream } = writer;
+        drop(stream);
+        let kept = match job.finish() {
+            Ok(state) => {
+                job.shell.pack = state;
                 Ok(())
             }
             Err(e) => Err(io::Error::from(kind_of(&e))),
-        }
+        };
+        self.job = Some(job);
+        kept
     }
 
-    fn give_up(&mut self, _writer: PackWriter) {
-        let _ = self.shell.end(Task::Pack);
-        self.told = None;
-    }
-}
-
-// A path as files are opened by.
-fn path_of(path: &[u8]) -> Result<&str, Trouble>
-    ensures { IfOk result (λ p. p.now ≡ path.now) }
-{
-    match path.to_str() {
-        Ok(path) => Ok(path),
-        Err(_) => Err(Trouble::Other("a path of the objects is no UTF-8")),
-    }
-}
-
-// Whether every pack has a file of this kind.
-fn is_always_there(end: &[u8]) -> bool
-    ensures { result ≡ is_always_there end.now }
-{
-    end == b".pack".as_slice() || end == b".idx".as_slice()
-}
-
-// Gives a file of a pack its place beside the others, if there is one.
-fn move_file(rt: &HostRuntime, from: &[u8], to: &[u8], end: &[u8]) -> Result<(), Trouble> {
-    let one = path_of(from)?;
-    if is_always_there(end) || fs::metadata(rt, one).is_ok() {
-        fs::rename(rt, one, path_of(to)?)?;
-    }
-    Ok(())
-}
-
-/// Puts a pack beside the others, its lock first and its index last. Returns the path of its lock; none where the same pack is
-/// there already.
-pub(crate) fn place(
-    rt: &HostRuntime,
-    shell: &mut Shell,
-    places: &Places,
-    plan: &PackPlan,
-    hash: &ObjectId,
-) -> Result<Option<BString>, Trouble>
-    ensures { IfOk result (λ lock. IfSome lock (λ l. bstring_bytes l
-        ≡ pack_file (string_bytes places.now.objects) hash.now (codes ".keep"))) }
-{
-    let alloc = rt.alloc();
-    let from = plan.folder.as_bytes();
-    let to = places.objects.as_bytes();
-    let index = pack_file(alloc, to, hash, b".idx")?;
-    if fs::metadata(rt, path_of(&index)?).is_ok() {
-        return Ok(None);
-    }
-    // a folder for objects may have none for packs, as git's own for what a hook looks at
-    fs::create_dir_all(rt, format!(in alloc; "{}/pack", places.objects)?.as_str())?;
-    let lock = pack_file(alloc, to, hash, b".keep")?;
-    let status = shell.ask(&Request::Hold(&lock))?;
-    // a pack whose missing objects are promised is none before it says so
-    for end in [b".promisor".as_slice(), b".pack", b".rev", b".idx"] {
-        let one = pack_file(alloc, from, hash, end)?;
-        let other = pack_file(alloc, to, hash, end)?;
-        move_file(rt, &one, &other, end)?;
-    }
-    let _ = fs::remove_file(rt, path_of(&pack_file(alloc, from, hash, b".keep")?)?);
-    if status == 0 {
-        Ok(Some(BString::from(lock)))
-    } else {
-        Ok(None)
+    fn give_up(&mut self, writer: PackWriter<'a>) {
+        let PackWriter { mut job, stream } = writer;
+        drop(stream);
+        let _ = job.shell.end(Task::Pack);
+        job.told = None;
+        self.job = Some(job);
     }
 }
