@@ -6,8 +6,8 @@ import re
 import shutil
 import subprocess
 
-from live_harness import by_both, by_path, clone_both, is_clean, leaves_nothing, make, same, state
-from live_servers import here_ssh, shell_ssh, ssh
+from live_harness import by_both, by_path, clone_both, grow, leaves_nothing, make, same, state
+from live_servers import here_ssh, shell_ssh
 
 # Open files
 
@@ -182,35 +182,35 @@ touch "$go"; wait $fetch || exit 5; sleep 1; kill -0 $other || exit 6; kill $oth
 """
 
 
-def reused_number(name, t, who, words):
-    """A process that got the number of one that the helper began, and that ended, gets no signal."""
-    server, room = make(t, "server", 5), t.folder("reuse")
+def git_that_waits(t, room, who, waits, numbered):
+    """git's programs, of which one waits: the server ends before a pack is indexed, or the list of commits before the server's pack."""
+    core, place = t.git("--exec-path").strip(), shutil.which("git")
     room.mkdir()
-    waiting, numbered, go = (room / word for word in ("waiting", "numbered", "go"))
-    client = t.folder("client")
-    t.git("clone", "-q", "--bare", f"file://{server}", client)
-    tools, core = room / "core", t.git("--exec-path").strip()
-    tools.mkdir()
     for path in os.listdir(core):
         if path != "git":
-            (tools / path).symlink_to(f"{core}/{path}")
-    waits = f'touch "{waiting}"; while [ ! -e "{go}" ]; do sleep 0.05; done'
-    cases = {"server": f'*" index-pack "*) {shutil.which("git")} "$@"; r=$?; {waits}; exit $r ;;',
-             "listing": f'*" rev-list "*--parents*) echo $$ > "{numbered}" ;;'}
-    (tools / "git").write_text(f'#!/bin/bash\ncase " $* " in {cases[who]}\nesac\nexec {shutil.which("git")} "$@"\n')
-    hook = room / "hook"
-    hook.write_text("#!/bin/sh\n" + (waits if who == "listing" else ":") + '\nexec "$@"\n')
-    for path in (tools / "git", hook):
+            (room / path).symlink_to(f"{core}/{path}")
+    case = {"server": f'*" index-pack "*) {place} "$@"; r=$?; {waits}; exit $r ;;',
+            "listing": f'*" rev-list "*--parents*) echo $$ > "{numbered}" ;;'}[who]
+    (room / "git").write_text(f'#!/bin/bash\ncase " $* " in {case}\nesac\nexec {place} "$@"\n')
+    (room / "hook").write_text("#!/bin/sh\n" + (waits if who == "listing" else ":") + '\nexec "$@"\n')
+    for path in (room / "git", room / "hook"):
         path.chmod(0o755)
-    t.git("config", "--global", "uploadpack.packObjectsHook", hook)
+    t.git("config", "--global", "uploadpack.packObjectsHook", room / "hook")
+    return {"GIT_EXEC_PATH": str(room)}
+
+
+def reused_number(name, t, who):
+    """A process that got the number of one that the helper began, and that ended, gets no signal."""
+    server, client, begin, script = make(t, "server", 5), t.folder("client"), t.folder("begin"), t.folder("script")
+    waiting, numbered, go = (t.folder(word) for word in ("waiting", "numbered", "go"))
+    t.git("clone", "-q", "--bare", f"file://{server}", client)
+    grow(t, server, 1)
+    waits = f'touch "{waiting}"; while [ ! -e "{go}" ]; do sleep 0.05; done'
     number = f'echo $$ > "{numbered}"' if who == "server" else ":"
-    more = {**shell_ssh(t, f'{number}\nunset GIT_DIR\nexec git upload-pack "{server}"'), "GIT_EXEC_PATH": str(tools), "GIXP_VERSION": "0"}
-    grown = t.git("commit-tree", "-p", "main", "-m", "x", "main^{tree}", at=server).strip()
-    t.git("update-ref", "refs/heads/main", grown, at=server)
-    begin = room / "begin"
+    more = {**git_that_waits(t, t.folder("core"), who, waits, numbered), "GIXP_VERSION": "0",
+            **shell_ssh(t, f'{number}\nunset GIT_DIR\nexec git upload-pack "{server}"')}
     begin.write_text(f'waiting="{waiting}" numbered="{numbered}" go="{go}"\ncd "{client}"\n'
-                     f'timeout 60 git fetch -q {words} "{by_both("/x")[1]}" main:refs/x/a & fetch=$!\n')
-    script = room / "script"
+                     f'timeout 60 git fetch -q "{by_both("/x")[1]}" main:refs/x/a & fetch=$!\n')
     script.write_text(REUSE)
     status, out, err = t.run("unshare", "--pid", "--fork", "--mount-proc", "bash", script, begin, more=more)
     t.check(name, status == 0, f"{status} {err}")
@@ -251,6 +251,6 @@ def try_caller(t):
         t.case(f"caller: {name}", action)
     if can_unshare():
         for who in ("server", "listing"):
-            t.case(f"caller: the number of a {who} that ended", reused_number, who, "")
+            t.case(f"caller: the number of a {who} that ended", reused_number, who)
     else:
         print("numbers of processes that ended aren't tried: that needs root and unshare", flush=True)

@@ -38,15 +38,34 @@ def frozen(name, t):
     t.check(f"{name}: no repository", status != 0 and leaves_nothing(t), err)
 
 
+def asking(t, *requests, answers=0):
+    """A program in place of ours that makes requests of its shell, reads so many answers, and writes the last down."""
+    program, told = t.folder("program"), t.folder("told")
+    text = "".join(f"{len(request)}\n{request}" for request in requests)
+    reads = "read -r answer <&6\n" * answers + (f'echo "$answer" > "{told}"\n' if answers else "")
+    program.write_text(f"#!/bin/sh\nexec 5> \"$3\" 6< \"$4\"\ncat >&5 <<'end'\n{text}end\n{reads}exit 3\n")
+    program.chmod(0o755)
+    return program, told
+
+
 def unanswered(name, t):
     """A program that ends without the answers that it asked for: its shell says nothing of that."""
-    program = t.folder("program")
-    requests = "start question command /dev/null /dev/null\n sleep\n 0.3\n", "status question\n"
-    text = "".join(f"{len(request)}\n{request}" for request in requests)
-    program.write_text(f"#!/bin/sh\ncat > \"$3\" <<'end'\n{text}end\nexit 3\n")
-    program.chmod(0o755)
+    program, _ = asking(t, "start question command /dev/null /dev/null\n sleep\n 0.3\n", "status question\n")
     status, out, err = t.run("git", "ls-remote", "gixp::/x", more={"GIXP_REMOTE": program})
     t.check(name, status != 0 and "write error" not in err and leaves_nothing(t), f"{status} {err}")
+
+
+def last_words(name, t):
+    """A server gets the end of its input, and time to end by itself; one that runs on is ended, and one that heeds no signal killed."""
+    for text, wanted, least, most in (("cat; exit 9", "9", 0, 5), ("sleep 2; exit 8", "8", 2, 6), ("sleep 100", "143", 3, 20),
+                                      ('trap "" TERM; while :; do sleep 1; done', "137", 3, 20)):
+        start = f"start server command 20 /dev/null\n sh\n -c\n {text}\n"
+        program, told = asking(t, start, "status server\n", answers=2)
+        at = time.monotonic()
+        status, out, err = t.run("git", "ls-remote", "gixp::/x", more={"GIXP_REMOTE": program})
+        took = time.monotonic() - at
+        is_right = told.exists() and told.read_text().strip() == wanted and least <= took < most
+        t.check(f"{name}: {text}", is_right and leaves_nothing(t), f"{took:.1f} s {told.exists() and told.read_text()} {err}")
 
 
 def hungry(name, t):
@@ -162,6 +181,7 @@ def try_ends(t):
     t.case("a server that freezes", frozen)
     t.case("a pack that wants more", hungry)
     t.case("a program that wants no answer", unanswered)
+    t.case("the end of a server's input", last_words)
     ours, term, kill = t.remote.name, signal.SIGTERM, signal.SIGKILL
     for who, sent in (
         ("git-remote-gixp", term), (ours, term), (ours, kill), ("index-pack", term), ("index-pack", kill), ("upload-pack", term),

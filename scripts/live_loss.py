@@ -2,8 +2,7 @@
 import shutil
 import time
 
-from live_harness import (by_both, by_path, clone_both, counts, files_left, grow, is_clean, leaves_nothing, make, refs_of, same,
-                          state)
+from live_harness import by_both, by_path, clone_both, counts, files_left, grow, is_clean, leaves_nothing, make, refs_of, state
 from live_httpd import web_of
 from live_servers import GREETING, ended_after, frame, saying_ssh, ssh
 from live_web import urls_of
