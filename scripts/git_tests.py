@@ -166,7 +166,8 @@ class Suite:
     def run_by_git(self, script):
         """The results of git alone, which are stored."""
         stored = self.work / "plain" / "results" / f"{script}.tap"
-        return Ran(script, stored, stored.with_suffix(".log"), 0) if stored.exists() else self.run(script, False)
+        ran = Ran(script, stored, stored.with_suffix(".log"), 0) if stored.exists() else None
+        return ran if ran and ran.is_whole else self.run(script, False)
 
 
 class Ran:
