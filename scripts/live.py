@@ -11,6 +11,7 @@ must leave the same refs and the same boundary, and a repository that `git fsck 
 answers are bodies of their own, as of HTTP. Connections are counted, and haves that a list of commits offers. Then come servers
 that die, that send errors or nonsense, and one that freezes: an error, and nothing left behind. Each process of a fetch gets
 signals at moments of it. git daemon, sshd and web servers are tried where there is a loopback, and sshd where it is installed.
+Lists and packs are cut, boundaries changed, and objects lost; the caller leaves files open, and sets variables that shells heed.
 No process may stay behind an action, and one that takes a minute is ended, and failed.
 
 Prints a line for each that failed, and `N passed, M failed`. Ends with 1 where one failed. git is needed.
@@ -22,9 +23,12 @@ import sys
 import tempfile
 import time
 
+from live_caller import try_caller
 from live_cases import try_bodies, try_clones, try_fetches, try_harm, try_haves, try_liars, try_ways
 from live_ends import try_ends
 from live_harness import CRATE, REMOTE, Tester
+from live_httpd import web_servers
+from live_loss import try_loss, try_web_loss
 from live_program import try_program
 from live_seen import try_seen
 from live_servers import has_loopback
@@ -53,10 +57,12 @@ def main():
         room = (given.keep or pathlib.Path(temporary) / "room").resolve()
         t = Tester(room, program, remote, given.only, given.jobs, bool(given.keep))
         began = time.time()
-        for some in (try_ends, try_clones, try_fetches, try_haves, try_bodies, try_harm, try_ways, try_liars, try_program, try_seen):
+        for some in (try_ends, try_clones, try_fetches, try_haves, try_bodies, try_harm, try_ways, try_liars, try_program, try_seen,
+                     try_loss, try_caller):
             some(t)
         if has_loopback():
             try_web(t)
+            try_web_loss(t, web_servers()[0])
         t.finish(given.again)
         print(f"{t.passed} passed, {t.failed} failed", flush=True)
         print(f"{time.time() - began:.0f} s", file=sys.stderr)

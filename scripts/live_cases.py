@@ -575,22 +575,6 @@ def dates(name, t):
         same(t, f"{name}: {since}", by_git, by_us, first, second)
 
 
-def older_bash(name, t):
-    """A bash that makes a file of a word, and no pipe, as 5.0 does."""
-    server = make(t, "server", 30, tags=True)
-    for words in ([], ["--depth", "3"]):
-        same(t, f"{name}: {words}", *clone_both(t, server, *words, urls=by_both(server), more={"BASH_COMPAT": "5.0"}))
-
-
-def locales(name, t):
-    """A path that is no ASCII, in locales whose characters are bytes and aren't, and in one that isn't there, of which bash warns once."""
-    server = make(t, "sërvér 中", 30, tags=True)
-    for locale in ("C", "C.UTF-8", "xx_YY.UTF-8"):
-        by_git, by_us, first, second = clone_both(t, server, urls=by_both(server), more={"LC_ALL": locale})
-        same(t, f"{name}: {locale}", by_git, by_us, first, second)
-        t.check(f"{name}: {locale}, warnings", second[2].count("setlocale") == locale.startswith("xx"), second[2])
-
-
 def other_formats(name, t):
     """A repository of SHA-256 takes nothing from a server of SHA-1, and a clone that begins as one becomes what the server is."""
     server, more = make(t, "server", 3), {"GIT_DEFAULT_HASH": "sha256"}
@@ -611,7 +595,6 @@ def try_harm(t):
         ("a linked work tree", work_trees), ("a shallow server", shallow_servers), ("borrowed objects", borrowed),
         ("a pack that builds on a promised object", built_on_promised), ("a spoiled boundary", spoiled_boundaries),
         ("a locked boundary", locked_boundary), ("evil objects", evil_objects), ("locks of packs", locks_of_packs),
-        ("the server's environment", environments), ("dates", dates), ("an older bash", older_bash),
-        ("locales", locales), ("another hash function", other_formats),
+        ("the server's environment", environments), ("dates", dates), ("another hash function", other_formats),
     ):
         t.case(name, action)

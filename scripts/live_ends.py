@@ -6,7 +6,7 @@ import signal
 import subprocess
 import time
 
-from live_harness import by_both, end_session, leaves_nothing, make, running
+from live_harness import PROCESSES, by_both, end_session, files_left, leaves_nothing, make, running
 from live_servers import GREETING, daemon_of, has_loopback, here_ssh, shell_ssh, ssh
 
 MOMENTS = 20
@@ -17,8 +17,7 @@ TRICKLE = "import os, time\nwhile said := os.read(0, 700): os.write(1, said); ti
 # seconds in which git is to end behind a signal, on a machine that has other work
 AT_ONCE = 5
 SIGNALS = signal.SIGTERM, signal.SIGINT, signal.SIGHUP
-PROCESSES = "index-pack", "upload-pack", "pack-objects", "rev-list", "cat-file", "git-remote-gixp", "slow-pack"
-FILES = "objects/pack/*.keep", "objects/pack/tmp_*", "objects/tmp_objdir*", "*.lock"
+SERVERS = "upload-pack", "pack-objects", "slow-pack"
 
 
 def frozen(name, t):
@@ -39,15 +38,34 @@ def frozen(name, t):
     t.check(f"{name}: no repository", status != 0 and leaves_nothing(t), err)
 
 
+def asking(t, *requests, answers=0):
+    """A program in place of ours that makes requests of its shell, reads so many answers, and writes the last down."""
+    program, told = t.folder("program"), t.folder("told")
+    text = "".join(f"{len(request)}\n{request}" for request in requests)
+    reads = "read -r answer <&6\n" * answers + (f'echo "$answer" > "{told}"\n' if answers else "")
+    program.write_text(f"#!/bin/sh\nexec 5> \"$3\" 6< \"$4\"\ncat >&5 <<'end'\n{text}end\n{reads}exit 3\n")
+    program.chmod(0o755)
+    return program, told
+
+
 def unanswered(name, t):
     """A program that ends without the answers that it asked for: its shell says nothing of that."""
-    program = t.folder("program")
-    requests = "start question command /dev/null /dev/null\n sleep\n 0.3\n", "status question\n"
-    text = "".join(f"{len(request)}\n{request}" for request in requests)
-    program.write_text(f"#!/bin/sh\ncat > \"$3\" <<'end'\n{text}end\nexit 3\n")
-    program.chmod(0o755)
+    program, _ = asking(t, "start question command /dev/null /dev/null\n sleep\n 0.3\n", "status question\n")
     status, out, err = t.run("git", "ls-remote", "gixp::/x", more={"GIXP_REMOTE": program})
     t.check(name, status != 0 and "write error" not in err and leaves_nothing(t), f"{status} {err}")
+
+
+def last_words(name, t):
+    """A server gets the end of its input, and time to end by itself; one that runs on is ended, and one that heeds no signal killed."""
+    for text, wanted, least, most in (("cat; exit 9", "9", 0, 5), ("sleep 2; exit 8", "8", 2, 6), ("sleep 100", "143", 3, 20),
+                                      ('trap "" TERM; while :; do sleep 1; done', "137", 3, 20)):
+        start = f"start server command 20 /dev/null\n sh\n -c\n {text}\n"
+        program, told = asking(t, start, "status server\n", answers=2)
+        at = time.monotonic()
+        status, out, err = t.run("git", "ls-remote", "gixp::/x", more={"GIXP_REMOTE": program})
+        took = time.monotonic() - at
+        is_right = told.exists() and told.read_text().strip() == wanted and least <= took < most
+        t.check(f"{name}: {text}", is_right and leaves_nothing(t), f"{took:.1f} s {told.exists() and told.read_text()} {err}")
 
 
 def hungry(name, t):
@@ -58,12 +76,12 @@ def hungry(name, t):
     t.check(name, all(status == 128 and "early EOF" in err for status, out, err in ends) and leaves_nothing(t), ends)
 
 
-def left_by(t, client, files=FILES):
-    """What a fetch that was ended left behind: processes, folders, locks."""
+def left_by(t, client=None):
+    """What a fetch that was ended left behind after six seconds: processes, and files of a client."""
     until = time.monotonic() + 6
     while True:
-        processes = [id for word in (*PROCESSES, t.remote.name) for id in running(word, t.room)]
-        left = [*t.room.glob("gixp.*"), *(path for pattern in files for path in client.glob(pattern))]
+        processes = running((*PROCESSES, *SERVERS, t.remote.name), t.room)
+        left = [*files_left(client), *client.glob("objects/pack/tmp_*")] if client else []
         if not (processes or left) or time.monotonic() > until:
             return f"{processes} {left}" if processes or left else ""
         time.sleep(0.05)
@@ -147,7 +165,7 @@ def orphaned(name, t):
         mark.touch()
         took = kill_at(t, t.begin(*words, at=client), "git-remote-gixp", number, signal.SIGKILL, 0.015)
         mark.unlink()
-        left = left_by(t, client, ())
+        left = left_by(t)
         clean = t.run("git", "fsck", "--connectivity-only", at=client)[0] == 0
         status, out, err = t.run(*words, at=client)
         works = status == 0 and t.run("git", "rev-parse", "refs/x/m", at=client)[1] == tip
@@ -155,7 +173,7 @@ def orphaned(name, t):
     # the program waits for a server that waits for it: the watcher ends it
     begun = t.begin("git", "ls-remote", "gixp::ssh://nowhere/x", more=shell_ssh(t, "exec cat"))
     took = kill_at(t, begun, "git-remote-gixp", 1, signal.SIGKILL, 0.3)
-    left = left_by(t, t.room, ())
+    left = left_by(t)
     t.check(f"{name}, a silent server", took is not None and not left, f"{took} {left}")
 
 
@@ -163,6 +181,7 @@ def try_ends(t):
     t.case("a server that freezes", frozen)
     t.case("a pack that wants more", hungry)
     t.case("a program that wants no answer", unanswered)
+    t.case("the end of a server's input", last_words)
     ours, term, kill = t.remote.name, signal.SIGTERM, signal.SIGKILL
     for who, sent in (
         ("git-remote-gixp", term), (ours, term), (ours, kill), ("index-pack", term), ("index-pack", kill), ("upload-pack", term),

@@ -21,6 +21,10 @@ TIMEOUT = 60
 GRACE = 6
 # words of git's behind which no process may stay
 FETCHES = {"clone", "fetch", "ls-remote"}
+# programs that run for a fetch alone
+PROCESSES = "git-remote-gixp", "index-pack", "rev-list", "cat-file", "show-ref", "remote-http"
+# what a lock of the user's own has in it
+USERS = b"mine"
 
 
 class Tester:
@@ -166,13 +170,14 @@ def end_session(begun, grace=0):
 
 
 def running(word, room):
-    """The processes with this word among theirs that stand in this room, or were started for it."""
+    """The processes with this word, or one of these, among theirs that stand in this room, or were started for it."""
+    wanted = (word,) if isinstance(word, str) else word
     found = []
     for process in pathlib.Path("/proc").glob("[0-9]*"):
         try:
             words = (process / "cmdline").read_bytes().decode("latin1").split("\0")
             place = os.readlink(process / "cwd") + " " + " ".join(words)
-            if str(room) in place and any(word in one.split("/")[-1] for one in words[:3]):
+            if str(room) in place and any(word in one.split("/")[-1] for one in words[:3] for word in wanted):
                 found.append(int(process.name))
         except OSError:
             pass
@@ -235,13 +240,19 @@ def is_clean(t, repository):
     """Whether it is whole, and nothing of the helper is left."""
     status, out, err = t.run("git", "fsck", "--strict", "--connectivity-only", at=repository)
     git_dir = pathlib.Path(t.git("rev-parse", "--absolute-git-dir", at=repository).strip())
-    left = [*git_dir.glob("objects/pack/*.keep"), *git_dir.glob("*.lock"), *t.room.glob("gixp.*")]
+    left = files_left(git_dir)
     return status == 0 and not left and "missing" not in out + err, f"{err}{left}"
 
 
+def files_left(folder):
+    """What a fetch may leave in a repository, or in one below a folder: folders of a pack, and locks that aren't the user's own."""
+    found = [path for path in folder.rglob("*") if path.name.startswith("tmp_objdir-") or path.suffix in (".keep", ".lock")]
+    return [path for path in found if not (path.is_file() and path.read_bytes() == USERS)]
+
+
 def leaves_nothing(t):
-    """Whether the helper's own folder is gone."""
-    return not list(t.room.glob("gixp.*"))
+    """Whether no fetch of a case left files, or a process."""
+    return not files_left(t.room) and not running((*PROCESSES, t.remote.name), t.room)
 
 
 def left_of_packs(t, repository):
@@ -249,6 +260,16 @@ def left_of_packs(t, repository):
     objects = pathlib.Path(t.git("rev-parse", "--path-format=absolute", "--git-path", "objects", at=repository).strip())
     left = [found for found in (objects / "pack").iterdir() if found.suffix == ".keep" or found.name.startswith("tmp_")]
     return sorted(found.name.split(".")[-1][:8] for found in left)
+
+
+def counts(t, repository):
+    """What `git count-objects` says: loose objects, packs, objects in packs."""
+    told = dict(line.split(": ") for line in t.git("count-objects", "-v", at=repository).splitlines())
+    return int(told["count"]), int(told["packs"]), int(told["in-pack"])
+
+
+def refs_of(t, repository):
+    return t.git("for-each-ref", "--format=%(refname) %(objectname)", at=repository).splitlines()
 
 
 def clone_both(t, server, *words, version="2", urls=None, more=None):

@@ -10,6 +10,8 @@ SAYS       a status and a text that it answers to everything
 CUT        how many bytes of each answer's body it says before it closes the connection: one of our own does so before any other
 CUT_HEAD   the same, counted from the first byte of the head
 CUT_AT     of which requests: a word in their paths
+COOKIE     a cookie that it sets
+ANSWER     a file with its answer to each request that has the word ANSWER_AT in its body
 """
 import base64
 import contextlib
@@ -155,11 +157,11 @@ def web_of(t, name, folder, **wish):
         room, port = t.folder("web"), free_port()
         room.mkdir()
         write_backend(room, folder, wish)
-        cut = {word: wish.pop(word) for word in ("CUT", "CUT_HEAD", "CUT_AT") if word in wish}
+        front = {word: wish.pop(word) for word in ("CUT", "CUT_HEAD", "CUT_AT", "COOKIE", "ANSWER", "ANSWER_AT") if word in wish}
         begun.enter_context(OF[name](t, room, port, wish))
-        if cut:
+        if front:
             behind, port = port, free_port()
-            begun.enter_context(ours_of(t, room, port, {**cut, "THROUGH": behind}))
+            begun.enter_context(ours_of(t, room, port, {**front, "THROUGH": behind}))
         yield f"http://127.0.0.1:{port}"
 
 
@@ -185,6 +187,8 @@ class Answers(http.server.BaseHTTPRequestHandler):
 
     def say(self, status, headers=(), body=b""):
         lines = [f"HTTP/1.1 {status} x", *(f"{name}: {value}" for name, value in headers), f"Content-Length: {len(body)}"]
+        if os.environ.get("WEB_COOKIE"):
+            lines.append(f"Set-Cookie: {os.environ['WEB_COOKIE']}")
         head = "\r\n".join([*lines, "", ""]).encode()
         said, end = head + body, len(head) + len(body)
         if os.environ.get("WEB_CUT_AT", "") in self.path:
@@ -203,6 +207,8 @@ class Answers(http.server.BaseHTTPRequestHandler):
             return self.say(401, [("WWW-Authenticate", 'Basic realm="x"')])
         if os.environ.get("WEB_TO"):
             return self.say(302, [("Location", os.environ["WEB_TO"] + self.path)])
+        if os.environ.get("WEB_ANSWER_AT", "\0").encode() in body:
+            return self.say(200, [("Content-Type", "application/x-git-upload-pack-result")], Path(os.environ["WEB_ANSWER"]).read_bytes())
         return self.pass_on(body) if os.environ.get("WEB_THROUGH") else self.run(body)
 
     def pass_on(self, body):

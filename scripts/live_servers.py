@@ -30,9 +30,10 @@ def as_ssh():
     LIVE_SAYS      a band and a text that stand before the pack's last packet line
     LIVE_ENDS      it ends right behind the pack
     LIVE_PACK      a file with the pack that it sends in place of its own
+    LIVE_WAITS     a file that it makes before it answers a fetch, which it does once that is gone: with LIVE_BODIES
     """
     path = shlex.split(sys.argv[-1])[1]
-    names = "STARTS", "VERSION", "MOST", "PAD", "BODIES", "BOUNDARY", "SAYS", "ENDS", "PACK"
+    names = "STARTS", "VERSION", "MOST", "PAD", "BODIES", "BOUNDARY", "SAYS", "ENDS", "PACK", "WAITS"
     wish = {name: os.environ.get(f"LIVE_{name}") for name in names}
     if wish["STARTS"]:
         with open(wish["STARTS"], "a") as starts:
@@ -41,7 +42,7 @@ def as_ssh():
     if wish["VERSION"] or wish["BODIES"] or edits:
         os.environ["GIT_PROTOCOL"] = f"version={wish['VERSION'] or 2}"
     if wish["BODIES"] or edits:
-        return answer_bodies(path, lambda answer: edited(answer, wish))
+        return answer_bodies(path, lambda answer: edited(answer, wish), wish["WAITS"])
     if not (wish["MOST"] or wish["PAD"]):
         os.execvp("git", ["git", "upload-pack", path])
     server = subprocess.Popen(["git", "upload-pack", path], stdout=subprocess.PIPE)
@@ -76,9 +77,13 @@ def edited(answer, wish):
     return front + head + (pack[:-4] if wish["ENDS"] else pack)
 
 
-def answer_bodies(path, edit):
+def answer_bodies(path, edit, waits=None):
     """Tells what the server is capable of, and then answers each request."""
     def answer(word, request):
+        if waits and b"command=fetch" in request:
+            pathlib.Path(waits).touch()
+            while os.path.exists(waits):
+                time.sleep(0.01)
         said = edit(subprocess.run(["git", "upload-pack", word, path], input=request, stdout=subprocess.PIPE).stdout)
         tell(said)
         if said and not said.endswith(b"0000"):
