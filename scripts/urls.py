@@ -4,8 +4,9 @@
 Usage: urls.py
 
 Writes stdin, a URL a line, and stdout: by `git fetch-pack --diag-url` the protocol, the host, the port (NONE) and the path with
-tabs between them, or `refused` where git reads none or `git ls-remote` refuses to go there. Of a web server git reads nothing
-but the scheme, and hands the URL to a program: the path is what that is given.
+tabs between them, and then `password` where git sees one (git-config, "transfer.credentialsInUrl"); or `refused` where git reads
+none or `git ls-remote` refuses to go there. Of a web server git reads nothing but the scheme, and hands the URL to a program: the
+path is what that is given.
 """
 import subprocess
 import tempfile
@@ -26,7 +27,9 @@ URLS = [
     "git://host", "git://host/", "git://host/~u", "git://host:1/a", "git+ssh://host/a", "ssh+git://host/a", "foo://host/a",
     "FILE:///a", "http://host/a", "://a", "a://b", "/a://b", "host:a://b", "+ssh://host/a", "s_sh://host/a", "host:-a",
     "--upload-pack=x:a", "https://host/a", "https://u:p@host:1/a%20b", "http://", "HTTP://host/a", "http:a", "http:/a",
-    "https://-host/a", "httpx://host/a",
+    "https://-host/a", "httpx://host/a", "http://u:p@host/a", "http://u:@host/a", "http://:p@host/a", "http://u@host:80/a",
+    "http://host/u:p@x", "http://host?u:p@x", "http://host#u:p@x", "http://u%3ap@host/a", "ssh://u:p@host/a", "git://u:p@host/a",
+    "file://u:p@host/a", "u:p@host:a",
 ]
 
 
@@ -50,7 +53,18 @@ def web_reading(url, room):
     return told.read_text()
 
 
+def has_password(url, room):
+    """Whether git sees a password in it."""
+    words = "-c", "transfer.credentialsInUrl=die", "-c", f"remote.x.url={url}", "remote", "get-url", "x"
+    return "plaintext credentials" in subprocess.run(["git", *words], cwd=room, capture_output=True, text=True).stderr
+
+
 def reading(url, room):
+    read = reading_alone(url, room)
+    return f"{read}\tpassword" if read != "refused" and has_password(url, room) else read
+
+
+def reading_alone(url, room):
     if url.lower().startswith("http") and (found := web_reading(url, room)):
         return found
     ran = subprocess.run(["git", "fetch-pack", "--diag-url", url], cwd=room, capture_output=True, text=True)

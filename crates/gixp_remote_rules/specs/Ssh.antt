@@ -1,6 +1,7 @@
 -- The words that ssh is started with, by the kind of its program (git-config, "ssh.variant"; git, "GIT_SSH_VARIANT").
 use Rattle.std.specs.Prelude.{◌≡◌, ⊤, ℕ, ◌==◌, ◌||◌, Bool, true, false, if◌then◌else◌, List, [], ◌∷◌, ◌++◌, map, take, codes, Vec, Option, Some, None, Result, Ok, Err}
 use Rattle.std.specs.List.{position}
+use Rattle.std.specs.declared.alloc.Global.{Global}
 use Rattle.std.specs.Option.{option_map}
 use Rattle.std.specs.Str.{bytes_eq}
 use Rattle.bstr.specs.declared.bstring.BString.{BString}
@@ -185,7 +186,7 @@ abbrev pub probe_words : List ℕ → CallOf → List (List ℕ)
 probe_words command c = with_question command (call_words Ssh c)
 
 -- a call that gives these words or this error, or fails to allocate
-abbrev pub GivesWords : Result (List (List ℕ)) SshError → Result (Vec BString) SshError → Type 0
+abbrev pub GivesWords : Result (List (List ℕ)) SshError → Result (Vec BString Global) SshError → Type 0
 GivesWords (Ok words) (Ok found) = map bstring_bytes found.items ≡ words
 GivesWords (Err e) (Ok found) = ⊥
 GivesWords _ (Err Memory) = ⊤

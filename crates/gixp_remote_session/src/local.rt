@@ -306,11 +306,7 @@ pub(crate) fn ask_refs(alloc: Global, shell: &mut Shell) -> Result<(), Trouble> 
 }
 
 // What is known of the repository by the objects that git lists.
-fn repository_of(
-    alloc: Global,
-    text: &[u8],
-    boundary: Vec<ObjectId>,
-) -> Result<Repository, Trouble>
+fn repository_of(alloc: Global, text: &[u8], boundary: Vec<ObjectId>) -> Result<Repository, Trouble>
     ensures objects { IfOk result (λ r. option_map objects_shown (shown_in text.now) ≡ Some r.objects) }
     ensures refs { IfOk result (λ r. option_map (λ shown. peeled_ids (refs_shown shown)) (shown_in text.now) ≡ Some (peeled_ids r.refs)) }
     ensures tips { IfOk result (λ r. is_some r.tips ≡ true) }

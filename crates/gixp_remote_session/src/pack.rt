@@ -174,8 +174,13 @@ impl PackPlan {
         let folder = folder_beside(alloc, places.objects.as_str(), room)?;
         let shallow = boundary_in(alloc, folder.as_str())?;
         let words = index_words(alloc, name, None, choices, rules.checks)?;
-        let bounded_words =
-            index_words(alloc, name, Some(shallow.as_bytes()), choices, rules.checks)?;
+        let bounded_words = index_words(
+            alloc,
+            name,
+            Some(shallow.as_bytes()),
+            choices,
+            rules.checks,
+        )?;
         let more = variable(rt, "GIT_ALTERNATE_OBJECT_DIRECTORIES");
         let more = match &more {
             Some(more) => Some(more.as_bytes()),

@@ -5,11 +5,7 @@ use crate::trouble::Trouble;
 use gixp_remote_rules::{Question, limit_by, limit_in, may_unpack};
 
 // The limit that a setting names, as git reads its number. git says why it can't.
-fn limit_set(
-    order: Order<'_, '_>,
-    shell: &mut Shell,
-    name: &[u8],
-) -> Result<Option<u32>, Trouble> {
+fn limit_set(order: Order<'_, '_>, shell: &mut Shell, name: &[u8]) -> Result<Option<u32>, Trouble> {
     if order.reach.settings.last(name).is_none() {
         return Ok(None);
     }

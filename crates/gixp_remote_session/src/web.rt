@@ -110,7 +110,8 @@ fn set_options<R: BufRead, W: Write>(
     ensures unheard { IfErr result (IsUnheard (have_replied is_quiet family) (R.remaining from.old)) }
 {
     set_option(alloc, from, to, is_quiet, b"option verbosity 0\n")?;
-    set_option(alloc, from, to, is_limited(family), family_line(family))
+    set_option(alloc, from, to, is_limited(family), family_line(family))?;
+    Ok(())
 }
 
 // Why no requests are carried, by the first line of a list of refs.

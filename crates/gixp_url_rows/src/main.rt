@@ -1,8 +1,8 @@
 //! Reads URLs, a line each, and writes what each means: the transport, the host, the port or NONE, and the path, with tabs
-//! between them, or `refused`. Its stored output is what git reads in them.
+//! between them, and then `password` where it has one; or `refused`. Its stored output is what git reads in them.
 #![tactic(auto)]
 
-use gixp_url::{Address, Transport};
+use gixp_url::{Address, Transport, redacted};
 use std::alloc::AllocError;
 use std::io;
 use std::io::{BufRead, BufReader, BufWriter, Input, Write};
@@ -36,7 +36,12 @@ fn line_of(rt: &HostRuntime, url: &[u8]) -> Result<Vec<u8>, AllocError> {
     let alloc = rt.alloc();
     let mut text = Vec::new(alloc);
     match Address::read(alloc, url) {
-        Ok(address) => append_address(&mut text, &address)?,
+        Ok(address) => {
+            append_address(&mut text, &address)?;
+            if redacted(alloc, url)?.is_some() {
+                text.extend_from_slice(b"\tpassword")?;
+            }
+        }
         Err(_) => text.extend_from_slice(b"refused")?,
     }
     text.extend_from_slice(b"\n")?;

@@ -1,0 +1,302 @@
+#!/usr/bin/env python3
+"""Runs git's own tests with the remote helper in place of git's transports, and compares the results with a stored table.
+
+Usage: git_tests.py [--source FOLDER] [--remote PATH] [--work FOLDER] [--quick] [--jobs N] [--again] [SCRIPT..]
+
+FOLDER is the source of git 2.39.5, unpacked, as `apt-get source git` leaves it. Without --source it is $GIT_SOURCE, else what
+`apt-get source git` brings where apt has a deb-src line. PATH is the program gixp_remote, else what `rt run` left in
+crates/gixp_remote/out. The SCRIPTs are names or patterns of files in git's t/, as t5510 or 't57*'; without any, t55* to t58* and the
+others that the table names. --quick runs those of QUICK alone.
+
+The source is copied into the scratch folder (--work, else $WORK, else /var/tmp/gixp-git-tests), changed by git_tests/via-helper.patch
+and built once. In that git each clone, fetch, ls-remote and lazy fetch starts the helper where GIT_TEST_VIA_HELPER names one; without
+it that git is git itself. The scripts run as a user without privileges (--user), with a limit of processes and of time.
+
+git_tests/table.txt has a line for each test that git passes and the helper doesn't: the script, the number, the kind of reason, and the
+reason. The kinds are
+    hidden      no remote helper can show it: a trace of git's own process, words that git's own transports write
+    language    the language of remote helpers (gitremote-helpers(7)) has no word for it
+    documented  docs/DIFFERENCES.md names it, in the words between quotes
+    harness     it tests what the patch takes away, as clones by hard links, or depends on the build
+A `?` after the number marks a test that passes at times.
+
+Prints a line for each test that fails and isn't in the table, though git passes it, and for each line of the table that passes.
+The last line is `N passed, M failed`, where a test of the table passes if it fails. The status is 1 where one failed. --again tries a
+script with such a test once more, alone, and counts that. Without git's source --quick says so, and its status is 0.
+"""
+import argparse
+import concurrent.futures
+import hashlib
+import os
+import pathlib
+import pwd
+import re
+import shutil
+import signal
+import subprocess
+import sys
+import time
+
+TOP = pathlib.Path(__file__).resolve().parent.parent
+REMOTE = TOP / "crates" / "gixp_remote"
+FILES = TOP / "scripts" / "git_tests"
+PATCH, SHIM, TABLE = FILES / "via-helper.patch", FILES / "git-remote-gixp", FILES / "table.txt"
+DIFFERENCES = TOP / "docs" / "DIFFERENCES.md"
+VERSION = "2.39.5"
+MAKE = ["NO_OPENSSL=1", "NO_GETTEXT=1", "NO_TCLTK=1", "NO_PYTHON=1", "PYTHON_PATH=/usr/bin/python3", "prefix=/usr",
+        "gitexecdir=/usr/lib/git-core", f"GIT_VERSION={VERSION}", "CFLAGS=-O1 -g0"]
+# seconds after which a script is ended
+SECONDS, QUICK_SECONDS = 1200, 90
+USUAL = ["t55*", "t56*", "t57*", "t58*", "t0410", "t2080", "t5330"]
+QUICK = []
+KINDS = {"hidden", "language", "documented", "harness"}
+RESULT = re.compile(r"(ok|not ok) (\d+)(?: - (.*?))?(?:\s+# (TODO|SKIP)\b.*)?")
+
+
+class Missing(Exception):
+    """What isn't there, so that no test can run."""
+
+
+def options():
+    parser = argparse.ArgumentParser(description=__doc__.splitlines()[0])
+    parser.add_argument("--source", type=pathlib.Path, default=os.environ.get("GIT_SOURCE"), help="git's source, unpacked")
+    parser.add_argument("--remote", type=pathlib.Path, default=REMOTE / "out" / "gixp_remote", help="the program gixp_remote")
+    parser.add_argument("--work", type=pathlib.Path, default=os.environ.get("WORK", "/var/tmp/gixp-git-tests"), help="the scratch folder")
+    parser.add_argument("--user", default="games", help="who runs the tests where this is root")
+    parser.add_argument("--processes", type=int, default=1000, help="the most processes that this user may have at once")
+    parser.add_argument("--quick", action="store_true", help="the quickest scripts alone")
+    parser.add_argument("--jobs", type=int, default=os.cpu_count(), help="how many scripts at once")
+    parser.add_argument("--again", action="store_true", help="try a script that failed once more, alone, and count that")
+    parser.add_argument("scripts", nargs="*", metavar="SCRIPT")
+    return parser.parse_args()
+
+
+# git, built to fetch through a helper
+
+
+def find_source(given, work):
+    """The folder of git's source."""
+    if given:
+        if not (given / "GIT-VERSION-GEN").exists():
+            raise Missing(f"{given} isn't the source of git")
+        return given.resolve()
+    folder = work / "source"
+    folder.mkdir(parents=True, exist_ok=True)
+    if not list(folder.glob("git-*/GIT-VERSION-GEN")) and shutil.which("apt-get"):
+        subprocess.run(["timeout", "120", "apt-get", "source", "git"], cwd=folder, capture_output=True)
+    for found in folder.glob("git-*/GIT-VERSION-GEN"):
+        return found.parent
+    raise Missing("git's source isn't here: set GIT_SOURCE, or give apt a deb-src line")
+
+
+def build(source, work, jobs):
+    """A copy of the source that is patched and built: made once for each source and patch."""
+    if f"DEF_VER=v{VERSION}" not in (source / "GIT-VERSION-GEN").read_text():
+        raise Missing(f"the source of git isn't {VERSION}")
+    tree, stamp = work / "git", work / "git.stamp"
+    wanted = hashlib.sha256("\0".join([str(source), PATCH.read_text(), *MAKE]).encode()).hexdigest()
+    if stamp.exists() and stamp.read_text() == wanted:
+        return tree
+    stamp.unlink(missing_ok=True)
+    shutil.rmtree(work / "plain", ignore_errors=True)
+    shutil.rmtree(tree, ignore_errors=True)
+    shutil.copytree(source, tree, symlinks=True)
+    for name, words in ("patch", ["patch", "-s", "-p1", "-i", PATCH]), ("make", ["make", "-s", f"-j{jobs}", "all", *MAKE]):
+        with open(work / f"{name}.log", "w") as log:
+            if subprocess.run(words, cwd=tree, stdout=log, stderr=log).returncode:
+                raise Missing(f"git can't be built: {work / name}.log")
+    subprocess.run(["chmod", "-R", "a+rX", tree], check=True)
+    stamp.write_text(wanted)
+    return tree
+
+
+def install(work, remote):
+    """The folder of the helper and its shim, which the user of the tests can read."""
+    if not os.access(remote, os.X_OK):
+        raise Missing(f"no program {remote}: `rt run` in crates/gixp_remote builds it")
+    tools = work / "tools"
+    (tools / "helper").mkdir(parents=True, exist_ok=True)
+    for source, target in (SHIM, tools), (REMOTE / "git-remote-gixp", tools / "helper"), (remote, tools / "helper" / "gixp_remote"):
+        shutil.copy(source, target)
+    subprocess.run(["chmod", "-R", "a+rX", tools], check=True)
+    return tools
+
+
+# A script of t/
+
+
+class Suite:
+    """Runs scripts of git's tests."""
+
+    def __init__(self, work, tree, tools, given):
+        self.work, self.tree, self.tools, self.processes = work, tree, tools, given.processes
+        self.seconds = QUICK_SECONDS if given.quick else SECONDS
+        self.user = pwd.getpwnam(given.user) if os.geteuid() == 0 else None
+
+    def folder(self, *names):
+        """A folder that the user of the tests owns."""
+        made = self.work.joinpath(*names)
+        made.mkdir(parents=True, exist_ok=True)
+        if self.user:
+            os.chown(made, self.user.pw_uid, self.user.pw_gid)
+        return made
+
+    def run(self, script, via=True):
+        """Runs a script through the helper, or else by git alone."""
+        variant = "via" if via else "plain"
+        out, trash = self.folder(variant, "results"), self.folder(variant, "trash")
+        log, number = out / f"{script}.log", int(re.match(r"t(\d+)", script)[1]) % 1000
+        log.write_text("")
+        log.chmod(0o666)
+        port = (20000 if via else 24000) + number
+        environment = {
+            "PATH": f"{self.tools}:/usr/local/bin:/usr/bin:/bin:/usr/sbin:/sbin", "HOME": "/nonexistent", "SHELL": "/bin/bash",
+            "TERM": "dumb", "LANG": "C", "TMPDIR": "/var/tmp", "TEST_OUTPUT_DIRECTORY": str(out), "GIXP_TESTS_LOG": str(log),
+            "GIT_TEST_VIA_HELPER": "gixp" if via else "", "LIB_HTTPD_PORT": str(port), "LIB_GIT_DAEMON_PORT": str(port + 2000),
+        }
+        user = ["setpriv", f"--reuid={self.user.pw_uid}", f"--regid={self.user.pw_gid}", "--clear-groups"] if self.user else []
+        words = ["prlimit", f"--nproc={self.processes}", *user, "timeout", "-k", "10", str(self.seconds),
+                 "bash", f"./{script}.sh", f"--root={trash}", "--no-color", "-V"]
+        began = time.monotonic()
+        with open(out / f"{script}.tap", "w") as tap, open(out / f"{script}.err", "w") as errors:
+            subprocess.run(words, cwd=self.tree / "t", env=environment, stdin=subprocess.DEVNULL, stdout=tap, stderr=errors)
+        end_all(f"GIXP_TESTS_LOG={log}")
+        return Ran(script, out / f"{script}.tap", log, time.monotonic() - began)
+
+    def run_by_git(self, script):
+        """The results of git alone, which are stored."""
+        stored = self.work / "plain" / "results" / f"{script}.tap"
+        ran = Ran(script, stored, stored.with_suffix(".log"), 0) if stored.exists() else None
+        return ran if ran and ran.is_whole else self.run(script, False)
+
+
+class Ran:
+    """What a script found: for each number `pass`, `fail` or `skip`, and the title."""
+
+    def __init__(self, script, tap, log, seconds):
+        self.script, self.short, self.seconds = script, script.split("-")[0], seconds
+        self.results, self.is_whole = {}, False
+        for line in tap.read_text(errors="replace").splitlines():
+            self.is_whole = self.is_whole or line.startswith("1..")
+            if read := RESULT.fullmatch(line):
+                state, number, title, mark = read.groups()
+                # a test that git's developers expect to fail counts as left out
+                self.results[int(number)] = "skip" if mark else "pass" if state == "ok" else "fail", title or ""
+        self.urls = log.read_text(errors="replace").splitlines() if log.exists() else []
+
+    def complete(self, by_git):
+        """Counts the tests after the end of a script that ended early as failed."""
+        for number, (state, title) in by_git.results.items():
+            self.results.setdefault(number, ("skip" if state == "skip" else "fail", f"{title} (didn't run)"))
+
+    def numbers(self, state):
+        return [number for number, (found, _) in self.results.items() if found == state]
+
+
+def end_all(mark):
+    """Ends each process that has this variable."""
+    for _ in range(20):
+        found = [int(one.parent.name) for one in pathlib.Path("/proc").glob("[0-9]*/environ") if mark in variables(one)]
+        for process in found:
+            try:
+                os.kill(process, signal.SIGKILL)
+            except OSError:
+                pass
+        if not found:
+            return
+        time.sleep(0.1)
+
+
+def variables(path):
+    try:
+        return path.read_bytes().decode("latin1").split("\0")
+    except OSError:
+        return []
+
+
+# The table
+
+
+class Line:
+    """A line of the table."""
+
+    def __init__(self, text):
+        self.text = text
+        self.script, number, self.kind, self.reason = text.split(" ", 3)
+        self.number, self.is_sometimes = int(number.rstrip("?")), number.endswith("?")
+
+
+def read_table():
+    """The lines of the table by script and number, and what is wrong with them."""
+    lines, wrong = {}, []
+    differences = " ".join(DIFFERENCES.read_text().split())
+    for line in map(Line, filter(lambda text: text and not text.startswith("#"), TABLE.read_text().splitlines())):
+        if line.kind not in KINDS or (line.script, line.number) in lines:
+            wrong.append(f"TABLE no such kind, or a second line of a test: {line.text}")
+        quoted = re.findall(r'"([^"]+)"', line.reason)
+        if line.kind == "documented" and not (quoted and all(words in differences for words in quoted)):
+            wrong.append(f"TABLE docs/DIFFERENCES.md doesn't have the quoted words: {line.text}")
+        lines[line.script, line.number] = line
+    return lines, wrong
+
+
+def judge(suite, ran, table):
+    """Compares what a script found with the table: each test that fails and isn't there though git passes it, each line that passes."""
+    if not ran.is_whole:
+        ran.complete(suite.run_by_git(ran.script))
+    listed = {number for script, number in table if script == ran.short}
+    wrong = [f"PASSES {table[ran.short, number].text}" for number in ran.numbers("pass")
+             if number in listed and not table[ran.short, number].is_sometimes]
+    if unlisted := [number for number in ran.numbers("fail") if number not in listed]:
+        by_git = suite.run_by_git(ran.script).numbers("pass")
+        wrong += [f"FAILED {ran.short} {number} {ran.results[number][1]}" for number in unlisted if number in by_git]
+    return wrong + [f"HUNG {ran.short}: {url}" for url in ran.urls if url.startswith("HUNG")]
+
+
+def chosen(tree, given, table):
+    """The scripts to run, the longest first where their sizes tell."""
+    patterns = given or USUAL + sorted({script for script, _ in table})
+    found = {path.stem: path.stat().st_size for one in patterns for path in (tree / "t").glob(f"{pathlib.Path(one).stem}*.sh")
+             if re.match(r"t\d{4}-", path.name)}
+    return sorted(found, key=found.get, reverse=True)
+
+
+def main():
+    given = options()
+    work = pathlib.Path(given.work).resolve()
+    table, wrong = read_table()
+    try:
+        source = find_source(given.source, work)
+        tree, tools = build(source, work, given.jobs), install(work, given.remote.resolve())
+    except Missing as missing:
+        print("\n".join([*wrong, f"{missing}; git's own tests aren't run"]))
+        sys.exit(1 if wrong or not given.quick else 0)
+    suite = Suite(work, tree, tools, given)
+    scripts = chosen(tree, given.scripts or (QUICK if given.quick else []), table)
+    with concurrent.futures.ThreadPoolExecutor(given.jobs) as pool:
+        all_ran = []
+        for ran in pool.map(suite.run, scripts):
+            all_ran.append(ran)
+            print(f"{len(all_ran)} of {len(scripts)} scripts: {ran.script}, {ran.seconds:.0f} s", file=sys.stderr, flush=True)
+    for at, ran in enumerate(all_ran):
+        found = judge(suite, ran, table)
+        if found and given.again:
+            all_ran[at] = ran = suite.run(ran.script)
+            found = judge(suite, ran, table)
+        wrong += found
+    finish(all_ran, wrong)
+
+
+def finish(all_ran, wrong):
+    """Prints what is wrong, and the numbers."""
+    passed, failed = (sum(len(ran.numbers(state)) for ran in all_ran) for state in ("pass", "fail"))
+    runs = sum(len(ran.urls) for ran in all_ran)
+    if not runs:
+        wrong.append("FAILED git never started the helper")
+    print("\n".join(wrong + [f"{len(all_ran)} of git's scripts: {passed} of their tests pass, {failed} don't, in {runs} runs of the helper"]))
+    print(f"{passed + failed - len(wrong)} passed, {len(wrong)} failed")
+    sys.exit(1 if wrong else 0)
+
+
+if __name__ == "__main__":
+    main()
