@@ -104,7 +104,11 @@ fn trouble_of(pack: PackState, e: Failure) -> Trouble
     match pack {
         PackState::Unreadable => Trouble::Fatal(BAD_HEADER),
         PackState::Refused => Trouble::Fetch(Failure::PackRefused),
-        _ => Trouble::Fetch(e),
+        PackState::Unbegun
+        | PackState::Begun
+        | PackState::Kept(_)
+        | PackState::Unpacked(_)
+        | PackState::Empty(_) => Trouble::Fetch(e),
     }
 }
 

@@ -19,7 +19,7 @@ returns-clause-plan c =
     c.in_ok-shallow.ensures ∙ ap (λ p. p ++ codes "/shallow") (c.as_str-2.ensures.value ∙ folder)
     in
     let choices = chosen c.args.choices.now in
-    let checks = map bstring_bytes c.args.checks.now in
+    let checks = map bstring_bytes c.args.rules.checks.now in
     let more = option_map {T = Bor (List ℕ)} {U = List ℕ} (λ m. m.now) c.match-more.more in
     record {
       folder = folder;
