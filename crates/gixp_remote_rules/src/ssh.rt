@@ -4,7 +4,7 @@ ghost use Rattle.gixp_remote_rules.specs.declared.ssh.SshError.TheVariants.{Memo
 ghost use Rattle.std.specs.Option.{option_map};
 ghost use Rattle.bstr.specs.Owned.{bstring_bytes};
 ghost use Rattle.gixp_remote_rules.specs.Ssh.{named_variant, base_of, by_program, behind_blanks, before, word_at, first_word, variant_of};
-ghost use Rattle.gixp_remote_rules.specs.Ssh.{call_value, has_families, version_words, family_words, batch_words, port_option, port_words, call_words, family_refusal, port_refusal, refusal_of, GivesWords, ssh_words, server_command, with_command, server_words, with_question, probe_words};
+ghost use Rattle.gixp_remote_rules.specs.Ssh.{call_value, has_families, is_sent, version_words, family_words, batch_words, port_option, port_words, call_words, family_refusal, port_refusal, refusal_of, GivesWords, ssh_words, server_command, with_command, server_words, with_question, probe_words};
 
 use crate::dialogue::Family;
 use crate::server::quoted;
@@ -233,7 +233,31 @@ fn refusal_of(variant: Variant, family: Family, port: Option<&[u8]>) -> Option<S
     }
 }
 
-// The options that send the version, by a variable.
+// Two words more.
+fn add_two(
+    alloc: Global,
+    words: &mut Vec<BString>,
+    first: &[u8],
+    second: &[u8],
+) -> Result<(), AllocError>
+    ensures { OnOk result (map bstring_bytes words.new.items ≡ map bstring_bytes words.old.items ++ (first.now ∷ second.now ∷ [])) }
+{
+    add(alloc, words, first)?;
+    add(alloc, words, second)?;
+    Ok(())
+}
+
+// Whether the version is sent by a variable.
+fn is_sent(variant: Variant, sends_version: bool) -> bool
+    ensures { result ≡ is_sent variant sends_version }
+{
+    match variant {
+        Variant::Ssh => sends_version,
+        Variant::Auto | Variant::Simple | Variant::Plink | Variant::TortoisePlink => false,
+    }
+}
+
+// The options that send the version.
 fn add_version(
     alloc: Global,
     words: &mut Vec<BString>,
@@ -242,9 +266,8 @@ fn add_version(
 ) -> Result<(), AllocError>
     ensures { OnOk result (map bstring_bytes words.new.items ≡ map bstring_bytes words.old.items ++ version_words variant sends_version) }
 {
-    if sends_version && variant == Variant::Ssh {
-        add(alloc, words, b"-o")?;
-        add(alloc, words, b"SendEnv=GIT_PROTOCOL")?;
+    if is_sent(variant, sends_version) {
+        add_two(alloc, words, b"-o", b"SendEnv=GIT_PROTOCOL")?;
     }
     Ok(())
 }
@@ -289,8 +312,7 @@ fn add_port(
         ≡ map bstring_bytes words.old.items ++ port_words (port_option variant) (option_map (λ p. p.now) port.entry)) }
 {
     if let (Some(option), Some(port)) = (port_option(variant), port) {
-        add(alloc, words, option)?;
-        add(alloc, words, port)?;
+        add_two(alloc, words, option, port)?;
     }
     Ok(())
 }
