@@ -1,7 +1,7 @@
 #!/usr/bin/env python3
 """Runs git's own tests with the remote helper in place of git's transports, and compares the results with a stored table.
 
-Usage: git_tests.py [--source FOLDER] [--remote PATH] [--work FOLDER] [--quick] [--jobs N] [--again] [SCRIPT..]
+Usage: git_tests.py [--source FOLDER] [--remote PATH] [--work FOLDER] [--quick] [--jobs N] [--run NUMBERS] [--again] [SCRIPT..]
 
 FOLDER is the source of git 2.39.5, unpacked, as `apt-get source git` leaves it. Without --source it is $GIT_SOURCE, else what
 `apt-get source git` brings where apt has a deb-src line. PATH is the program gixp_remote, else what `rt run` left in
@@ -46,10 +46,15 @@ VERSION = "2.39.5"
 MAKE = ["NO_OPENSSL=1", "NO_GETTEXT=1", "NO_TCLTK=1", "NO_PYTHON=1", "PYTHON_PATH=/usr/bin/python3", "prefix=/usr",
         "gitexecdir=/usr/lib/git-core", f"GIT_VERSION={VERSION}", "CFLAGS=-O1 -g0"]
 # seconds after which a script is ended
-SECONDS, QUICK_SECONDS = 1200, 90
+SECONDS = 1200
+# with --quick, where a slow machine is no failure, and seconds after which no other script begins
+QUICK_SECONDS, QUICK_BEGINS = 60, 60
 USUAL = ["t55*", "t56*", "t57*", "t58*", "t0410", "t2080", "t5330"]
-QUICK = []
+QUICK = ["t5500", "t5503", "t5504", "t5512", "t5525", "t5537", "t5539", "t5552", "t5553", "t5570", "t5582", "t5604", "t5605", "t5606",
+         "t5611", "t5612", "t5613", "t5700", "t5703", "t5705"]
 KINDS = {"hidden", "language", "documented", "harness"}
+# how `timeout` ends where it ended a script
+LATE = {124, 137}
 RESULT = re.compile(r"(ok|not ok) (\d+)(?: - (.*?))?(?:\s+# (TODO|SKIP)\b.*)?")
 
 
@@ -63,9 +68,11 @@ def options():
     parser.add_argument("--remote", type=pathlib.Path, default=REMOTE / "out" / "gixp_remote", help="the program gixp_remote")
     parser.add_argument("--work", type=pathlib.Path, default=os.environ.get("WORK", "/var/tmp/gixp-git-tests"), help="the scratch folder")
     parser.add_argument("--user", default="games", help="who runs the tests where this is root")
+    parser.add_argument("--patience", type=int, default=60, help="seconds after which the helper is ended, as one that hangs")
     parser.add_argument("--processes", type=int, default=1000, help="the most processes that this user may have at once")
     parser.add_argument("--quick", action="store_true", help="the quickest scripts alone")
     parser.add_argument("--jobs", type=int, default=os.cpu_count(), help="how many scripts at once")
+    parser.add_argument("--run", metavar="NUMBERS", help="these tests of each script alone, as 1,40-43")
     parser.add_argument("--again", action="store_true", help="try a script that failed once more, alone, and count that")
     parser.add_argument("scripts", nargs="*", metavar="SCRIPT")
     return parser.parse_args()
@@ -101,10 +108,10 @@ def build(source, work, jobs):
     shutil.rmtree(work / "plain", ignore_errors=True)
     shutil.rmtree(tree, ignore_errors=True)
     shutil.copytree(source, tree, symlinks=True)
-    for name, words in ("patch", ["patch", "-s", "-p1", "-i", PATCH]), ("make", ["make", "-s", f"-j{jobs}", "all", *MAKE]):
-        with open(work / f"{name}.log", "w") as log:
-            if subprocess.run(words, cwd=tree, stdout=log, stderr=log).returncode:
-                raise Missing(f"git can't be built: {work / name}.log")
+    subprocess.run(["patch", "-s", "-p1", "-i", PATCH], cwd=tree, check=True)
+    with open(work / "make.log", "w") as log:
+        if subprocess.run(["make", "-s", f"-j{jobs}", "all", *MAKE], cwd=tree, stdout=log, stderr=log).returncode:
+            raise Missing(f"git can't be built ({work}/make.log)")
     subprocess.run(["chmod", "-R", "a+rX", tree], check=True)
     stamp.write_text(wanted)
     return tree
@@ -113,12 +120,14 @@ def build(source, work, jobs):
 def install(work, remote):
     """The folder of the helper and its shim, which the user of the tests can read."""
     if not os.access(remote, os.X_OK):
-        raise Missing(f"no program {remote}: `rt run` in crates/gixp_remote builds it")
+        sys.exit(f"no program {remote}: `rt run` in crates/gixp_remote builds it")
     tools = work / "tools"
     (tools / "helper").mkdir(parents=True, exist_ok=True)
-    for source, target in (SHIM, tools), (REMOTE / "git-remote-gixp", tools / "helper"), (remote, tools / "helper" / "gixp_remote"):
-        shutil.copy(source, target)
-    subprocess.run(["chmod", "-R", "a+rX", tools], check=True)
+    for source, folder in (SHIM, tools), (REMOTE / "git-remote-gixp", tools / "helper"), (remote, tools / "helper"):
+        name = "gixp_remote" if source == remote else "git-remote-gixp"
+        shutil.copy(source, folder / "new")
+        (folder / "new").chmod(0o755)
+        os.replace(folder / "new", folder / name)
     return tools
 
 
@@ -129,8 +138,8 @@ class Suite:
     """Runs scripts of git's tests."""
 
     def __init__(self, work, tree, tools, given):
-        self.work, self.tree, self.tools, self.processes = work, tree, tools, given.processes
-        self.seconds = QUICK_SECONDS if given.quick else SECONDS
+        self.work, self.tree, self.tools, self.given = work, tree, tools, given
+        self.seconds, self.words = QUICK_SECONDS if given.quick else SECONDS, [f"--run={given.run}"] if given.run else []
         self.user = pwd.getpwnam(given.user) if os.geteuid() == 0 else None
 
     def folder(self, *names):
@@ -152,16 +161,19 @@ class Suite:
         environment = {
             "PATH": f"{self.tools}:/usr/local/bin:/usr/bin:/bin:/usr/sbin:/sbin", "HOME": "/nonexistent", "SHELL": "/bin/bash",
             "TERM": "dumb", "LANG": "C", "TMPDIR": "/var/tmp", "TEST_OUTPUT_DIRECTORY": str(out), "GIXP_TESTS_LOG": str(log),
-            "GIT_TEST_VIA_HELPER": "gixp" if via else "", "LIB_HTTPD_PORT": str(port), "LIB_GIT_DAEMON_PORT": str(port + 2000),
+            "GIXP_TESTS_SECONDS": str(self.given.patience), "GIT_TEST_VIA_HELPER": "gixp" if via else "",
+            "LIB_HTTPD_PORT": str(port), "LIB_GIT_DAEMON_PORT": str(port + 2000),
         }
         user = ["setpriv", f"--reuid={self.user.pw_uid}", f"--regid={self.user.pw_gid}", "--clear-groups"] if self.user else []
-        words = ["prlimit", f"--nproc={self.processes}", *user, "timeout", "-k", "10", str(self.seconds),
-                 "bash", f"./{script}.sh", f"--root={trash}", "--no-color", "-V"]
+        words = ["prlimit", f"--nproc={self.given.processes}", *user, "timeout", "-k", "10", str(self.seconds),
+                 "bash", f"./{script}.sh", f"--root={trash}", "--no-color", "-V", *(self.words if via else [])]
         began = time.monotonic()
         with open(out / f"{script}.tap", "w") as tap, open(out / f"{script}.err", "w") as errors:
-            subprocess.run(words, cwd=self.tree / "t", env=environment, stdin=subprocess.DEVNULL, stdout=tap, stderr=errors)
+            ended = subprocess.run(words, cwd=self.tree / "t", env=environment, stdin=subprocess.DEVNULL, stdout=tap, stderr=errors)
         end_all(f"GIXP_TESTS_LOG={log}")
-        return Ran(script, out / f"{script}.tap", log, time.monotonic() - began)
+        ran = Ran(script, out / f"{script}.tap", log, time.monotonic() - began)
+        ran.is_late = ended.returncode in LATE
+        return ran
 
     def run_by_git(self, script):
         """The results of git alone, which are stored."""
@@ -175,7 +187,7 @@ class Ran:
 
     def __init__(self, script, tap, log, seconds):
         self.script, self.short, self.seconds = script, script.split("-")[0], seconds
-        self.results, self.is_whole = {}, False
+        self.results, self.is_whole, self.is_late = {}, False, False
         for line in tap.read_text(errors="replace").splitlines():
             self.is_whole = self.is_whole or line.startswith("1..")
             if read := RESULT.fullmatch(line):
@@ -242,7 +254,7 @@ def read_table():
 
 def judge(suite, ran, table):
     """Compares what a script found with the table: each test that fails and isn't there though git passes it, each line that passes."""
-    if not ran.is_whole:
+    if not ran.is_whole and not (ran.is_late and suite.given.quick):
         ran.complete(suite.run_by_git(ran.script))
     listed = {number for script, number in table if script == ran.short}
     wrong = [f"PASSES {table[ran.short, number].text}" for number in ran.numbers("pass")
@@ -269,33 +281,50 @@ def main():
         source = find_source(given.source, work)
         tree, tools = build(source, work, given.jobs), install(work, given.remote.resolve())
     except Missing as missing:
-        print("\n".join([*wrong, f"{missing}; git's own tests aren't run"]))
+        say([*wrong, f"{missing}: git's own tests aren't run"])
         sys.exit(1 if wrong or not given.quick else 0)
+    say(wrong)
     suite = Suite(work, tree, tools, given)
     scripts = chosen(tree, given.scripts or (QUICK if given.quick else []), table)
+    if not scripts:
+        sys.exit("git has no such script")
+    until = time.monotonic() + (QUICK_BEGINS if given.quick else float("inf"))
+    found = {}
     with concurrent.futures.ThreadPoolExecutor(given.jobs) as pool:
-        all_ran = []
-        for ran in pool.map(suite.run, scripts):
-            all_ran.append(ran)
-            print(f"{len(all_ran)} of {len(scripts)} scripts: {ran.script}, {ran.seconds:.0f} s", file=sys.stderr, flush=True)
-    for at, ran in enumerate(all_ran):
-        found = judge(suite, ran, table)
-        if found and given.again:
-            all_ran[at] = ran = suite.run(ran.script)
-            found = judge(suite, ran, table)
-        wrong += found
-    finish(all_ran, wrong)
+        for done in concurrent.futures.as_completed([pool.submit(run_until, until, suite, script) for script in scripts]):
+            if not (ran := done.result()):
+                continue
+            found[ran.script] = ran, judge(suite, ran, table)
+            say(found[ran.script][1])
+            print(f"{len(found)} of {len(scripts)} scripts: {ran.script}, {ran.seconds:.0f} s", file=sys.stderr, flush=True)
+    for script in [script for script, (_, lines) in found.items() if lines and given.again]:
+        say([f"again: {script}"])
+        ran = suite.run(script)
+        found[script] = ran, judge(suite, ran, table)
+        say(found[script][1])
+    if left := [script for script in scripts if script not in found or found[script][0].is_late]:
+        say([f"the machine is slow: not run, or not to the end: {' '.join(left)}"])
+    finish([ran for ran, _ in found.values()], len(wrong) + sum(len(lines) for _, lines in found.values()))
+
+
+def run_until(until, suite, script):
+    return suite.run(script) if time.monotonic() < until else None
+
+
+def say(lines):
+    for line in lines:
+        print(line, flush=True)
 
 
 def finish(all_ran, wrong):
-    """Prints what is wrong, and the numbers."""
+    """Prints the numbers, and ends."""
     passed, failed = (sum(len(ran.numbers(state)) for ran in all_ran) for state in ("pass", "fail"))
     runs = sum(len(ran.urls) for ran in all_ran)
     if not runs:
-        wrong.append("FAILED git never started the helper")
-    print("\n".join(wrong + [f"{len(all_ran)} of git's scripts: {passed} of their tests pass, {failed} don't, in {runs} runs of the helper"]))
-    print(f"{passed + failed - len(wrong)} passed, {len(wrong)} failed")
-    sys.exit(1 if wrong else 0)
+        say(["FAILED git never started the helper"])
+    say([f"{len(all_ran)} of git's scripts: {passed} of their tests pass, {failed} don't, in {runs} runs of the helper",
+         f"{max(passed + failed - wrong, 0)} passed, {wrong + (not runs)} failed"])
+    sys.exit(1 if wrong or not runs else 0)
 
 
 if __name__ == "__main__":

@@ -158,9 +158,9 @@ def fetch_while(t, server, url, change):
 
 
 def changed_boundary(name, t):
-    """The boundary is changed while a fetch runs: an error, what was written stays, and nothing is left."""
+    """The boundary is changed while a fetch runs: an error, what was written stays, and nothing is left. git looks at the file's size."""
     server = make(t, "server", 20)
-    mine = t.git("rev-parse", "main", at=server)
+    mine = t.git("rev-parse", "main", "main~9", at=server)
     for label, change in (("written", lambda client: (client / "shallow").write_text(mine)),
                           ("taken away", lambda client: (client / "shallow").unlink())):
         ends = [fetch_while(t, server, url, change) for url in by_both(server)]

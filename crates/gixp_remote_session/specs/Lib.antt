@@ -11,3 +11,4 @@ pub mod ShownPlaces
 pub mod ShownRefs
 pub mod Boundaries
 pub mod Leaving
+pub mod Readied

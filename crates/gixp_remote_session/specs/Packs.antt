@@ -77,9 +77,9 @@ AreIndexed is_bounded count (Some name) status state =
     (hash : ObjectId) × (id_value hash ≡ name) × (state ≡ Some (kept_state count hash is_bounded status))
 
 -- what became of a pack, by what git says of it and its status
-abbrev pub IsOutcome : Bool → Bool → ℕ → List ℕ → ℕ → Option PackState → Type 0
-IsOutcome true is_bounded count text status state = state ≡ unpacked_state count is_bounded status
-IsOutcome false is_bounded count text status state = AreIndexed is_bounded count (kept_pack text status) status state
+abbrev pub IsStateAfter : Bool → Bool → ℕ → List ℕ → ℕ → Option PackState → Type 0
+IsStateAfter true is_bounded count text status state = state ≡ unpacked_state count is_bounded status
+IsStateAfter false is_bounded count text status state = AreIndexed is_bounded count (kept_pack text status) status state
 
 -- why a fetch failed: a pack that can't be read is one of git's own reasons
 abbrev pub TellsFailure : PackState → Failure → Trouble → Type 0

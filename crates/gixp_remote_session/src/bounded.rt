@@ -1,11 +1,12 @@
 //! A transport that notes what the server says of the shallow boundary: that comes before a pack, and git that indexes the pack
-//! is to know it then.
+//! is to know it then. It also notes whether the server is ready to send the pack.
 ghost use Rattle.std.specs.Prelude.{◌≡◌, true, false, [], None, Ok, Err, IfOk, IfSome};
 ghost use Rattle.gix_protocol.specs.Boundary.{boundary};
 ghost use Rattle.std.specs.Option.{option_map};
 ghost use Rattle.gixp_remote_session.specs.Noted.{without_band, update_said, update_value, NotesOne, NotesLine};
 ghost use Rattle.gixp_remote_session.specs.declared.trouble.Trouble.TheVariants.{Memory};
 
+use crate::readiness::Readiness;
 use crate::trouble::Trouble;
 use bstr::{BStr, ByteSlice};
 use gix_protocol::transport::client::Error;
@@ -16,7 +17,7 @@ use gix_protocol::transport::{
 use gixp_remote_rules::bound_said;
 use gixp_shallow::{ShallowUpdate, new_boundary};
 use std::alloc::Global;
-use std::cell::RefCell;
+use std::cell::{Cell, RefCell};
 
 /// What the server said of the boundary.
 #[derive(Drop)]
@@ -107,20 +108,29 @@ pub(crate) fn forget(bounds: &RefCell<Bounds>) {
     }
 }
 
-/// A transport that notes, of each line that is taken, what it says of the boundary. In every other way it is the transport
-/// inside.
+/// A transport that notes, of each line that is taken, what it says of the boundary, and whether the pack is missing after `ready`.
+/// It forwards every call to the transport inside.
 #[derive(Drop)]
 pub(crate) struct Bounded<'a, T> {
     inner: T,
     bounds: &'a RefCell<Bounds>,
+    readiness: &'a Cell<Readiness>,
 }
 
 impl<'a, T> Bounded<'a, T> {
     /// The transport, of which is noted here.
-    pub(crate) fn new(inner: T, bounds: &'a RefCell<Bounds>) -> Bounded<'a, T>
+    pub(crate) fn new(
+        inner: T,
+        bounds: &'a RefCell<Bounds>,
+        readiness: &'a Cell<Readiness>,
+    ) -> Bounded<'a, T>
         ensures { result.inner ≡ inner }
     {
-        Bounded { inner, bounds }
+        Bounded {
+            inner,
+            bounds,
+            readiness,
+        }
     }
 }
 
@@ -130,6 +140,13 @@ impl<T: ExtendedBufRead> Bounded<'_, T> {
         if let Ok(mut bounds) = self.bounds.try_borrow_mut() {
             bounds.note(self.inner.line());
         }
+        let readiness = self.readiness.get().after_line(self.inner.line());
+        self.readiness.set(readiness);
+    }
+
+    // Notes what ended the lines.
+    fn note_end(&self, stop: Option<MessageKind>) {
+        self.readiness.set(self.readiness.get().after_end(stop));
     }
 }
 
@@ -146,13 +163,29 @@ impl<T: ExtendedBufRead> ExtendedBufRead for Bounded<'_, T> {
                 self.note();
                 Ok(true)
             }
-            Ok(false) => Ok(false),
-            Err(e) => Err(e),
+            Ok(false) => {
+                self.note_end(self.inner.stopped_at());
+                Ok(false)
+            }
+            Err(e) => {
+                self.note_end(None);
+                Err(e)
+            }
         }
     }
 
     fn peek_line(&mut self) -> Result<bool, read::Error> {
-        self.inner.peek_line()
+        match self.inner.peek_line() {
+            Ok(true) => Ok(true),
+            Ok(false) => {
+                self.note_end(self.inner.stopped_at());
+                Ok(false)
+            }
+            Err(e) => {
+                self.note_end(None);
+                Err(e)
+            }
+        }
     }
 
     fn line(&self) -> &[u8] {

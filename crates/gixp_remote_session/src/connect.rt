@@ -8,6 +8,7 @@ ghost use Rattle.gixp_remote_session.specs.UserChoices.{IsProbed};
 use crate::bounded::{Bounded, Bounds, forget};
 use crate::chosen::{check_allowed, check_family, opening_by, probed, ssh_by, variant_by};
 use crate::pipes::{HEARS, SAYS};
+use crate::readiness::Readiness;
 use crate::setup::{bytes_of, variable, version_word};
 use crate::shell::{NOTHING, Shell, owned};
 use crate::trouble::Trouble;
@@ -42,6 +43,8 @@ pub(crate) struct Reach<'a> {
     pub(crate) has_failed: &'a Cell<bool>,
     /// What the server said of the shallow boundary.
     pub(crate) bounds: &'a RefCell<Bounds>,
+    /// Whether the server is ready to send the pack.
+    pub(crate) readiness: &'a Cell<Readiness>,
 }
 
 // Refuses a transport that the user doesn't allow.
@@ -268,7 +271,7 @@ fn open_wire<'a>(reach: Reach<'a>, choices: &Choices) -> Result<Wire<'a>, Troubl
         Vec::new(alloc),
         opening_of(reach)?,
     )?;
-    Ok(Bounded::new(connection, reach.bounds))
+    Ok(Bounded::new(connection, reach.bounds, reach.readiness))
 }
 
 /// Starts the server, where the user allows its transport. The shell ends one that was started before.

@@ -16,6 +16,7 @@ use crate::order::{
 };
 use crate::pack::{BAD_HEADER, Came, PackPlan, PackRules, PackState, QuarantinedPack};
 use crate::place::{place, place_objects};
+use crate::readiness::Readiness;
 use crate::shell::Shell;
 use crate::trouble::Trouble;
 use crate::unpacking::limit_of;
@@ -135,8 +136,11 @@ fn fetch_by(
     if session.version() == Protocol::V2 {
         forget(order.reach.bounds);
     }
+    order.reach.readiness.set(Readiness::Unready);
     let place = QuarantinedPack::new(rt.clone()?, shell, pack, order.reach.bounds);
-    match fetch_over(order.reach, session, asked, repository, commits, place) {
+    let fetched = fetch_over(order.reach, session, asked, repository, commits, place);
+    order.reach.readiness.get().expect_pack()?;
+    match fetched {
         Ok(boundary) => Ok(Came {
             pack: shell.pack,
             boundary,

@@ -14,6 +14,7 @@ mod order;
 mod pack;
 mod pipes;
 mod place;
+mod readiness;
 mod remote;
 mod setup;
 mod shell;

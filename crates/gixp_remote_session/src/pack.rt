@@ -2,7 +2,7 @@
 ghost use Rattle.std.specs.Prelude.{◌≡◌, ◌≤◌, ◌-◌, ◌&&◌, ⊤, ◌∷◌, [], ◌++◌, true, false, not, min, map, codes, IfOk, IfSome, OnOk, string_bytes};
 ghost use Rattle.bstr.specs.Owned.{bstring_bytes};
 ghost use Rattle.gixp_remote_rules.specs.Choosing.{chosen};
-ghost use Rattle.gixp_remote_session.specs.Packs.{pack_folder, IsPlan, SamePlan, has_objects, is_bounded, is_unpacked, unpacked_state, kept_state, IsOutcome};
+ghost use Rattle.gixp_remote_session.specs.Packs.{pack_folder, IsPlan, SamePlan, has_objects, is_bounded, is_unpacked, unpacked_state, kept_state, IsStateAfter};
 ghost use Rattle.gixp_remote_session.specs.Troubles.{kind_of};
 
 use crate::bounded::Bounds;
@@ -429,7 +429,7 @@ impl Job<'_> {
 
     // What became of the pack, by what git says of it and its status.
     fn outcome(&self, text: &[u8], status: u32) -> Option<PackState>
-        ensures { IsOutcome self.now.is_unpacked self.now.is_bounded self.now.count text.now status result }
+        ensures { IsStateAfter self.now.is_unpacked self.now.is_bounded self.now.count text.now status result }
     {
         if self.is_unpacked {
             return unpacked_state(self.count, self.is_bounded, status);

@@ -6,6 +6,7 @@ use crate::fetching::{Open, fetch};
 use crate::listing::{RefsTold, refs_told};
 use crate::order::Order;
 use crate::pack::clear_folder;
+use crate::readiness::Readiness;
 use crate::setup::{Given, read_given, read_settings, variable, version_of, within};
 use crate::shell::Shell;
 use crate::trouble::{Trouble, show};
@@ -175,6 +176,8 @@ struct Begun {
     has_failed: Cell<bool>,
     // What the server said of the shallow boundary.
     bounds: RefCell<Bounds>,
+    // Whether the server is ready to send the pack.
+    readiness: Cell<Readiness>,
 }
 
 // Speaks with git from this step on.
@@ -196,6 +199,7 @@ fn serve<R: BufRead>(
             erases: begun.given.erases,
             has_failed: &begun.has_failed,
             bounds: &begun.bounds,
+            readiness: &begun.readiness,
         },
         shell,
         open: None,
@@ -238,6 +242,7 @@ pub(crate) fn converse(rt: &HostRuntime) -> Result<(), Trouble> {
         settings,
         has_failed: Cell::new(false),
         bounds: RefCell::new(Bounds::new(alloc)),
+        readiness: Cell::new(Readiness::Unready),
     };
     serve(&begun, shell, talk, first, &mut lines)
 }
