@@ -1,5 +1,5 @@
 //! Where the pack goes: git indexes it, or unpacks it, in a folder for objects of its own.
-ghost use Rattle.std.specs.Prelude.{◌≡◌, ◌≤◌, ◌-◌, ◌&&◌, ⊤, ◌∷◌, [], ◌++◌, true, false, not, min, map, codes, IfOk, IfSome, OnOk, string_bytes};
+ghost use Rattle.std.specs.Prelude.{◌≡◌, ◌≤◌, ◌-◌, ◌&&◌, ⊤, ◌∷◌, [], ◌++◌, true, false, not, min, length, map, codes, IfOk, IfSome, OnOk, string_bytes};
 ghost use Rattle.bstr.specs.Owned.{bstring_bytes};
 ghost use Rattle.gixp_remote_rules.specs.Choosing.{chosen};
 ghost use Rattle.gixp_remote_session.specs.Packs.{pack_folder, IsPlan, SamePlan, has_objects, is_bounded, is_unpacked, unpacked_state, kept_state, IsStateAfter};
@@ -507,7 +507,9 @@ pub(crate) struct PackWriter<'a> {
 
 impl PackWriter<'_> {
     // Takes bytes of the header. Returns how many, and whether it is whole.
-    fn take_header(header: &mut Vec<u8>, buf: &[u8]) -> io::Result<(usize, bool)> {
+    fn take_header(header: &mut Vec<u8>, buf: &[u8]) -> io::Result<(usize, bool)>
+        ensures { IfOk result (λ taken. taken.0 ≤ length buf.now) }
+    {
         let count = missing(header.len(), buf.len());
         match header.extend_from_slice(&buf[..count]) {
             Ok(()) => Ok((count, header.len() == HEADER_LEN)),
