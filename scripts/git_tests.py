@@ -162,7 +162,7 @@ class Suite:
             "PATH": f"{self.tools}:/usr/local/bin:/usr/bin:/bin:/usr/sbin:/sbin", "HOME": "/nonexistent", "SHELL": "/bin/bash",
             "TERM": "dumb", "LANG": "C", "TMPDIR": "/var/tmp", "TEST_OUTPUT_DIRECTORY": str(out), "GIXP_TESTS_LOG": str(log),
             "GIXP_TESTS_SECONDS": str(self.given.patience), "GIT_TEST_VIA_HELPER": "gixp" if via else "",
-            "LIB_HTTPD_PORT": str(port), "LIB_GIT_DAEMON_PORT": str(port + 2000),
+            "GIT_TEST_CHAIN_LINT": "0", "LIB_HTTPD_PORT": str(port), "LIB_GIT_DAEMON_PORT": str(port + 2000),
         }
         user = ["setpriv", f"--reuid={self.user.pw_uid}", f"--regid={self.user.pw_gid}", "--clear-groups"] if self.user else []
         words = ["prlimit", f"--nproc={self.given.processes}", *user, "timeout", "-k", "10", str(self.seconds),
