@@ -47,8 +47,8 @@ MAKE = ["NO_OPENSSL=1", "NO_GETTEXT=1", "NO_TCLTK=1", "NO_PYTHON=1", "PYTHON_PAT
         "gitexecdir=/usr/lib/git-core", f"GIT_VERSION={VERSION}", "CFLAGS=-O1 -g0"]
 # seconds after which a script is ended
 SECONDS = 1200
-# with --quick, where a slow machine is no failure, and seconds after which no other script begins
-QUICK_SECONDS, QUICK_BEGINS = 60, 60
+# with --quick, where a slow machine is no failure: the same, seconds after which no other script begins, and those for building git
+QUICK_SECONDS, QUICK_BEGINS, QUICK_BUILD = 45, 45, 80
 USUAL = ["t55*", "t56*", "t57*", "t58*", "t0410", "t2080", "t5330"]
 QUICK = ["t5500", "t5503", "t5504", "t5512", "t5525", "t5537", "t5539", "t5552", "t5553", "t5570", "t5582", "t5604", "t5605", "t5606",
          "t5611", "t5612", "t5613", "t5700", "t5703", "t5705"]
@@ -90,13 +90,13 @@ def find_source(given, work):
     folder = work / "source"
     folder.mkdir(parents=True, exist_ok=True)
     if not list(folder.glob("git-*/GIT-VERSION-GEN")) and shutil.which("apt-get"):
-        subprocess.run(["timeout", "120", "apt-get", "source", "git"], cwd=folder, capture_output=True)
+        subprocess.run(["timeout", "60", "apt-get", "source", "git"], cwd=folder, capture_output=True)
     for found in folder.glob("git-*/GIT-VERSION-GEN"):
         return found.parent
     raise Missing("git's source isn't here: set GIT_SOURCE, or give apt a deb-src line")
 
 
-def build(source, work, jobs):
+def build(source, work, given):
     """A copy of the source that is patched and built: made once for each source and patch."""
     if f"DEF_VER=v{VERSION}" not in (source / "GIT-VERSION-GEN").read_text():
         raise Missing(f"the source of git isn't {VERSION}")
@@ -109,9 +109,10 @@ def build(source, work, jobs):
     shutil.rmtree(tree, ignore_errors=True)
     shutil.copytree(source, tree, symlinks=True)
     subprocess.run(["patch", "-s", "-p1", "-i", PATCH], cwd=tree, check=True)
+    words = ["timeout", str(QUICK_BUILD if given.quick else SECONDS), "make", "-s", f"-j{given.jobs}", "all", *MAKE]
     with open(work / "make.log", "w") as log:
-        if subprocess.run(["make", "-s", f"-j{jobs}", "all", *MAKE], cwd=tree, stdout=log, stderr=log).returncode:
-            raise Missing(f"git can't be built ({work}/make.log)")
+        if subprocess.run(words, cwd=tree, stdout=log, stderr=log).returncode:
+            raise Missing(f"git can't be built, or not in time ({work}/make.log)")
     subprocess.run(["chmod", "-R", "a+rX", tree], check=True)
     stamp.write_text(wanted)
     return tree
@@ -162,7 +163,7 @@ class Suite:
             "PATH": f"{self.tools}:/usr/local/bin:/usr/bin:/bin:/usr/sbin:/sbin", "HOME": "/nonexistent", "SHELL": "/bin/bash",
             "TERM": "dumb", "LANG": "C", "TMPDIR": "/var/tmp", "TEST_OUTPUT_DIRECTORY": str(out), "GIXP_TESTS_LOG": str(log),
             "GIXP_TESTS_SECONDS": str(self.given.patience), "GIT_TEST_VIA_HELPER": "gixp" if via else "",
-            "LIB_HTTPD_PORT": str(port), "LIB_GIT_DAEMON_PORT": str(port + 2000),
+            "GIT_TEST_CHAIN_LINT": "0", "LIB_HTTPD_PORT": str(port), "LIB_GIT_DAEMON_PORT": str(port + 2000),
         }
         user = ["setpriv", f"--reuid={self.user.pw_uid}", f"--regid={self.user.pw_gid}", "--clear-groups"] if self.user else []
         words = ["prlimit", f"--nproc={self.given.processes}", *user, "timeout", "-k", "10", str(self.seconds),
@@ -279,7 +280,7 @@ def main():
     table, wrong = read_table()
     try:
         source = find_source(given.source, work)
-        tree, tools = build(source, work, given.jobs), install(work, given.remote.resolve())
+        tree, tools = build(source, work, given), install(work, given.remote.resolve())
     except Missing as missing:
         say([*wrong, f"{missing}: git's own tests aren't run"])
         sys.exit(1 if wrong or not given.quick else 0)
