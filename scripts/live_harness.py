@@ -246,7 +246,9 @@ def is_clean(t, repository):
 
 def files_left(folder):
     """What a fetch may leave in a repository, or in one below a folder: folders of a pack, and locks that aren't the user's own."""
-    found = [path for path in folder.rglob("*") if path.name.startswith("tmp_objdir-") or path.suffix in (".keep", ".lock")]
+    # a folder that goes away meanwhile is passed over
+    names = (pathlib.Path(at) / name for at, folders, files in os.walk(folder) for name in (*folders, *files))
+    found = [path for path in names if path.name.startswith("tmp_objdir-") or path.suffix in (".keep", ".lock")]
     return [path for path in found if not (path.is_file() and path.read_bytes() == USERS)]
 
 
@@ -304,8 +306,11 @@ def fetches(name, t, prepare, words, version="2", change=None, cloned=(), over=N
         return t.check(name, False, first[2] + second[2])
     if change:
         change(t, server)
-    first = t.run("git", "-c", f"protocol.version={version}", "fetch", "-q", *words, at=by_git, more=more)
-    second = t.run("git", "fetch", "-q", *words, at=by_us, more={"GIXP_VERSION": version, **(more or {})})
+    # tags that a deepened history reaches come with the next fetch
+    deepens = any(word.startswith(("--depth", "--deepen", "--unshallow", "--shallow-")) for word in words)
+    for these in (words, []) if deepens else (words,):
+        first = t.run("git", "-c", f"protocol.version={version}", "fetch", "-q", *these, at=by_git, more=more)
+        second = t.run("git", "fetch", "-q", *these, at=by_us, more={"GIXP_VERSION": version, **(more or {})})
     return same(t, name, by_git, by_us, first, second)
 
 

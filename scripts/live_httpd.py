@@ -207,7 +207,7 @@ class Answers(http.server.BaseHTTPRequestHandler):
             return self.say(401, [("WWW-Authenticate", 'Basic realm="x"')])
         if os.environ.get("WEB_TO"):
             return self.say(302, [("Location", os.environ["WEB_TO"] + self.path)])
-        if os.environ.get("WEB_ANSWER_AT", "\0").encode() in body:
+        if "WEB_ANSWER" in os.environ and os.environ["WEB_ANSWER_AT"].encode() in body:
             return self.say(200, [("Content-Type", "application/x-git-upload-pack-result")], Path(os.environ["WEB_ANSWER"]).read_bytes())
         return self.pass_on(body) if os.environ.get("WEB_THROUGH") else self.run(body)
 

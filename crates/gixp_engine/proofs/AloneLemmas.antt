@@ -1,5 +1,6 @@
 -- The steps of a session without an account.
-use Rattle.std.proofs.Common.{◌≡◌, ◌∙◌, ◌↔◌, true, false, Bool, IsTrue, [], Option, Result, Ok, ap, subst}
+use Rattle.std.proofs.Common.{◌≡◌, ◌∙◌, ◌↔◌, true, false, Bool, IsTrue, [], Option, Result, Ok, Err, ap, subst, sym}
+use Rattle.std.specs.Prelude.{IfOk}
 use Rattle.std.specs.declared.alloc.AllocError.{AllocError}
 use Rattle.gixp_packetline.specs.declared.protocol.Protocol.{Protocol}
 use Rattle.gixp_packetline.specs.Reading.{Reading}
@@ -7,6 +8,7 @@ use Rattle.gixp_requests.specs.Command.{TableValue, git_table}
 use Rattle.gixp_requests.specs.Feature.{FeatureValue}
 use Rattle.gixp_refmap.specs.declared.fetch.Tags.TheVariants as tags
 use Rattle.gixp_refmap.specs.declared.refmap.init.Context.{Context}
+use Rattle.gixp_refmap.specs.declared.refmap.init.Error.{Error as MapError}
 use Rattle.gixp_refmap.specs.declared.refmap.map.RefMap.{RefMap}
 use Rattle.gixp_handshake.specs.declared.handshake.read.Handshake.{Handshake}
 use Rattle.gixp_handshake.specs.Taken.{without_refs}
@@ -17,7 +19,7 @@ use Rattle.gixp_fetch.specs.Fetch.{World, Parties}
 use Rattle.gixp_fetch.specs.Fetched.{Fetches, call_of}
 use Rattle.gixp_engine.specs.declared.consumer.Left.{Left}
 use Rattle.gixp_engine.specs.declared.error.EngineError.{EngineError}
-use Rattle.gixp_engine.specs.Alone.{engine_agent, engine_call, end_of_fetch, CarriesCall, ShakesAlone, MapsAlone, EngineSession, ends_refs, fetched}
+use Rattle.gixp_engine.specs.Alone.{engine_agent, engine_call, end_of_fetch, CarriesCall, ShakesAlone, MapsAlone, EngineSession, ends_refs, map_of_whole, fetched}
 
 -- what the engine hands in is its table and its name
 pub carries-call : {N I A S C P X : Type 0} (parties : Parties N I A S C P X) (first : World N I S C)
@@ -41,6 +43,23 @@ module _ (Receives : RefMap → Handshake → Reading → Reading → Result (Op
   session-ran context plain old mid behind new h k m r ended s l whole e some f q =
       fetched h mid behind m r s l whole some (subst (λ x. Receives m x behind new r) e f)
       (q ∙ ap (λ (x : Handshake). end_of_fetch x.server_protocol_version r) e)
+
+-- a ref map that was made, of refs that are whole
+pub maps-made : (context : Context) (h : Handshake) (plain : Bool) (old new : Reading) (r : Result RefMap MapError) (m : RefMap)
+    → r ≡ Ok m → MapsAlone context h plain old new r → MapsAlone context h plain old new (Ok m)
+maps-made context h plain old new r m e f = subst (λ (x : Result RefMap MapError). MapsAlone context h plain old new x) e f
+
+pub took-refs : (h k : Handshake) (r : Result RefMap MapError) (m : RefMap) → r ≡ Ok m → IfOk r (λ _. k ≡ without_refs h)
+    → k ≡ without_refs h
+took-refs h k r m e f = subst (λ (x : Result RefMap MapError). IfOk x (λ _. k ≡ without_refs h)) e f
+
+pub ends-whole : (b b' : Bool) → b ≡ true → b ≡ b' → b' ≡ true
+ends-whole b b' h e = sym e ∙ h
+
+-- why there is none, by where the refs end
+pub refused-by : (r : Result RefMap MapError) (b b' : Bool) (e : EngineError) → Err e ≡ map_of_whole r b → b ≡ b'
+    → map_of_whole r b' ≡ Err e
+refused-by r b b' e h f = ap (map_of_whole r) (sym f) ∙ sym h
 
 -- a test that fails refutes what it tells
 pub untold : (b : Bool) {P : Type 0} → IsTrue b ↔ P → b ≡ false → P → ⊥

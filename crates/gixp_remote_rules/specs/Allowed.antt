@@ -1,5 +1,5 @@
 -- Which transports the user allows (git-config, "protocol.allow"; git, "GIT_ALLOW_PROTOCOL").
-use Rattle.std.specs.Prelude.{ℕ, ◌==◌, ◌||◌, Bool, true, false, if◌then◌else◌, List, ◌++◌, codes, Option, Some, None}
+use Rattle.std.specs.Prelude.{ℕ, ◌==◌, ◌||◌, Bool, true, if◌then◌else◌, List, ◌++◌, codes, Option, Some, None}
 use Rattle.std.specs.List.{list_any, slice_split}
 use Rattle.std.specs.Str.{bytes_eq}
 use Rattle.gixp_remote_rules.specs.declared.policy.Policy.{Policy}

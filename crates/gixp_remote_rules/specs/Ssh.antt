@@ -92,10 +92,14 @@ call_value c = record {
   host = c.host.now;
 }
 
--- the version is sent by a variable
+-- OpenSSH sends the version by a variable
+abbrev pub is_sent : Variant → Bool → Bool
+is_sent Ssh sends_version = sends_version
+is_sent variant sends_version = false
+
 abbrev pub version_words : Variant → Bool → List (List ℕ)
-version_words Ssh true = codes "-o" ∷ codes "SendEnv=GIT_PROTOCOL" ∷ []
-version_words variant sends_version = []
+version_words variant sends_version =
+    if is_sent variant sends_version then codes "-o" ∷ codes "SendEnv=GIT_PROTOCOL" ∷ [] else []
 
 -- a kind that can be limited to addresses of one family
 abbrev pub has_families : Variant → Bool

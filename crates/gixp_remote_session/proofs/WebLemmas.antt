@@ -6,7 +6,7 @@ use Rattle.std.specs.Io.KnownBytes.{Appends}
 use Rattle.gixp_remote_rules.specs.declared.dialogue.Family.{Family}
 use Rattle.gixp_remote_session.specs.declared.trouble.Trouble.{Trouble}
 use Rattle.gixp_remote_session.specs.declared.trouble.Trouble.TheVariants.{Fetch, Url, Io, Command, Other, Fatal, Told, NoRefs, Word, Variable, Password, Ssh, Memory}
-use Rattle.gixp_remote_session.specs.WebServer.{reply_in, has_replied, have_replied, behind_option, behind_options, is_limited, IsUnheard, WebOutcome, ends, list_outcome, by_reply, web_outcome, ComesTo, TellsOutcome, options_asked, connect_asked, WasAsked}
+use Rattle.gixp_remote_session.specs.WebServer.{reply_in, has_replied, have_replied, behind_option, behind_options, is_limited, IsUnheard, WebOutcome, ends, list_outcome, by_reply, web_outcome, ComesTo, TellsOutcome, option_asked, family_line, options_asked, connect_asked, WasAsked}
 
 -- the reply to the second option stands behind that to the first
 pub both_replied : (q : Bool) (y : Family) (said mid : Option (List ℕ)) → IfSome said (λ bytes. has_replied q bytes ≡ true)
@@ -130,3 +130,12 @@ asked_list q y old first second new (Variable name value) a b o = tt
 asked_list q y old first second new (Password url) a b o = tt
 asked_list q y old first second new (Ssh error) a b o = tt
 asked_list q y old first second new Memory a b o = tt
+
+-- the second option is the one of the family
+pub both_asked : (q : Bool) (y : Family) (old mid new : Option (List ℕ)) (is_set : Bool) (line : List ℕ)
+    → Appends old mid (option_asked q (codes "option verbosity 0\n")) → Appends mid new (option_asked is_set line)
+    → is_set ≡ is_limited y → line ≡ family_line y → Appends old new (options_asked q y)
+both_asked q y old mid new is_set line a b e f =
+    appends_then old mid new (option_asked q (codes "option verbosity 0\n")) (option_asked (is_limited y) (family_line y)) a
+    (subst (λ (v : Bool). Appends mid new (option_asked v (family_line y))) e
+    (subst (λ (v : List ℕ). Appends mid new (option_asked is_set v)) f b))

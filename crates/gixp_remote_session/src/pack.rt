@@ -1,5 +1,5 @@
 //! Where the pack goes: git indexes it, or unpacks it, in a folder for objects of its own.
-ghost use Rattle.std.specs.Prelude.{◌≡◌, ◌≤◌, ◌-◌, ◌&&◌, ⊤, ◌∷◌, [], ◌++◌, true, false, not, min, map, codes, IfOk, IfSome, OnOk, string_bytes};
+ghost use Rattle.std.specs.Prelude.{◌≡◌, ◌≤◌, ◌-◌, ◌&&◌, ⊤, ◌∷◌, [], ◌++◌, true, false, not, min, length, map, codes, IfOk, IfSome, OnOk, string_bytes};
 ghost use Rattle.bstr.specs.Owned.{bstring_bytes};
 ghost use Rattle.gixp_remote_rules.specs.Choosing.{chosen};
 ghost use Rattle.gixp_remote_session.specs.Packs.{pack_folder, IsPlan, SamePlan, has_objects, is_bounded, is_unpacked, unpacked_state, kept_state, IsStateAfter};
@@ -367,21 +367,28 @@ impl Job<'_> {
         pack_variables(self.rt.alloc(), within(&self.rt), &self.plan.variables)
     }
 
+    // The words of git that unpacks the objects.
+    fn unpacking_words(&self) -> Result<Vec<BString>, AllocError> {
+        let shallow = self.plan.shallow.as_bytes();
+        if self.is_bounded {
+            unpack_words(self.rt.alloc(), Some(shallow), self.plan.shows_progress)
+        } else {
+            unpack_words(self.rt.alloc(), None, self.plan.shows_progress)
+        }
+    }
+
     // Starts git that unpacks the objects.
     fn start_unpacking(&mut self) -> Result<(), Trouble> {
-        let shallow = if self.is_bounded {
-            Some(self.plan.shallow.as_bytes())
-        } else {
-            None
-        };
-        let words = unpack_words(self.rt.alloc(), shallow, self.plan.shows_progress)?;
-        start_git(self.shell, &self.variables()?, &words)
+        let variables = self.variables()?;
+        let words = self.unpacking_words()?;
+        start_git(self.shell, &variables, &words)
     }
 
     // Starts git that indexes the pack.
     fn start_indexing(&mut self) -> Result<(), Trouble> {
+        let variables = self.variables()?;
         let words = words_by(&self.plan.words, &self.plan.bounded_words, self.is_bounded);
-        start_git(self.shell, &self.variables()?, words)
+        start_git(self.shell, &variables, words)
     }
 
     // Starts git for a pack of this header, opens the two pipes, and passes the header on.
@@ -500,7 +507,9 @@ pub(crate) struct PackWriter<'a> {
 
 impl PackWriter<'_> {
     // Takes bytes of the header. Returns how many, and whether it is whole.
-    fn take_header(header: &mut Vec<u8>, buf: &[u8]) -> io::Result<(usize, bool)> {
+    fn take_header(header: &mut Vec<u8>, buf: &[u8]) -> io::Result<(usize, bool)>
+        ensures { IfOk result (λ taken. taken.0 ≤ length buf.now) }
+    {
         let count = missing(header.len(), buf.len());
         match header.extend_from_slice(&buf[..count]) {
             Ok(()) => Ok((count, header.len() == HEADER_LEN)),
@@ -558,7 +567,7 @@ impl Write for PackWriter<'_> {
 /// A pack that git takes into a folder of its own as it comes.
 #[derive(Drop)]
 pub(crate) struct QuarantinedPack<'a> {
-    // What is done with it, unless it is being written.
+    // What is done with it, until it is written.
     job: Option<Job<'a>>,
 }
 
@@ -611,22 +620,18 @@ impl<'a> PackPlace for QuarantinedPack<'a> {
     fn keep(&mut self, writer: PackWriter<'a>) -> io::Result<()> {
         let PackWriter { mut job, stream } = writer;
         drop(stream);
-        let kept = match job.finish() {
+        match job.finish() {
             Ok(state) => {
                 job.shell.pack = state;
                 Ok(())
             }
             Err(e) => Err(io::Error::from(kind_of(&e))),
-        };
-        self.job = Some(job);
-        kept
+        }
     }
 
     fn give_up(&mut self, writer: PackWriter<'a>) {
         let PackWriter { mut job, stream } = writer;
         drop(stream);
         let _ = job.shell.end(Task::Pack);
-        job.told = None;
-        self.job = Some(job);
     }
 }

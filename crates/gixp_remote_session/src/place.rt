@@ -1,5 +1,7 @@
 //! Puts what is in the folder of a pack beside the other objects, as git moves it out of a quarantine.
 ghost use Rattle.std.specs.Prelude.{◌≡◌, IfOk, IfSome, codes, string_bytes};
+ghost use Rattle.std.specs.Char.{is_ascii_hexdigit};
+ghost use Rattle.std.specs.List.{list_all};
 ghost use Rattle.bstr.specs.Owned.{bstring_bytes};
 ghost use Rattle.gixp_remote_rules.specs.Indexed.{pack_file};
 ghost use Rattle.gixp_remote_session.specs.Packs.{is_always_there, is_object_folder};
@@ -115,11 +117,18 @@ pub(crate) fn place(
     }
 }
 
+// Whether all bytes are hexadecimal digits.
+fn are_hex_digits(name: &[u8]) -> bool
+    ensures { result ≡ list_all is_ascii_hexdigit name.now }
+{
+    name.iter().all(|b| b.is_ascii_hexdigit())
+}
+
 // Whether a folder of this name has objects, of whose ids these are the first two digits.
 fn is_object_folder(name: &[u8]) -> bool
     ensures { result ≡ is_object_folder name.now }
 {
-    name.len() == 2 && name.iter().all(|b| b.is_ascii_hexdigit())
+    name.len() == 2 && are_hex_digits(name)
 }
 
 // Moves the objects of a folder, one by one, where there is such a folder already or it is another file system's.

@@ -5,4 +5,4 @@ use Rattle.gixp_remote_session.proofs.ShownLemmas.{ShownSoFar}
 use Rattle.gixp_remote_session.proofs.local.shown_in.Given as goal
 
 abbrev pub invariant-lines : goal.invariant-lines
-invariant-lines l = ShownSoFar (map bstr_bytes l.lines.items) (map bstr_bytes (drop l.line-index l.lines.items)) l.shown.items
+invariant-lines l = ShownSoFar (map bstr_bytes l.line-items) (map bstr_bytes (drop l.line-index l.line-items)) l.shown.items
