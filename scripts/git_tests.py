@@ -90,7 +90,8 @@ def find_source(given, work):
     folder = work / "source"
     folder.mkdir(parents=True, exist_ok=True)
     if not list(folder.glob("git-*/GIT-VERSION-GEN")) and shutil.which("apt-get"):
-        subprocess.run(["timeout", "60", "apt-get", "source", "git"], cwd=folder, capture_output=True)
+        if subprocess.run(["timeout", "60", "apt-get", "source", "git"], cwd=folder, capture_output=True).returncode:
+            shutil.rmtree(folder)
     for found in folder.glob("git-*/GIT-VERSION-GEN"):
         return found.parent
     raise Missing("git's source isn't here: set GIT_SOURCE, or give apt a deb-src line")
