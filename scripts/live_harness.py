@@ -297,6 +297,12 @@ def clones(name, t, server, version, *words, over=None):
     same(t, name, *clone_both(t, server, *words, version=version, urls=urls, more=more))
 
 
+def fetches_of(words):
+    """The fetches after which git and the helper left the same: tags that a deepened history reaches come with the next one."""
+    deepens = any(word.startswith(("--depth", "--deepen", "--unshallow", "--shallow-")) for word in words)
+    return (words, []) if deepens else (words,)
+
+
 def fetches(name, t, prepare, words, version="2", change=None, cloned=(), over=None):
     """A clone, a change of the server, and a fetch."""
     server = prepare(t)
@@ -306,9 +312,7 @@ def fetches(name, t, prepare, words, version="2", change=None, cloned=(), over=N
         return t.check(name, False, first[2] + second[2])
     if change:
         change(t, server)
-    # tags that a deepened history reaches come with the next fetch
-    deepens = any(word.startswith(("--depth", "--deepen", "--unshallow", "--shallow-")) for word in words)
-    for these in (words, []) if deepens else (words,):
+    for these in fetches_of(words):
         first = t.run("git", "-c", f"protocol.version={version}", "fetch", "-q", *these, at=by_git, more=more)
         second = t.run("git", "fetch", "-q", *these, at=by_us, more={"GIXP_VERSION": version, **(more or {})})
     return same(t, name, by_git, by_us, first, second)
