@@ -90,7 +90,8 @@ def find_source(given, work):
     folder = work / "source"
     folder.mkdir(parents=True, exist_ok=True)
     if not list(folder.glob("git-*/GIT-VERSION-GEN")) and shutil.which("apt-get"):
-        subprocess.run(["timeout", "60", "apt-get", "source", "git"], cwd=folder, capture_output=True)
+        if subprocess.run(["timeout", "60", "apt-get", "source", "git"], cwd=folder, capture_output=True).returncode:
+            shutil.rmtree(folder)
     for found in folder.glob("git-*/GIT-VERSION-GEN"):
         return found.parent
     raise Missing("git's source isn't here: set GIT_SOURCE, or give apt a deb-src line")
@@ -100,21 +101,23 @@ def build(source, work, given):
     """A copy of the source that is patched and built: made once for each source and patch."""
     if f"DEF_VER=v{VERSION}" not in (source / "GIT-VERSION-GEN").read_text():
         raise Missing(f"the source of git isn't {VERSION}")
-    tree, stamp = work / "git", work / "git.stamp"
+    tree, copied, built = work / "git", work / "git.copied", work / "git.built"
     wanted = hashlib.sha256("\0".join([str(source), PATCH.read_text(), *MAKE]).encode()).hexdigest()
-    if stamp.exists() and stamp.read_text() == wanted:
-        return tree
-    stamp.unlink(missing_ok=True)
-    shutil.rmtree(work / "plain", ignore_errors=True)
-    shutil.rmtree(tree, ignore_errors=True)
-    shutil.copytree(source, tree, symlinks=True)
-    subprocess.run(["patch", "-s", "-p1", "-i", PATCH], cwd=tree, check=True)
-    words = ["timeout", str(QUICK_BUILD if given.quick else SECONDS), "make", "-s", f"-j{given.jobs}", "all", *MAKE]
-    with open(work / "make.log", "w") as log:
-        if subprocess.run(words, cwd=tree, stdout=log, stderr=log).returncode:
-            raise Missing(f"git can't be built, or not in time ({work}/make.log)")
-    subprocess.run(["chmod", "-R", "a+rX", tree], check=True)
-    stamp.write_text(wanted)
+    if not (copied.exists() and copied.read_text() == wanted):
+        for one in (copied, built):
+            one.unlink(missing_ok=True)
+        for one in (tree, work / "plain"):
+            shutil.rmtree(one, ignore_errors=True)
+        shutil.copytree(source, tree, symlinks=True)
+        subprocess.run(["patch", "-s", "-p1", "-i", PATCH], cwd=tree, check=True)
+        copied.write_text(wanted)
+    if not built.exists():
+        words = ["timeout", str(QUICK_BUILD if given.quick else SECONDS), "make", "-s", f"-j{given.jobs}", "all", *MAKE]
+        with open(work / "make.log", "w") as log:
+            if subprocess.run(words, cwd=tree, stdout=log, stderr=log).returncode:
+                raise Missing(f"git can't be built, or not in time ({work}/make.log)")
+        subprocess.run(["chmod", "-R", "a+rX", tree], check=True)
+        built.touch()
     return tree
 
 
