@@ -297,10 +297,23 @@ def clones(name, t, server, version, *words, over=None):
     same(t, name, *clone_both(t, server, *words, version=version, urls=urls, more=more))
 
 
-def fetches_of(words):
-    """The fetches after which git and the helper left the same: tags that a deepened history reaches come with the next one."""
-    deepens = any(word.startswith(("--depth", "--deepen", "--unshallow", "--shallow-")) for word in words)
-    return (words, []) if deepens else (words,)
+def is_early(word):
+    """Whether a fetch by this option deepens the history so that its tags come with the next fetch alone (docs/DIFFERENCES.md)."""
+    return word.startswith(("--deepen", "--unshallow", "--shallow-since"))
+
+
+def without_tags(found):
+    """A state without its tags."""
+    refs, *others = found
+    return [line for line in refs.splitlines() if " refs/tags/" not in line], *others
+
+
+def fetch_again(t, name, by_git, by_us, version="2", more=None):
+    """After such a fetch: all but the tags is the same already, and they are after the next fetch."""
+    states = [without_tags(state(t, client)) for client in (by_git, by_us)]
+    t.check(f"{name}, before its tags", states[0] == states[1], states)
+    t.run("git", "-c", f"protocol.version={version}", "fetch", "-q", at=by_git, more=more)
+    t.run("git", "fetch", "-q", at=by_us, more={"GIXP_VERSION": version, **(more or {})})
 
 
 def fetches(name, t, prepare, words, version="2", change=None, cloned=(), over=None):
@@ -312,9 +325,10 @@ def fetches(name, t, prepare, words, version="2", change=None, cloned=(), over=N
         return t.check(name, False, first[2] + second[2])
     if change:
         change(t, server)
-    for these in fetches_of(words):
-        first = t.run("git", "-c", f"protocol.version={version}", "fetch", "-q", *these, at=by_git, more=more)
-        second = t.run("git", "fetch", "-q", *these, at=by_us, more={"GIXP_VERSION": version, **(more or {})})
+    first = t.run("git", "-c", f"protocol.version={version}", "fetch", "-q", *words, at=by_git, more=more)
+    second = t.run("git", "fetch", "-q", *words, at=by_us, more={"GIXP_VERSION": version, **(more or {})})
+    if any(map(is_early, words)) and not first[0] and not second[0]:
+        fetch_again(t, name, by_git, by_us, version, more)
     return same(t, name, by_git, by_us, first, second)
 
 

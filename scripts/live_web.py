@@ -1,5 +1,5 @@
 """Cases of live.py over HTTP, beside git: web servers on loopback, by `git http-backend`."""
-from live_harness import clone_both, fetches_of, grow, is_clean, leaves_nothing, make, same, state
+from live_harness import clone_both, fetch_again, grow, is_clean, is_early, leaves_nothing, make, same, state
 from live_httpd import web_of, web_servers
 from live_servers import free_port
 
@@ -29,8 +29,9 @@ def web_fetches(name, t, web, words, change, cloned=()):
         if first[0] or second[0]:
             return t.check(name, False, first[2] + second[2])
         change(t, server)
-        for these in fetches_of(words):
-            first, second = t.run("git", "fetch", "-q", *these, at=by_git), t.run("git", "fetch", "-q", *these, at=by_us)
+        first, second = t.run("git", "fetch", "-q", *words, at=by_git), t.run("git", "fetch", "-q", *words, at=by_us)
+        if any(map(is_early, words)) and not first[0] and not second[0]:
+            fetch_again(t, name, by_git, by_us)
         return same(t, name, by_git, by_us, first, second)
 
 
