@@ -329,3 +329,4 @@ pub use Rattle.gixp_client.specs.declared.error.Error as SessionErrorType
 pub use Rattle.gixp_client.specs.declared.request.Request as RequestType
 pub use Rattle.gixp_client.specs.declared.state.State as SessionStateType
 pub use Rattle.gixp_client.specs.declared.session.Session as SessionType
+pub use Rattle.gixp_client.specs.declared.tables.UriProtocols as UriProtocolsType
