@@ -312,6 +312,7 @@ pub use Rattle.gixp_client.specs.Changes
 pub use Rattle.gixp_client.specs.ClientCalls
 pub use Rattle.gixp_client.specs.ClientError
 pub use Rattle.gixp_client.specs.ClientMaps
+pub use Rattle.gixp_client.specs.ClientNames
 pub use Rattle.gixp_client.specs.ClientPromise
 pub use Rattle.gixp_client.specs.Filters
 pub use Rattle.gixp_client.specs.Heard
@@ -326,6 +327,7 @@ pub use Rattle.gixp_client.specs.Tables
 pub use Rattle.gixp_client.specs.Unshallowed
 pub use Rattle.gixp_client.specs.Windows
 pub use Rattle.gixp_client.specs.declared.error.Error as SessionErrorType
+pub use Rattle.gixp_client.specs.declared.name.ClientName as ClientNameType
 pub use Rattle.gixp_client.specs.declared.request.Request as RequestType
 pub use Rattle.gixp_client.specs.declared.state.State as SessionStateType
 pub use Rattle.gixp_client.specs.declared.session.Session as SessionType

@@ -3,6 +3,7 @@ pub mod Tables
 pub mod Unshallowed
 pub mod Filters
 pub mod ClientError
+pub mod ClientNames
 pub mod ClientCalls
 pub mod ListEnds
 pub mod SessionStates
