@@ -36,7 +36,7 @@ pub use fetched::Fetched;
 pub use heard::Heard;
 pub use listen::{Kept, Listener, RemoteLines, ServerText, Silent};
 pub use name::ClientName;
-pub use once::fetch_once;
+pub use once::{fetch_once, fetch_once_with};
 pub use over::Filtered;
 pub use pipes::over_streams;
 pub use repository::Repository;
