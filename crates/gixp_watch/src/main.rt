@@ -1,0 +1,6 @@
+//! x
+#![tactic(auto)]
+use std::process::ExitCode;
+fn main(_rt: HostRuntime) -> ExitCode {
+    ExitCode::SUCCESS
+}
