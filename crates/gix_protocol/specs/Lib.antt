@@ -317,6 +317,7 @@ pub use Rattle.gixp_client.specs.ClientError
 pub use Rattle.gixp_client.specs.ErrorClasses
 pub use Rattle.gixp_client.specs.Clashes
 pub use Rattle.gixp_client.specs.ClientMaps
+pub use Rattle.gixp_client.specs.ClientNames
 pub use Rattle.gixp_client.specs.ClientPromise
 pub use Rattle.gixp_client.specs.Filters
 pub use Rattle.gixp_client.specs.Heard
@@ -331,6 +332,7 @@ pub use Rattle.gixp_client.specs.Tables
 pub use Rattle.gixp_client.specs.Unshallowed
 pub use Rattle.gixp_client.specs.Windows
 pub use Rattle.gixp_client.specs.declared.error.Error as SessionErrorType
+pub use Rattle.gixp_client.specs.declared.name.ClientName as ClientNameType
 pub use Rattle.gixp_client.specs.declared.request.Request as RequestType
 pub use Rattle.gixp_client.specs.declared.state.State as SessionStateType
 pub use Rattle.gixp_client.specs.declared.session.Session as SessionType

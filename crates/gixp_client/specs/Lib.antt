@@ -5,6 +5,7 @@ pub mod Filters
 pub mod ClientError
 pub mod ErrorClasses
 pub mod Clashes
+pub mod ClientNames
 pub mod ClientCalls
 pub mod ListEnds
 pub mod SessionStates

@@ -2,7 +2,8 @@
 ghost use Rattle.std.specs.Prelude.{◌≡◌, ◌⊎◌, [], None, Ok, IfOk};
 ghost use Rattle.gixp_packetline.specs.Reading.{Reading};
 ghost use Rattle.gixp_fetch.specs.Fetch.{parties_of};
-ghost use Rattle.gixp_client.specs.ClientCalls.{client_feature, session_knowledge};
+ghost use Rattle.gixp_client.specs.ClientCalls.{session_knowledge};
+ghost use Rattle.gixp_client.specs.ClientNames.{client_feature};
 ghost use Rattle.gixp_client.specs.ClientPromise.{IsOneRun};
 
 use crate::error::Error;
@@ -55,7 +56,7 @@ where
         ⟦<NeverInterrupt as Interrupt>⟧.says C.consumes T.is_plain)
         ⟦<SessionNegotiation<'a, F, R, AnyNegotiator> as NegotiatesMap>⟧.map_of
         ⟦<SessionNegotiation<'a, F, R, AnyNegotiator> as NegotiatesMap>⟧.knows
-        (client_feature agent.now) request.now (T.reading transport) came.0
+        (client_feature agent.now) [] request.now (T.reading transport) came.0
         (session_knowledge request.now (F.contents repository.entry.objects.now) (R.refs repository.entry.refs.now))
         repository.entry.boundary.now pack.old (Ok came.1.outcome) end pack.new)) }
 {
