@@ -10,6 +10,16 @@ pub struct Counted {
     pub errors: u64,
 }
 
+impl Counted {
+    /// None yet.
+    pub fn new() -> Counted {
+        Counted {
+            progress: 0,
+            errors: 0,
+        }
+    }
+}
+
 impl Listener for Counted {
     fn hear(&mut self, is_error: bool, _text: &[u8]) {
         if is_error {

@@ -1,6 +1,8 @@
 //! Fetches over recorded streams, by the traits of this crate.
-use crate::{LimitedPack, ReadError, SortedObjects, SortedRefs, exit_status, fetch_twice};
-use gix_protocol::client::{Error, LocalChange, Request, local_changes, over_streams};
+use crate::{Counted, LimitedPack, ReadError, SortedObjects, SortedRefs, exit_status, fetch_twice};
+use gix_protocol::client::{
+    Error, ErrorClass, LocalChange, Request, Session, local_changes, over_streams,
+};
 use gix_protocol::fetch::Tags;
 use std::alloc::Global;
 use std::test::Fail;
@@ -80,5 +82,31 @@ fn rejects_lines_out_of_order(rt: HostRuntime) -> Result<(), Fail> {
     let twice = b"1111111111111111111111111111111111111111 blob\n1111111111111111111111111111111111111111 blob\n";
     let read = SortedObjects::read(alloc, twice);
     assert!(rt; matches!(read, Err(ReadError::Line(2))));
+    Ok(())
+}
+
+// A server of version 2 with a branch and a tag.
+const TWO: &[u8] = b"000eversion 2\n0013ls-refs=unborn\n0012fetch=shallow\n0017object-format=sha1\n0000\
+    003d7257effbd41e1233eaae5744e614c5c728e3c979 refs/heads/main\n\
+    003a7257effbd41e1233eaae5744e614c5c728e3c979 refs/tags/v1\n0000";
+
+#[test]
+fn names_both_sources_of_a_conflict(rt: HostRuntime) -> Result<(), Fail> {
+    let alloc = rt.alloc();
+    let mut request = Request::new(alloc);
+    request.add_refspec(b"refs/heads/main:refs/heads/q")?;
+    request.add_refspec(b"refs/tags/v1:refs/heads/q")?;
+    let transport = over_streams(alloc, TWO, Vec::new(alloc))?;
+    let mut messages = Counted::new();
+    let mut session = Session::open(alloc, transport, "watcher/1.0", &mut messages)?;
+    match session.map(&request) {
+        Ok(_) => assert!(rt; false),
+        Err(e) => {
+            assert_eq!(rt; e.class(), ErrorClass::Conflict);
+            let text = format!(in alloc; "{e}")?;
+            let sentence = "Cannot fetch both refs/heads/main and refs/tags/v1 to refs/heads/q";
+            assert_eq!(rt; text.as_str(), sentence);
+        }
+    }
     Ok(())
 }

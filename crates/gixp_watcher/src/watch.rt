@@ -32,11 +32,7 @@ pub fn fetch_twice<T: Transport + Drop, W: Write>(
     requests: (&Request, &Request),
     packs: (&mut LimitedPack<W>, &mut LimitedPack<W>),
 ) -> Result<Fetches, Error> {
-    let silent = Counted {
-        progress: 0,
-        errors: 0,
-    };
-    let mut session = Session::open(alloc, transport, "watcher/1.0", silent)?;
+    let mut session = Session::open(alloc, transport, "watcher/1.0", Counted::new())?;
     let map = session.map(requests.0)?;
     let repository = Repository {
         objects,

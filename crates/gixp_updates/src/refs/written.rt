@@ -1,8 +1,8 @@
 //! What is to be written into the local refs, by their names, and which updates a program fails for.
-ghost use Rattle.std.specs.Prelude.{◌≡◌, IfOk, map};
+ghost use Rattle.std.specs.Prelude.{◌≡◌, IfOk};
 ghost use Rattle.std.specs.Option.{option_map};
 ghost use Rattle.gixp_updates.specs.Modes.{wanted_of, fails_as};
-ghost use Rattle.gixp_updates.specs.NamedEdits.{edit_value, edit_named, edits_named};
+ghost use Rattle.gixp_updates.specs.NamedEdits.{edit_value, edit_values, edit_named, edits_named};
 
 use crate::refs::edit::{Edit, Update, wanted_of};
 use bstr::BStr;
@@ -28,7 +28,7 @@ impl Update {
 
 // The local name of a mapping, and what its update writes.
 fn named_edit<'a>(mapping: &'a Mapping, update: &Update) -> Option<(BStr<'a>, Edit)>
-    ensures { option_map edit_value result ≡ edit_named (mapping.now, update.now) }
+    ensures { option_map edit_value result ≡ edit_named (update.now, mapping.now) }
 {
     match (&mapping.local, update.edit) {
         (Some(name), Some(edit)) => Some((name.as_bstr(), edit)),
@@ -47,7 +47,7 @@ pub fn edits<'a>(
     map: &'a RefMap,
     updates: &[Update],
 ) -> Result<Vec<(BStr<'a>, Edit)>, AllocError>
-    ensures { IfOk result (λ edits. map edit_value edits.items ≡ edits_named map.now.mappings.items updates.now) }
+    ensures { IfOk result (λ edits. edit_values edits.items ≡ edits_named map.now.mappings.items updates.now) }
 {
     let mut edits = Vec::new(alloc);
     let mut mappings = map.mappings.as_slice();
