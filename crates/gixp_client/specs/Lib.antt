@@ -3,6 +3,8 @@ pub mod Tables
 pub mod Unshallowed
 pub mod Filters
 pub mod ClientError
+pub mod ErrorClasses
+pub mod Clashes
 pub mod ClientNames
 pub mod ClientCalls
 pub mod ListEnds

@@ -3,12 +3,15 @@
 
 mod boundary;
 mod changes;
+mod class;
+mod conflict;
 mod consumer;
 mod error;
 mod fetched;
 mod fetching;
 mod heard;
 pub mod laws;
+mod lent;
 mod list_ends;
 mod listen;
 mod name;
@@ -30,6 +33,8 @@ mod words;
 
 pub use boundary::Boundary;
 pub use changes::{ListedRefs, LocalChange, local_changes};
+pub use class::ErrorClass;
+pub use conflict::Conflict;
 pub use consumer::PackError;
 pub use error::Error;
 pub use fetched::Fetched;
