@@ -49,5 +49,6 @@ pub use request::Request;
 pub use run::{FilteredNegotiation, SessionNegotiation};
 pub use session::Session;
 pub use state::State;
+pub use tables::UriProtocols;
 pub use watched::Watched;
 pub use windows::{MOST_HAVES, Windowed};
