@@ -1,0 +1,2 @@
+def try_all(d,j,f):
+    return []
