@@ -198,7 +198,7 @@ def main():
         if given.only in (None, "numbers") and document in tried:
             did["numbers"] = check_numbers(document, text, fault)
     if given.only in (None, "commands"):
-        for document, ran, left in documents_commands.try_all([it for it in chosen if it in tried], given.jobs, faults.append):
+        for document, ran, left in documents_commands.try_all([it for it in chosen if it in tried], given.jobs, faults.append, not given.documents):
             lines[document] |= {"commands": ran, "left out": left}
     for line in faults:
         print(line)
