@@ -33,6 +33,7 @@ LEFT_OUT = {
     "scripts/git_tests.py": GATE,
     "scripts/git_tests.py --quick": GATE,
     "rt ci": GATE,
+    "scripts/documents.py": "it is this",
     "rt check --only refs::parse": "proves the five crates below gixp_refs from nothing",
     "rt check": "proves a crate and those below it from nothing",
     "rt plant": "proves a crate from nothing, and each mutation of it",
@@ -175,6 +176,8 @@ def try_document(document, clone, variables, fault):
     """Runs what a document has; returns how many commands ran, and how many were left out."""
     ran = left = 0
     for line, command, shown, before in commands_of(document):
+        if command.startswith("scripts/") and not os.access(TOP / command.split()[0], os.X_OK):
+            fault(f"{document}:{line}: `{command}` can't be started")
         script = script_of(document, command, before)
         missing = next((path for words, path in NEEDS if re.search(words, script) and not (clone / path).exists()), None)
         if command in LEFT_OUT or missing:
