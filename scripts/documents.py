@@ -129,7 +129,10 @@ def check_numbers(document, text, fault):
         if file == document and not re.search(literal(said), text):
             fault(0, f"no sentence has `{said}`")
     spans += [found.span() for found in NAMED.finditer(plain(text))]
-    known, wholes = counts_of()
+    known, wholes, wrong = counts_of()
+    for file, start, end, right in wrong:
+        if file == document:
+            fault(start, f"{text[start:end]} is to be {right}" if end else right)
     counted += sum(file == document for file, _ in known)
     for found in NUMBER.finditer(plain(text)):
         if any(re.match(rf" {whole}\b", text[found.end():]) for whole in wholes):
@@ -141,9 +144,11 @@ def check_numbers(document, text, fault):
 
 @cache
 def counts_of():
-    """Where the numbers stand that counts.py knows the sentence of, and the words in front of which it counts any number."""
-    paths = [path for pattern in counts.DOCUMENTS for path in sorted(TOP.glob(pattern))]
-    return counts.check_sentences({str(path.relative_to(TOP)): path.read_text() for path in paths}, []), list(counts.wholes())
+    """Where the numbers stand that counts.py knows the sentence of, the words in front of which it counts any number, and what is wrong."""
+    texts, wrong = {str(path.relative_to(TOP)): path.read_text() for pattern in counts.DOCUMENTS for path in sorted(TOP.glob(pattern))}, []
+    known = counts.check_sentences(texts, wrong)
+    counts.check_wholes(texts, known, wrong)
+    return known, list(counts.wholes()), wrong
 
 
 def heading(line):

@@ -190,9 +190,9 @@ def try_document(document, clone, variables, fault):
         if status is None:
             fault(f"{document}:{line}: `{command}` takes more than {MOST_SECONDS} seconds")
         elif status:
-            fault(f"{document}:{line}: `{command}` ends with {status}:\n{said[-1500:]}")
+            fault("\n    ".join([f"{document}:{line}: `{command}` ends with {status}:", *said.splitlines()[-9:]]))
         elif shown is not None and [it.rstrip() for it in said.splitlines()] != shown:
-            fault(f"{document}:{line}: `{command}` prints\n{said}")
+            fault("\n    ".join([f"{document}:{line}: `{command}` prints", *said.splitlines()[:9]]))
     return document, ran, left
 
 
