@@ -14,7 +14,7 @@ import live_httpd
 from live_servers import free_port, wait_for_port
 
 TOP = Path(__file__).resolve().parent.parent
-MOST_SECONDS = 300
+MOST_SECONDS = 600
 COMMAND = re.compile(r"\(?(?:rt|git|cargo|python3|printf|mkfifo|gixp_fetch_pack|scripts/\w+\.\w+)\b|\(cd ")
 # in prose: what has words or options after it
 INLINE = re.compile(r"`((?:rt \w+|cargo|python3|mkfifo|scripts/\w+\.\w+) [^`]+|git [a-z-]+ [^`]*--[^`]*)`")
