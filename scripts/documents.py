@@ -176,7 +176,9 @@ def check_links(document, text, fault):
 def check_names(text, names, fault):
     found = list(names_in(text))
     for place, name in found:
-        if name not in OTHERS and not names.is_known(name):
+        if name in OTHERS:
+            names.others.add(name)
+        elif not names.is_known(name):
             fault(place, f"nothing is called {name}")
     return len(found)
 
@@ -202,6 +204,8 @@ def main():
             did["names"] = check_names(text, names, fault)
         if given.only in (None, "numbers") and document in tried:
             did["numbers"] = check_numbers(document, text, fault)
+    if given.only in (None, "names") and not given.documents:
+        faults += [f"scripts/documents_names.py: no document has {name}" for name in OTHERS if name not in names.others]
     if given.only in (None, "commands"):
         for document, ran, left in documents_commands.try_all([it for it in chosen if it in tried], given.jobs, faults.append, not given.documents):
             lines[document] |= {"commands": ran, "left out": left}

@@ -29,7 +29,7 @@ class Names:
     """What each module, type and trait has, by its last name, and whose names a type has beside its own."""
 
     def __init__(self):
-        self.inside, self.beside = defaultdict(set), defaultdict(set)
+        self.inside, self.beside, self.others = defaultdict(set), defaultdict(set), set()
         for path in sorted(TOP.glob("crates/*/src/**/*.rt")):
             self.read(path)
         scripts = [path for folder in ("scripts", "models", "bindings", "bench") for path in TOP.glob(f"{folder}/**/*.py")]
