@@ -8,11 +8,14 @@ its gate built, and what it prints is compared where the document shows it; docu
 each with the reason. Of these documents each number is counted, by counts.py or by the table below. Of all documents each relative link
 leads to a file and a heading, each path of the repository to a file, and each name in backquotes with `::` or `()` to an item of
 the crates, of REFERENCE or of a script. Prints a line for each fault and one for each document, and `N passed, M failed`; the status is
-1 where something failed. N commands run side by side, one where none is given.
+1 where something failed. N documents are tried side by side, one after the other where none is given.
 """
 import argparse
+import contextlib
 import re
 import sys
+from concurrent.futures import ThreadPoolExecutor
+from fnmatch import fnmatch
 from functools import cache
 from pathlib import Path
 
@@ -183,37 +186,48 @@ def check_names(text, names, fault):
     return len(found)
 
 
+def check(document, what, names, room, fault):
+    """What was tried of a document: how many of each."""
+    text, did = (TOP / document).read_text(), {}
+    at = lambda place, said: fault(f"{document}:{counts.line_at(text, place)}: {said}")
+    if "links" in what:
+        did["links"] = check_links(document, text, at)
+    if "names" in what:
+        did["names"] = check_names(text, names, at)
+    if any(fnmatch(document, pattern) for pattern in TRIED):
+        if "numbers" in what:
+            did["numbers"] = check_numbers(document, text, at)
+        if room:
+            did["commands"], did["left out"] = documents_commands.try_document(document, *room, fault)
+    return did
+
+
 def main():
     parser = argparse.ArgumentParser(description=__doc__.splitlines()[0])
     parser.add_argument("--jobs", type=int, default=1)
     parser.add_argument("--only", choices=["commands", "links", "names", "numbers"])
     parser.add_argument("documents", nargs="*")
     given = parser.parse_args()
-    faults, lines = [], {}
-    tried = [str(path.relative_to(TOP)) for pattern in TRIED for path in sorted(TOP.glob(pattern))]
-    every = [str(path.relative_to(TOP)) for pattern in ALL for path in sorted(TOP.glob(pattern))]
-    chosen = [it for it in dict.fromkeys(every) if it in (given.documents or every) and it != "docs/REFERENCE.md"]
-    names = Names()
-    for document in chosen:
-        text = (TOP / document).read_text()
-        fault = lambda place, said: faults.append(f"{document}:{counts.line_at(text, place)}: {said}")
-        did = lines[document] = {}
-        if given.only in (None, "links"):
-            did["links"] = check_links(document, text, fault)
-        if given.only in (None, "names"):
-            did["names"] = check_names(text, names, fault)
-        if given.only in (None, "numbers") and document in tried:
-            did["numbers"] = check_numbers(document, text, fault)
-    if given.only in (None, "names") and not given.documents:
-        faults += [f"scripts/documents_names.py: no document has {name}" for name in OTHERS if name not in names.others]
-    if given.only in (None, "commands"):
-        for document, ran, left in documents_commands.try_all([it for it in chosen if it in tried], given.jobs, faults.append, not given.documents):
-            lines[document] |= {"commands": ran, "left out": left}
-    for line in faults:
-        print(line)
-    for document, did in lines.items():
-        print(f"{document}: " + ", ".join(f"{count} {what}" for what, count in did.items()))
-    print(f"{sum(count for did in lines.values() for what, count in did.items() if what != 'left out') - len(faults)} passed, {len(faults)} failed")
+    every = [str(path.relative_to(TOP)) for pattern in ALL for path in sorted(TOP.glob(pattern)) if path.name != "REFERENCE.md"]
+    what = [given.only] if given.only else ["commands", "links", "names", "numbers"]
+    faults, passed, names = [], 0, Names()
+
+    def fault(said):
+        faults.append(said)
+        print(said, flush=True)
+
+    with contextlib.ExitStack() as begun, ThreadPoolExecutor(given.jobs) as pool:
+        room = begun.enter_context(documents_commands.room_of()) if "commands" in what else None
+        chosen = given.documents or list(dict.fromkeys(every))
+        for document, did in zip(chosen, pool.map(lambda it: check(it, what, names, room, fault), chosen)):
+            print(f"{document}: " + ", ".join(f"{count} {kind}" for kind, count in did.items()), flush=True)
+            passed += sum(did.values()) - did.get("left out", 0)
+    if not given.documents:
+        documents_commands.stale([it for it in every if any(fnmatch(it, pattern) for pattern in TRIED)], fault)
+        for name in OTHERS if "names" in what else ():
+            if name not in names.others:
+                fault(f"scripts/documents_names.py: no document has {name}")
+    print(f"{passed - len(faults)} passed, {len(faults)} failed")
     return bool(faults)
 
 

@@ -7,7 +7,6 @@ import signal
 import subprocess
 import sys
 import tempfile
-from concurrent.futures import ThreadPoolExecutor
 from pathlib import Path
 
 import live_httpd
@@ -183,7 +182,7 @@ def try_document(document, clone, variables, fault):
         if command in LEFT_OUT or missing:
             left += 1
             if missing:
-                print(f"{document}:{line}: left out, since the gate built no {missing}")
+                print(f"{document}:{line}: left out, since the gate built no {missing}", flush=True)
             continue
         ran += 1
         said, status = run(script, clone, variables)
@@ -193,7 +192,7 @@ def try_document(document, clone, variables, fault):
             fault("\n    ".join([f"{document}:{line}: `{command}` ends with {status}:", *said.splitlines()[-9:]]))
         elif shown is not None and [it.rstrip() for it in said.splitlines()] != shown:
             fault("\n    ".join([f"{document}:{line}: `{command}` prints", *said.splitlines()[:9]]))
-    return document, ran, left
+    return ran, left
 
 
 def stale(documents, fault):
@@ -206,11 +205,3 @@ def stale(documents, fault):
     for command, reason in LEFT_OUT.items():
         if reason == GATE and command.removeprefix("python3 ").split(" --")[0] not in gate:
             fault(f"scripts/documents_commands.py: .ci/run has no `{command}`")
-
-
-def try_all(documents, jobs, fault, is_whole):
-    """Tries the commands of documents, some documents side by side."""
-    if is_whole:
-        stale(documents, fault)
-    with room_of() as (clone, variables), ThreadPoolExecutor(jobs) as pool:
-        return list(pool.map(lambda document: try_document(document, clone, variables, fault), documents))
