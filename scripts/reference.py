@@ -270,8 +270,8 @@ def described(crate, module, name):
     yield from methods_of(crate, module, name)
 
 
-def listed(path, crate, module, seen):
-    """The sections of a module and of those in it."""
+def public_in(path, crate, module):
+    """What can be named in a module from outside its crate: items, as (name, where), and modules."""
     text, _ = text_of(crate, module)
     names = {found[1] for found in re.finditer(r"(?m)^pub mod (\w+);", text)}
     names |= {found[1] for found in re.finditer(r"(?m)^pub (?:const )?(?:fn|struct|enum|trait|type|const) (\w+)", text)}
@@ -281,10 +281,24 @@ def listed(path, crate, module, seen):
         found = resolve(crate, module, name)
         if found is None:
             sys.exit(f"{path}::{name} isn't found")
-        if found[0] == "item":
-            items.append((name, found[1:]))
-        else:
-            modules.append((name, found[1:]))
+        (items if found[0] == "item" else modules).append((name, found[1:]))
+    return items, modules
+
+
+def public_items(crate, module=(), seen=None):
+    """Where each item stands that can be named from outside its crate."""
+    seen = set() if seen is None else seen
+    if (crate, module) not in seen:
+        seen.add((crate, module))
+        items, modules = public_in(crate, crate, module)
+        yield from (where for _, where in items)
+        for _, where in modules:
+            yield from public_items(*where, seen)
+
+
+def listed(path, crate, module, seen):
+    """The sections of a module and of those in it."""
+    items, modules = public_in(path, crate, module)
     if items:
         yield f"\n## {path}\n"
     for what, name, where in [*(("", *it) for it in items), *(("the module ", *it) for it in modules)]:

@@ -354,3 +354,4 @@ pub use Rattle.gixp_client.specs.declared.windows.Windowed as WindowedType
 pub use Rattle.gixp_matching.specs.declared.match_group.key.KeyBytes as KeyBytesType
 pub use Rattle.gixp_matching.specs.declared.match_group.key.KeySource as KeySourceType
 pub use Rattle.gixp_negotiate.specs.declared.negotiate.one_round.State as RoundStateType
+pub use Rattle.gixp_client.specs.declared.tables.UriProtocols as UriProtocolsType

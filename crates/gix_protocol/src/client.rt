@@ -3,6 +3,6 @@
 pub use gixp_client::{
     Boundary, ClientName, Conflict, Error, ErrorClass, Fetched, Filtered, FilteredNegotiation,
     Heard, Kept, ListedRefs, Listener, LocalChange, MOST_HAVES, PackError, RemoteLines, Repository,
-    Request, ServerText, Session, SessionNegotiation, Silent, State, Watched, Windowed, fetch_once,
-    laws, local_changes, over_streams,
+    Request, ServerText, Session, SessionNegotiation, Silent, State, UriProtocols, Watched,
+    Windowed, fetch_once, fetch_once_with, laws, local_changes, over_streams,
 };

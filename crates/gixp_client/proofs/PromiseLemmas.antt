@@ -1,12 +1,12 @@
 -- A session is one run of the law `headline`.
-use Rattle.std.proofs.Common.{◌≡◌, ℕ, ap, subst, List, [], Option, None, Result, Ok}
-use Rattle.std.specs.Prelude.{string_bytes}
+use Rattle.std.proofs.Common.{◌≡◌, ◌∙◌, ℕ, ap, refl, subst, Bool, true, false, List, [], Option, None, Result, Ok}
+use Rattle.std.specs.Prelude.{string_bytes, codes, if◌then◌else◌}
 use Rattle.gixp_packetline.specs.Reading.{Reading}
 use Rattle.gixp_hash.specs.declared.object_id.ObjectId.{ObjectId}
 use Rattle.gixp_wire.specs.Greeting.{Parameter}
 use Rattle.gixp_wire.specs.declared.service.Service.TheVariants.{UploadPack}
 use Rattle.gixp_response.specs.Answer.{update_items}
-use Rattle.gixp_capabilities.specs.Capabilities.{CapabilityValue}
+use Rattle.gixp_capabilities.specs.Capabilities.{CapabilityValue, has_named}
 use Rattle.gixp_requests.specs.Feature.{FeatureValue}
 use Rattle.gixp_refmap.specs.declared.refmap.init.Context.{Context}
 use Rattle.gixp_refmap.specs.declared.refmap.map.RefMap.{RefMap}
@@ -19,7 +19,7 @@ use Rattle.gixp_fetch.specs.Fetched.{FetchCall, unlocked_world}
 use Rattle.gixp_fetch.specs.Mapped.{Knowledge}
 use Rattle.gixp_fetch.specs.Headline.{Run, Promise}
 use Rattle.gixp_client.specs.ClientCalls.{OpensSession, MapsInSession, FetchesInSession, session_call}
-use Rattle.gixp_client.specs.ClientNames.{client_feature, named_by, id_features}
+use Rattle.gixp_client.specs.ClientNames.{client_feature, named_by, own_features, id_features}
 use Rattle.gixp_client.specs.ClientPromise.{IsOneRun}
 use Rattle.gixp_client.specs.declared.error.Error.{Error}
 use Rattle.gixp_client.specs.declared.name.ClientName.{ClientName}
@@ -82,9 +82,13 @@ one_run parties map_of knows promises parameters agent more request start shaken
       promise = promises _ _ _ _ _ _ _ _ run;
     }
 
+nothing_either : (has : Bool) → (if has then own_features None else []) ≡ []
+nothing_either true = refl
+nothing_either false = refl
+
 -- a client without a session id says nothing of itself beside its name
 nothing_more : (name : ClientName) (caps : List CapabilityValue) → name.session_id ≡ None → id_features caps name.session_id ≡ []
-nothing_more name caps i = ap (id_features caps) i
+nothing_more name caps i = ap (id_features caps) i ∙ nothing_either (has_named (codes "session-id") caps)
 
 -- the same by the name of the client, which the session holds
 pub named_run : {N I A C P X : Type 0} (parties : Parties (Watched N) I A ShallowMemory C P X) (map_of : Watched N → RefMap)

@@ -37,7 +37,7 @@ use Rattle.gixp_client.specs.declared.watched.Watched.{Watched}
 -- a fetch with these parts is one with those of the session
 pub as_session : {N I S A C P X : Type 0} (parties : Parties N I A S C P X) (table : TableValue) (agent : FeatureValue)
     (more : List FeatureValue) (shaken : Handshake) (request : Request) (old : World N I S C) (came : Result (Option Outcome) (FetchError A X))
-    (new : World N I S C) (progress : P) → table ≡ asked_table request.wants_progress
+    (new : World N I S C) (progress : P) → table ≡ asked_table request.wants_progress request.uri_protocols
     → Fetches parties (call_of table shaken agent more request.tags (shallow_value request.shallow) request.rejects_shallow)
     old came new progress
     → CarriesFetch parties (session_call shaken agent more request) old came new progress

@@ -71,7 +71,7 @@ pub record MapsInSession (request : Request) (agent : FeatureValue) (shaken : Ha
     (r : Result RefMap MapError) : Type 0 where
   pub context : Context
   pub asked : context_value context ≡ asked_specs request
-  pub obtains : Obtains (asked_table request.wants_progress) agent context shaken plain old new r
+  pub obtains : Obtains (asked_table request.wants_progress request.uri_protocols) agent context shaken plain old new r
 
 -- what came of a fetch, with nothing of the caller's in it
 abbrev pub IsToldCame : {A X : Type 0} → Result (Option Outcome) (FetchError A X) → Result (Option Outcome) Error → Type 0
@@ -128,8 +128,8 @@ module _ {N I S A C P X : Type 0} (parties : Parties (Watched N) I A S C P X) (m
 
 -- what a fetch of a session is handed in
 abbrev pub session_call : Handshake → FeatureValue → List FeatureValue → Request → FetchCall
-session_call shaken agent more request = call_of (asked_table request.wants_progress) shaken agent more request.tags
-    (shallow_value request.shallow) request.rejects_shallow
+session_call shaken agent more request = call_of (asked_table request.wants_progress request.uri_protocols) shaken agent more
+    request.tags (shallow_value request.shallow) request.rejects_shallow
 
 -- what its negotiation knows
 abbrev pub session_knowledge : Request → Objects → LocalRefs → Knowledge

@@ -4,14 +4,13 @@ ghost use Rattle.std.specs.BTreeSet.{contains};
 ghost use Rattle.gixp_hash.specs.ObjectId.{id_cmp};
 ghost use Rattle.gixp_hash.specs.declared.object_id.ObjectId.{ObjectId as Id};
 ghost use Rattle.gixp_response.specs.Answer.{update_items};
-ghost use Rattle.gixp_requests.specs.Feature.{feature_value, feature_values};
 ghost use Rattle.gixp_fetch.specs.declared.options.Outcome.{Outcome};
 ghost use Rattle.gixp_fetch.specs.Fetch.{parties_of};
 ghost use Rattle.gixp_fetch.specs.FetchShallow.{shallow_value, is_change};
 ghost use Rattle.gixp_client.specs.Boundaries.{IsLeftBoundary, IsBoundaryAfter};
 ghost use Rattle.gixp_client.specs.ClientError.{IsUnsent};
 ghost use Rattle.gixp_client.specs.ClientCalls.{session_call, session_knowledge, FetchesMap, FetchesInSession};
-ghost use Rattle.gixp_client.specs.ClientNames.{named_by, id_features};
+ghost use Rattle.gixp_client.specs.ClientNames.{agent_of, own_features, named_by, id_features};
 ghost use Rattle.gixp_client.specs.Unshallowed.{TakesKnown, KnowsAll};
 ghost use Rattle.gixp_client.specs.SessionStates.{behind_outcome, behind_fetch, is_reported, IsReportIn, IsRefusedFetch};
 
@@ -19,7 +18,7 @@ use crate::boundary::{Boundary, set_of};
 use crate::error::Error;
 use crate::fetched::Fetched;
 use crate::listen::{Kept, Listener};
-use crate::name::ClientFeatures;
+use crate::name::SentName;
 use crate::repository::Repository;
 use crate::request::Request;
 use crate::run::{Peer, SessionNegotiation, Wanted, fetch_mapped};
@@ -48,7 +47,7 @@ where
     fn carry_out<'a, F: Find, R: RefStore, N: Negotiator, C: ConsumePack<P>>(
         &mut self,
         wanted: Wanted<'a, F, R, N>,
-        client: ClientFeatures,
+        name: SentName,
         told: Option<Vec<ShallowUpdate>>,
         store: &mut ShallowMemory,
         pack: &mut C,
@@ -60,7 +59,7 @@ where
             (parties_of ⟦<SessionNegotiation<'a, F, R, N> as Negotiate>⟧.calls ⟦<ShallowMemory as ShallowStore>⟧.calls
             ⟦<NeverInterrupt as Interrupt>⟧.says C.consumes T.is_plain)
             ⟦<SessionNegotiation<'a, F, R, N> as NegotiatesMap>⟧.map_of ⟦<SessionNegotiation<'a, F, R, N> as NegotiatesMap>⟧.knows
-            (session_call self.old.shaken (feature_value client.agent) (feature_values client.more.items)
+            (session_call self.old.shaken (agent_of name.agent) (own_features name.session_id)
             wanted.entry.request.now) wanted.entry.map.now
             (session_knowledge wanted.entry.request.now (F.contents wanted.entry.objects.now) (R.refs wanted.entry.refs.now))
             (contains id_cmp wanted.entry.boundary.now)
@@ -78,7 +77,7 @@ where
             transport: &mut self.transport,
             progress: &mut self.progress,
         };
-        let (came, is_negotiated) = fetch_mapped(alloc, wanted, client, peer, store, pack);
+        let (came, is_negotiated) = fetch_mapped(alloc, wanted, name, peer, store, pack);
         if !is_negotiated {
             self.shaken.v1_shallow_updates = first;
         }
@@ -212,7 +211,7 @@ where
             });
         }
         expect_filter(alloc, &self.shaken, request)?;
-        let client = self.name.features(alloc, &self.shaken.capabilities)?;
+        let name = self.name.sent(alloc, &self.shaken.capabilities)?;
         let told = copied_updates(alloc, &self.shaken.v1_shallow_updates)?;
         let mut store = store_of(alloc, before)?;
         let known = set_of(alloc, before)?;
@@ -229,7 +228,7 @@ where
             negotiator,
             boundary: &known,
         };
-        let came = self.carry_out(wanted, client, told, &mut store, pack);
+        let came = self.carry_out(wanted, name, told, &mut store, pack);
         let messages = self.transport.take_kept(alloc);
         let came = self.unless_reported(came, &messages, request.goes_on);
         let after = store.ids();

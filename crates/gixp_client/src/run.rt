@@ -3,13 +3,13 @@ ghost use Rattle.std.specs.Prelude.{◌≡◌, ◌≢◌, ◌≤◌, true, false
 ghost use Rattle.std.specs.BTreeSet.{contains};
 ghost use Rattle.gixp_hash.specs.ObjectId.{id_cmp};
 ghost use Rattle.gixp_packetline.specs.declared.protocol.Protocol.TheVariants.{V2};
-ghost use Rattle.gixp_requests.specs.Feature.{feature_value, feature_values};
 ghost use Rattle.gixp_fetch.specs.Fetch.{parties_of};
 ghost use Rattle.gixp_client.specs.ClientCalls.{HoldsAndTells, FetchesMap, session_call, session_knowledge};
+ghost use Rattle.gixp_client.specs.ClientNames.{agent_of, own_features};
 ghost use Rattle.gixp_client.specs.Unshallowed.{TakesKnown};
 
 use crate::error::Error;
-use crate::name::ClientFeatures;
+use crate::name::{SentName, identified, named};
 use crate::over::Filtered;
 use crate::refusal::told;
 use crate::request::Request;
@@ -84,7 +84,7 @@ pub(crate) struct Peer<'s, T, P> {
 fn fetch_over<N: Negotiate, T: Transport, P: NestedProgress, C: ConsumePack<P>>(
     alloc: Global,
     negotiation: &mut N,
-    client: ClientFeatures,
+    name: SentName,
     request: &Request,
     peer: Peer<'_, T, P>,
     store: &mut ShallowMemory,
@@ -96,7 +96,7 @@ where
     ensures taken { peer.exit.0.now ≡ record peer.entry.shaken.now { v1_shallow_updates = None } }
     ensures fetched { HoldsAndTells
         (parties_of N.calls ⟦<ShallowMemory as ShallowStore>⟧.calls ⟦<NeverInterrupt as Interrupt>⟧.says C.consumes T.is_plain)
-        (session_call peer.entry.shaken.now (feature_value client.agent) (feature_values client.more.items) request.now) negotiation.old
+        (session_call peer.entry.shaken.now (agent_of name.agent) (own_features name.session_id) request.now) negotiation.old
         (T.reading peer.entry.transport.now) store.old pack.old result negotiation.new (T.reading peer.exit.1.0.now) store.new
         pack.new }
 {
@@ -105,6 +105,10 @@ where
         transport,
         progress,
     } = peer;
+    let Ok(more) = identified(alloc, name.session_id) else {
+        shaken.v1_shallow_updates = None;
+        return Err(Error::Memory);
+    };
     let context = Context {
         handshake: shaken,
         transport,
@@ -123,8 +127,8 @@ where
         pack,
         progress,
         &mut never,
-        client.agent,
-        client.more,
+        named(name.agent),
+        more,
         context,
         options,
     );
@@ -143,7 +147,7 @@ pub(crate) fn fetch_mapped<
 >(
     alloc: Global,
     wanted: Wanted<'a, F, R, N>,
-    client: ClientFeatures,
+    name: SentName,
     peer: Peer<'_, T, P>,
     store: &mut ShallowMemory,
     pack: &mut C,
@@ -156,7 +160,7 @@ where
         (parties_of ⟦<SessionNegotiation<'a, F, R, N> as Negotiate>⟧.calls ⟦<ShallowMemory as ShallowStore>⟧.calls
         ⟦<NeverInterrupt as Interrupt>⟧.says C.consumes T.is_plain)
         ⟦<SessionNegotiation<'a, F, R, N> as NegotiatesMap>⟧.map_of ⟦<SessionNegotiation<'a, F, R, N> as NegotiatesMap>⟧.knows
-        (session_call peer.entry.shaken.now (feature_value client.agent) (feature_values client.more.items) wanted.entry.request.now) wanted.entry.map.now
+        (session_call peer.entry.shaken.now (agent_of name.agent) (own_features name.session_id) wanted.entry.request.now) wanted.entry.map.now
         (record {
           tags = wanted.entry.request.now.tags;
           shallow = wanted.entry.request.now.shallow;
@@ -191,7 +195,7 @@ where
     let windowed = Windowed::new(negotiation, most);
     let filtered = Filtered::new(windowed, request.filter.as_deref());
     let mut watched = Watched::new(filtered, boundary);
-    let came = fetch_over(alloc, &mut watched, client, request, peer, store, pack);
+    let came = fetch_over(alloc, &mut watched, name, request, peer, store, pack);
     let told = known_alone(came, watched.unknown(), boundary);
     (told, watched.is_negotiated())
 }

@@ -12,14 +12,17 @@ use crate::readiness::Readiness;
 use crate::setup::{bytes_of, variable, version_word};
 use crate::shell::{NOTHING, Shell, owned};
 use crate::trouble::Trouble;
+use crate::uris::{Noted, Uris, protocols_of};
 use crate::web::connect_stateless;
-use crate::wire::{Says, Shown, Talk, Wire};
+use crate::wire::{Heard, Says, Shown, Talk, Wire};
 use bstr::BString;
+use gix_protocol::client::UriProtocols;
 use gix_protocol::transport::{Connection, Discard, Opening, Protocol};
 use gixp_fetch_session::session::open;
+use gixp_packfile_uris::PackfileUris;
 use gixp_remote_rules::{
-    Choices, Family, Program, Request, Settings, SshCall, Start, Task, Variant, here_words,
-    probe_words, proxy_for, server_variables, server_words, web_words,
+    Choices, Family, Program, Request, Settings, SshCall, Start, Task, UriSetting, Variant,
+    here_words, probe_words, proxy_for, server_variables, server_words, web_words,
 };
 use gixp_stateless::Answers;
 use gixp_url::{Address, Transport};
@@ -47,6 +50,10 @@ pub(crate) struct Reach<'a> {
     pub(crate) bounds: &'a RefCell<Bounds>,
     /// Whether the server is ready to send the pack.
     pub(crate) readiness: &'a Cell<Readiness>,
+    /// What the server said of packs that it names by URIs.
+    pub(crate) uris: &'a RefCell<Uris>,
+    /// The protocols of URIs that the user allows.
+    pub(crate) uri_setting: UriSetting,
 }
 
 // Refuses a transport that the user doesn't allow.
@@ -256,6 +263,19 @@ fn says_of(
     Ok(Says::Answers(Answers::new(from)))
 }
 
+// What a server says, without the section `packfile-uris` where the server may send one.
+fn heard_by<'a>(reach: Reach<'a>, says: Says) -> Result<Heard<'a>, AllocError> {
+    if protocols_of(reach.uri_setting) == UriProtocols::Neither {
+        return Ok(Heard::Whole(says));
+    }
+    let alloc = reach.rt.alloc();
+    let noted = Noted {
+        alloc,
+        uris: reach.uris,
+    };
+    Ok(Heard::WithoutUris(PackfileUris::new(alloc, says, noted)?, reach.uris))
+}
+
 // The transport over the two pipes.
 fn open_wire<'a>(reach: Reach<'a>, choices: &Choices) -> Result<Wire<'a>, Trouble> {
     let alloc = reach.rt.alloc();
@@ -266,7 +286,7 @@ fn open_wire<'a>(reach: Reach<'a>, choices: &Choices) -> Result<Wire<'a>, Troubl
     let url = reach.address.path.clone()?;
     let connection = Connection::new(
         alloc,
-        says,
+        heard_by(reach, says)?,
         to,
         url,
         reach.version,

@@ -21,6 +21,7 @@ mod setup;
 mod shell;
 mod trouble;
 mod unpacking;
+mod uris;
 mod web;
 mod wire;
 

@@ -11,9 +11,10 @@ use crate::session_id::session_id;
 use crate::setup::{Given, read_given, read_settings, variable, version_of, within};
 use crate::shell::Shell;
 use crate::trouble::{Trouble, show};
+use crate::uris::Uris;
 use bstr::{BString, ByteSlice};
 use gixp_fetch_session::session::refs;
-use gixp_remote_rules::{Conversation, Settings, Step, Within, batch_told};
+use gixp_remote_rules::{Conversation, Settings, Step, Within, batch_told, uri_setting};
 use gixp_url::Address;
 use std::cell::{Cell, RefCell};
 use std::io;
@@ -180,6 +181,8 @@ struct Begun {
     bounds: RefCell<Bounds>,
     // Whether the server is ready to send the pack.
     readiness: Cell<Readiness>,
+    // What the server said of packs that it names by URIs.
+    uris: RefCell<Uris>,
 }
 
 // Speaks with git from this step on.
@@ -203,6 +206,8 @@ fn serve<R: BufRead>(
             has_failed: &begun.has_failed,
             bounds: &begun.bounds,
             readiness: &begun.readiness,
+            uris: &begun.uris,
+            uri_setting: uri_setting(alloc, begun.settings.value(b"fetch.uriprotocols"))?,
         },
         shell,
         open: None,
@@ -248,6 +253,7 @@ pub(crate) fn converse(rt: &HostRuntime) -> Result<(), Trouble> {
         has_failed: Cell::new(false),
         bounds: RefCell::new(Bounds::new(alloc)),
         readiness: Cell::new(Readiness::Unready),
+        uris: RefCell::new(Uris::new(alloc)),
     };
     serve(&begun, shell, talk, first, &mut lines)
 }

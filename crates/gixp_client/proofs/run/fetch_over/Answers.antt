@@ -1,4 +1,9 @@
 -- A fetch, and what is told of it.
+use Rattle.std.proofs.Common.{refl, inl}
+use Rattle.std.specs.Prelude.{Err}
+use Rattle.gixp_fetch.specs.Fetched.{unprepared}
+use Rattle.gixp_fetch.specs.Prepare.{no_room}
+use Rattle.gixp_fetch.specs.declared.error.Error.TheVariants.{Memory}
 use Rattle.gixp_client.proofs.RunLemmas.{as_session}
 use Rattle.gixp_client.proofs.run.fetch_over.Goals as goal
 

@@ -8,7 +8,7 @@ pub returns-in-Ok-clause-fetched : goal.returns-in-Ok-clause-fetched
 returns-in-Ok-clause-fetched g c = inr (
   c.ids-after.result.now,
   in_session _ _ _ c.args.self.now.shaken c.args.request.now _ _ _ _ _ _ _ _ _ _ _ _ _ _ _ _ _ _
-      c.in_ok-store.ensures (sym c.ids-after.ensures) c.in_ok-client.ensures.0 c.in_ok-client.ensures.1
+      c.in_ok-store.ensures (sym c.ids-after.ensures) c.in_ok-name.ensures.0 c.in_ok-name.ensures.1
       (came_of _ _ _ _ _ _ _ c.unless_reported-came.ensures.reported c.in-Ok.ensures.outcome)
       (ap g.T.ExtendedBufRead.reading (sym (c.unless_reported-came.ensures.transport ∙ c.take_kept-messages.ensures)))
       c.in_ok-known.ensures
@@ -30,7 +30,7 @@ returns-clause-refused g c = inr (
   c.carry_out-came.result,
   c.ids-after.result.now,
   in_session _ _ _ c.args.self.now.shaken c.args.request.now _ _ _ _ _ _ _ _ _ _ _ _ _ _ _ _ _ _
-      c.in_ok-store.ensures (sym c.ids-after.ensures) c.in_ok-client.ensures.0 c.in_ok-client.ensures.1 refl
+      c.in_ok-store.ensures (sym c.ids-after.ensures) c.in_ok-name.ensures.0 c.in_ok-name.ensures.1 refl
       (ap g.T.ExtendedBufRead.reading (sym (c.unless_reported-came.ensures.transport ∙ c.take_kept-messages.ensures)))
       c.in_ok-known.ensures
       c.carry_out-came.ensures.fetched.0,

@@ -1,7 +1,7 @@
 -- A session of one fetch is one run of the law.
 use Rattle.std.proofs.Common.{[], inl, inr}
 use Rattle.gixp_client.proofs.PromiseLemmas.{named_run}
-use Rattle.gixp_client.proofs.once.fetch_once.Goals as goal
+use Rattle.gixp_client.proofs.once.fetch_once_with.Goals as goal
 
 pub returns : goal.returns
 returns g c = elim c.in_ok-fetched.ensures.fetched [
