@@ -1,5 +1,5 @@
 -- Two sources that go to one local name (git-fetch, "<refspec>").
-use Rattle.std.specs.Prelude.{ℕ, not, List, [], ◌∷◌, Option, Some, None}
+use Rattle.std.specs.Prelude.{ℕ, not, List, [], ◌∷◌, Option, None}
 use Rattle.std.specs.Option.{option_map}
 use Rattle.std.specs.List.{find}
 use Rattle.bstr.specs.Owned.{bstring_bytes}
