@@ -4,10 +4,11 @@
 Usage: counts.py [--write]
 
 Prints each number that is wrong, with its file and line, and each sentence that isn't there any more. Beside the sentences below, a
-number in front of `rows`, `tests`, `crates`, `edits`, `must-fail edits` or `public functions` has to be that of the whole repository,
-but for one that a sentence below has, and for a line that names a commit, whose numbers are of that. What a crate's README says in a
-line `Depends on ..; used by ..` has to be what crates.txt says, and its public names and its definitions have to be there. The status
-is 1 where there is something wrong. With `--write` it writes what is right into the documents.
+number in front of `rows`, `tests`, `crates`, `edits`, `must-fail edits`, `public functions` or `methods of public traits` has to be
+that of the whole repository, but for one that a sentence below has, and for a line that names a commit, whose numbers are of that.
+What a crate's README says in a line `Depends on ..; used by ..` has to be what crates.txt says, and its public names and its
+definitions have to be there. The status is 1 where there is something wrong. With `--write` it writes what is right into the
+documents.
 """
 import re
 import subprocess
@@ -19,6 +20,7 @@ TOP = Path(__file__).resolve().parent.parent
 CRATES = TOP / "crates"
 DATA = CRATES / "gixp_replay" / "data"
 sys.path.insert(0, str(TOP / "models"))
+import reference
 import rows as models_rows
 
 NUMBER = r"([0-9][0-9,]*)"
@@ -64,10 +66,15 @@ def tests(crate, module=None):
 
 
 def public_functions():
-    """Those of gix_protocol and of the crates that it re-exports."""
-    names = [name for name in ["gix_protocol", *crates()["gix_protocol"]] if (CRATES / name / "src").is_dir()]
-    texts = (re.sub(r"(?m)^\s*//.*$", "", path.read_text()) for name in names for path in sources(name))
-    return sum(len(re.findall(r"(?m)^\s*pub (?:const )?fn ", text)) for text in texts)
+    """What can be named from outside its crate, of gix_protocol and of the crates that it re-exports: functions with the methods of
+    types, and the methods of traits."""
+    items = {where for crate in ["gix_protocol", *repository_uses("gix_protocol")] for where in reference.public_items(crate)}
+    firsts = {where: next(iter(reference.described(*where))) for where in items}
+    aliases = {where for where, first in firsts.items() if first.startswith("pub type ")}
+    aliased = {reference.behind_alias(*where[:2], firsts[where]) for where in aliases} - {None}
+    lines = [line for where in items - aliases | aliased for line in reference.described(*where)]
+    return sum(bool(re.match(r" *pub (?:const )?fn ", line)) for line in lines), sum(
+        bool(re.match(r" *(?:final )?fn ", line)) for line in lines)
 
 
 def edits():
@@ -132,13 +139,15 @@ def wholes():
     """What a number in front of these words is to be, anywhere."""
     rows = sum(map(len, read_rows().values()))
     others, must_fail = edits()
+    functions, methods = public_functions()
     return {
         "rows": rows,
         "tests": sum(tests(crate) for crate in crates()),
         "crates": len(crates()),
         "must-fail edits": must_fail,
         "edits": others + must_fail,
-        "public functions": public_functions(),
+        "public functions": functions,
+        "methods of public traits": methods,
     }
 
 

@@ -17,11 +17,12 @@ use std::collections::BTreeSet;
 /// history, and a garbage collection then deletes it: so they stand apart, and aren't in the boundary to be kept.
 #[derive(Debug, Drop)]
 pub struct Boundary {
-    /// The boundary to be kept: the one before, with the updates that were asked for, in order of the ids.
+    /// The boundary to be kept. Where a depth or another change was asked for and the server sent updates, it is the one that
+    /// they leave, in order of the ids, each once. Else it is the one before, as it was passed in.
     pub ids: Vec<ObjectId>,
-    /// The updates that were asked for, by a depth or another change of the boundary.
+    /// The ids that came into the boundary, then those that left it, where a change was asked for.
     pub asked_for: Vec<ShallowUpdate>,
-    /// Those that weren't.
+    /// The same where none was: the ids that the server's updates would bring in and take out.
     pub unasked: Vec<ShallowUpdate>,
 }
 
@@ -39,8 +40,8 @@ impl Boundary {
         })
     }
 
-    /// The boundary with the updates that weren't asked for too, in order of the ids: for a caller who sees to it that the objects
-    /// beyond it are there.
+    /// The boundary with the updates that weren't asked for too: for a caller who sees to it that the objects beyond it are there.
+    /// It is in order of the ids, each once; where there are none of these updates, it is `ids` as they are.
     ///
     /// # Errors
     ///

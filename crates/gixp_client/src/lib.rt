@@ -3,14 +3,18 @@
 
 mod boundary;
 mod changes;
+mod class;
+mod conflict;
 mod consumer;
 mod error;
 mod fetched;
 mod fetching;
 mod heard;
 pub mod laws;
+mod lent;
 mod list_ends;
 mod listen;
+mod name;
 mod once;
 mod over;
 mod pipes;
@@ -29,12 +33,15 @@ mod words;
 
 pub use boundary::Boundary;
 pub use changes::{ListedRefs, LocalChange, local_changes};
+pub use class::ErrorClass;
+pub use conflict::Conflict;
 pub use consumer::PackError;
 pub use error::Error;
 pub use fetched::Fetched;
 pub use heard::Heard;
 pub use listen::{Kept, Listener, RemoteLines, ServerText, Silent};
-pub use once::fetch_once;
+pub use name::ClientName;
+pub use once::{fetch_once, fetch_once_with};
 pub use over::Filtered;
 pub use pipes::over_streams;
 pub use repository::Repository;

@@ -19,11 +19,11 @@ use bstr::BString;
 use gix_protocol::client::UriProtocols;
 use gix_protocol::transport::{Connection, Discard, Opening, Protocol};
 use gixp_fetch_session::session::open;
-use gixp_remote_rules::{
-    Choices, Family, Program, Request, Settings, SshCall, Start, Task, UriSetting, Variant, here_words,
-    probe_words, proxy_for, server_variables, server_words, web_words,
-};
 use gixp_packfile_uris::PackfileUris;
+use gixp_remote_rules::{
+    Choices, Family, Program, Request, Settings, SshCall, Start, Task, UriSetting, Variant,
+    here_words, probe_words, proxy_for, server_variables, server_words, web_words,
+};
 use gixp_stateless::Answers;
 use gixp_url::{Address, Transport};
 use std::alloc::AllocError;
@@ -40,6 +40,8 @@ pub(crate) struct Reach<'a> {
     pub(crate) address: &'a Address,
     pub(crate) settings: &'a Settings,
     pub(crate) version: Protocol,
+    /// The id of this session, where the user has it sent.
+    pub(crate) session_id: Option<&'a str>,
     /// Whether standard error is a terminal in which the rest of a line can be erased.
     pub(crate) erases: bool,
     /// Whether the server reported an error beside its answers.
@@ -315,7 +317,12 @@ pub(crate) fn shake_hands<'a>(reach: Reach<'a>, choices: &Choices) -> Result<Tal
     forget(reach.bounds);
     let wire = open_wire(reach, choices)?;
     let shown = Shown::new(reach.rt, reach.erases, reach.has_failed)?;
-    Ok(open(reach.rt.alloc(), wire, "gixp", shown, Discard)?)
+    let mut session = open(reach.rt.alloc(), wire, "gixp", shown, Discard)?;
+    if let Some(id) = reach.session_id {
+        // One that a variable spoils isn't sent.
+        let _ = session.set_session_id(id)?;
+    }
+    Ok(session)
 }
 
 /// Ends a session over which all went well. git's program for a web server saves cookies as it ends by itself, so it is waited for

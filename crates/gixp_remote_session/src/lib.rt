@@ -16,6 +16,7 @@ mod pipes;
 mod place;
 mod readiness;
 mod remote;
+mod session_id;
 mod setup;
 mod shell;
 mod trouble;

@@ -7,6 +7,7 @@ use crate::listing::{RefsTold, refs_told};
 use crate::order::Order;
 use crate::pack::clear_folder;
 use crate::readiness::Readiness;
+use crate::session_id::session_id;
 use crate::setup::{Given, read_given, read_settings, variable, version_of, within};
 use crate::shell::Shell;
 use crate::trouble::{Trouble, show};
@@ -173,6 +174,7 @@ struct Begun {
     given: Given,
     address: Address,
     settings: Settings,
+    session_id: Option<String>,
     // Whether the server reported an error beside its answers.
     has_failed: Cell<bool>,
     // What the server said of the shallow boundary.
@@ -199,6 +201,7 @@ fn serve<R: BufRead>(
             address: &begun.address,
             settings: &begun.settings,
             version: version_of(&begun.rt, &begun.settings),
+            session_id: begun.session_id.as_deref(),
             erases: begun.given.erases,
             has_failed: &begun.has_failed,
             bounds: &begun.bounds,
@@ -240,11 +243,13 @@ pub(crate) fn converse(rt: &HostRuntime) -> Result<(), Trouble> {
     if let Some(warning) = check_password(alloc, &given.url, setting)? {
         show(rt, "warning", &warning);
     }
+    let session_id = session_id(rt, &settings)?;
     let begun = Begun {
         rt: rt.clone()?,
         given,
         address,
         settings,
+        session_id,
         has_failed: Cell::new(false),
         bounds: RefCell::new(Bounds::new(alloc)),
         readiness: Cell::new(Readiness::Unready),
