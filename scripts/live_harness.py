@@ -22,7 +22,7 @@ GRACE = 6
 # words of git's behind which no process may stay
 FETCHES = {"clone", "fetch", "ls-remote"}
 # programs that run for a fetch alone
-PROCESSES = "git-remote-gixp", "index-pack", "rev-list", "cat-file", "show-ref", "remote-http"
+PROCESSES = "git-remote-gixp", "index-pack", "rev-list", "cat-file", "show-ref", "remote-http", "http-fetch"
 # what a lock of the user's own has in it
 USERS = b"mine"
 

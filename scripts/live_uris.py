@@ -1,8 +1,10 @@
 """Cases of live.py with packs that the server names by URIs (git-config, "fetch.uriProtocols"), beside git."""
 import contextlib
+import signal
+import socket
 import sys
 
-from live_harness import clone_both, leaves_nothing, left_of_packs, make, same
+from live_harness import GRACE, clone_both, end_session, leaves_nothing, left_of_packs, make, same
 from live_servers import ended_after, free_port, ssh, wait_for_port
 
 BOTH = "fetch.uriProtocols=http,https"
@@ -153,6 +155,23 @@ def uri_lines(name, t):
         t.check(f"{name}: {label}, nothing left", leaves_nothing(t), "files or processes")
 
 
+def uri_ends(name, t):
+    """A download that never ends: it goes with git, whatever ends that."""
+    for end in (signal.SIGTERM, signal.SIGINT, signal.SIGKILL):
+        with socket.create_server(("127.0.0.1", 0)) as silent, packs_of(t) as (folder, front):
+            silent.settimeout(30)
+            server = server_with(t, {"one": "one\n"})
+            name_pack(t, server, "one", folder, front, uri=f"http://127.0.0.1:{silent.getsockname()[1]}/x")
+            client = t.folder("us")
+            begun = t.begin("git", "-c", BOTH, "clone", "-q", f"gixp::file://{server}", client)
+            with silent.accept()[0]:
+                begun.send_signal(end)
+                begun.wait(30)
+                stay = end_session(begun, GRACE)
+            t.check(f"{name}: {end.name}", not stay, stay)
+            t.check(f"{name}: {end.name}, nothing left", leaves_nothing(t), "files or processes")
+
+
 def try_uris(t):
     for words, wanted in (([], 3), (["--depth", "2"], 3), (["--filter=blob:none", "--no-checkout"], 1)):
         t.case(f"uris: clone {' '.join(words)}", uri_clones, words, wanted)
@@ -160,3 +179,4 @@ def try_uris(t):
     t.case("uris: checks", uri_checks)
     t.case("uris: refusals", uri_refusals)
     t.case("uris: lines", uri_lines)
+    t.case("uris: ends", uri_ends)

@@ -12,8 +12,8 @@ use Rattle.gixp_packfile_uris.specs.declared.place.Fate.TheVariants.{Pass, Take,
 use Rattle.gixp_packfile_uris.specs.declared.place.Next.TheVariants.{Hold, Payload, Rest, Refused}
 use Rattle.gixp_packfile_uris.specs.declared.place.After.{After}
 use Rattle.gixp_packfile_uris.specs.Line.{is_message, text_of, fate}
-use Rattle.gixp_packfile_uris.specs.Parts.{Parts, behind, parts, parts_of, in_uris, after_delimiter, line_after, digits_after, fate_after, held_after, lines_held, takes_uri}
-use Rattle.gixp_packfile_uris.specs.Uris.{without_uris, uri_lines}
+use Rattle.gixp_packfile_uris.specs.Parts.{Parts, ending, behind, parts, parts_of, in_uris, after_delimiter, line_after, digits_after, fate_after, held_after, lines_held, takes_uri}
+use Rattle.gixp_packfile_uris.specs.Uris.{without_uris, uri_lines, is_refused}
 use Rattle.gixp_packfile_uris.proofs.PartsLemmas.{not_less, payload_front, payload_part, payload_over, held_part, held_whole}
 
 -- what is passed on from a packet line on
@@ -21,10 +21,7 @@ abbrev lines : Place → List ℕ → Parts
 lines place bytes = parts place (Hold 4) [] bytes
 
 abbrev nothing : Parts
-nothing = record { passed = []; lines = [] }
-
-abbrev all_of : List ℕ → Parts
-all_of bytes = record { passed = bytes; lines = [] }
+nothing = record { passed = []; lines = []; is_refused = true }
 
 -- four digits of a packet line, and what comes after them
 abbrev after : After → List ℕ → List ℕ → Parts
@@ -101,7 +98,7 @@ passed_on : (place : Place) (digits p rest : List ℕ)
 passed_on place digits p rest =
     let n : (4 + length p) - 4 ≡ length p = omega arith in
     let z : length p - length p ≡ 0 = omega arith in
-    let P : List ℕ → Parts = λ xs. record { passed = xs; lines = (lines place rest).lines } in
+    let P : List ℕ → Parts = λ xs. record { passed = xs; lines = (lines place rest).lines; is_refused = (lines place rest).is_refused } in
     ap (λ k. parts place (Payload k) digits (p ++ rest)) n
     ∙ payload_front place (length p) digits (p ++ rest)
     ∙ ap (behind digits []) (payload_part place (length p) p rest (omega arith)
@@ -139,10 +136,10 @@ line_front place text p rest h =
 
 -- what comes after the whole packet lines is passed on as it is
 refused_digits : (place : Place) (o : Option ℕ) (rest digits more : List ℕ) → rest ≡ digits ++ more → length digits ≡ 4 → size_of digits ≡ o
-    → digits_after place o ≡ record { place = place; next = Rest; count = 4 } → lines place rest ≡ all_of rest
+    → digits_after place o ≡ record { place = place; next = Rest; count = 4 } → lines place rest ≡ ending rest
 refused_digits place o rest digits more r four size is = ap (lines place) r
     ∙ digits_of place o digits more four size ∙ ap (λ a. after a digits more) is
-    ∙ ap (λ xs. all_of (xs ++ more)) (take_all 4 digits (omega arith)) ∙ ap all_of (sym r)
+    ∙ ap (λ xs. ending (xs ++ more)) (take_all 4 digits (omega arith)) ∙ ap ending (sym r)
 
 too_long : (place : Place) (n : ℕ) → 65520 < n → digits_after place (Some n) ≡ record { place = place; next = Rest; count = 4 }
 too_long place n big =
@@ -153,7 +150,7 @@ too_long place n big =
     rw (a, b, c, d) refl
 
 part_by : (place : Place) (n : ℕ) (digits more : List ℕ) → length digits + length more < n → length digits ≡ 4
-    → after (line_after place n) digits more ≡ all_of (digits ++ more)
+    → after (line_after place n) digits more ≡ ending (digits ++ more)
 part_by SectionStart n digits more few four = ap (λ xs. parts SectionStart (Hold n) xs more) (take_all 4 digits (omega arith))
     ∙ ap (parts SectionStart (Hold n) digits) (sym (append-nil more)) ∙ held_part SectionStart n digits more [] few
 part_by (Uris m) n digits more few four = ap (λ xs. parts (Uris m) (Hold n) xs more) (take_all 4 digits (omega arith))
@@ -162,20 +159,20 @@ part_by Section n digits more few four = ap (λ xs. parts Section (Payload (n - 
     ∙ payload_rest Section (n - 4) digits more (omega (arith, few, four))
   where
     payload_rest : (place : Place) (k : ℕ) (digits more : List ℕ) → length more ≤ k
-        → parts place (Payload k) digits more ≡ all_of (digits ++ more)
+        → parts place (Payload k) digits more ≡ ending (digits ++ more)
     payload_rest place k digits more h = payload_front place k digits more
         ∙ ap (λ xs. behind digits [] (parts place (Payload k) [] xs)) (sym (append-nil more))
-        ∙ ap (behind digits []) (payload_part place k more [] h) ∙ ap (λ xs. all_of (digits ++ xs)) (append-nil more)
+        ∙ ap (behind digits []) (payload_part place k more [] h) ∙ ap (λ xs. ending (digits ++ xs)) (append-nil more)
 part_by Over n digits more few four = ap (λ xs. parts Over (Payload (n - 4)) xs more) (take_all 4 digits (omega arith))
     ∙ payload_rest Over (n - 4) digits more (omega (arith, few, four))
   where
     payload_rest : (place : Place) (k : ℕ) (digits more : List ℕ) → length more ≤ k
-        → parts place (Payload k) digits more ≡ all_of (digits ++ more)
+        → parts place (Payload k) digits more ≡ ending (digits ++ more)
     payload_rest place k digits more h = payload_front place k digits more
         ∙ ap (λ xs. behind digits [] (parts place (Payload k) [] xs)) (sym (append-nil more))
-        ∙ ap (behind digits []) (payload_part place k more [] h) ∙ ap (λ xs. all_of (digits ++ xs)) (append-nil more)
+        ∙ ap (behind digits []) (payload_part place k more [] h) ∙ ap (λ xs. ending (digits ++ xs)) (append-nil more)
 
-end_same : (place : Place) (rest : List ℕ) (end : End) → IsEnd rest end → lines place rest ≡ all_of rest
+end_same : (place : Place) (rest : List ℕ) (end : End) → IsEnd rest end → lines place rest ≡ ending rest
 end_same place rest (bad HexDecode) h = refused_digits place None rest h.0 h.1 h.2 h.3.0 h.3.1 refl
 end_same place rest (bad InvalidLineLength) h = refused_digits place (Some 3) rest h.0 h.1 h.2 h.3.0 h.3.1 refl
 end_same place rest (bad DataIsEmpty) h = refused_digits place (Some 4) rest h.0 h.1 h.2 h.3.0 h.3.1 refl
@@ -190,26 +187,39 @@ end_same place rest ended (inr h) =
     ap (lines place) (sym whole) ∙ digits_of place (Some n) digits more h.1.0 h.1.1
     ∙ ap (λ a. after a digits more) (begun place n h.2 h.3)
     ∙ part_by place n digits more (omega (arith, h.1.0, length-drop 4 rest, h.4, length-append digits more, ap length whole)) h.1.0
-    ∙ ap all_of whole
+    ∙ ap ending whole
 
--- the bytes are these packet lines, and the sink takes these lines
-abbrev AreThese : Parts → Frames → List (List ℕ) → Type 0
-AreThese p fs taken = AreFrames p.passed fs.list fs.end × (p.lines ≡ taken)
+-- the bytes are these packet lines, the sink takes these lines, and a line is refused or none
+abbrev AreThese : Parts → Frames → List (List ℕ) → Bool → Type 0
+AreThese p fs taken refused = AreFrames p.passed fs.list fs.end × (p.lines ≡ taken) × (p.is_refused ≡ refused)
 
-none_left : (p : Parts) → p ≡ nothing → AreThese p (record { list = []; end = ended }) []
-none_left p e = (inl (omega (arith, ap (λ (q : Parts). length q.passed) e)), ap (λ (q : Parts). q.lines) e)
+none_left : (p : Parts) → p ≡ nothing → AreThese p (record { list = []; end = ended }) [] true
+none_left p e = (
+  inl (omega (arith, ap (λ (q : Parts). length q.passed) e)),
+  ap (λ (q : Parts). q.lines) e,
+  ap (λ (q : Parts). q.is_refused) e,
+)
 
 -- a packet line that is passed on
-one_more : (p q : Parts) (f : Frame) (text : List ℕ) (fs : Frames) (taken : List (List ℕ)) → p ≡ behind text [] q → IsFrame text f
-    → AreThese q fs taken → AreThese p (record { list = f ∷ fs.list; end = fs.end }) taken
-one_more p q f text fs taken e is h = ((text, q.passed, ap (λ (x : Parts). x.passed) e, is, h.0), ap (λ (x : Parts). x.lines) e ∙ h.1)
+one_more : (p q : Parts) (f : Frame) (text : List ℕ) (fs : Frames) (taken : List (List ℕ)) (refused : Bool) → p ≡ behind text [] q
+    → IsFrame text f → AreThese q fs taken refused → AreThese p (record { list = f ∷ fs.list; end = fs.end }) taken refused
+one_more p q f text fs taken refused e is h = (
+  (text, q.passed, ap (λ (x : Parts). x.passed) e, is, h.0),
+  ap (λ (x : Parts). x.lines) e ∙ h.1,
+  ap (λ (x : Parts). x.is_refused) e ∙ h.2,
+)
 
-same_these : (p q : Parts) (fs : Frames) (taken : List (List ℕ)) → p ≡ q → AreThese q fs taken → AreThese p fs taken
-same_these p q fs taken e h = subst (λ x. AreThese x fs taken) (sym e) h
+same_these : (p q : Parts) (fs : Frames) (taken : List (List ℕ)) (refused : Bool) → p ≡ q → AreThese q fs taken refused
+    → AreThese p fs taken refused
+same_these p q fs taken refused e h = subst (λ x. AreThese x fs taken refused) (sym e) h
+
+-- what is so of the packet lines behind one
+abbrev AreBehind : Place → List ℕ → List Frame → End → Type 0
+AreBehind next rest frames end = AreThese (lines next rest) (without_uris next frames end) (uri_lines next frames) (is_refused next frames)
 
 by_line : (place : Place) (f : Fate) (bytes text p rest : List ℕ) (frames : List Frame) (end : End) → IsFrame text (payload p)
     → lines place bytes ≡ by_fate place f text p rest
-    → ((next : Place) → AreThese (lines next rest) (without_uris next frames end) (uri_lines next frames))
+    → ((next : Place) → AreBehind next rest frames end)
     → AreThese (lines place bytes)
     (elim f [
       | Pass next ↦ record { list = payload p ∷ (without_uris next frames end).list; end = (without_uris next frames end).end }
@@ -221,17 +231,19 @@ by_line : (place : Place) (f : Fate) (bytes text p rest : List ℕ) (frames : Li
       | Take next ↦ (if in_uris place then text_of p ∷ [] else []) ++ uri_lines next frames
       | Refuse ↦ []
     ])
+    (elim f [ Pass next ↦ is_refused next frames | Take next ↦ is_refused next frames | Refuse ↦ true ])
 by_line place (Pass next) bytes text p rest frames end is e ih =
-    one_more (lines place bytes) (lines next rest) (payload p) text (without_uris next frames end) (uri_lines next frames) e is (ih next)
+    one_more (lines place bytes) (lines next rest) (payload p) text (without_uris next frames end) (uri_lines next frames)
+    (is_refused next frames) e is (ih next)
 by_line place (Take next) bytes text p rest frames end is e ih =
     let one = if in_uris place then text_of p ∷ [] else [] in
-    same_these (lines place bytes) (behind [] one (lines next rest)) (without_uris next frames end) (one ++ uri_lines next frames) e
-    ((ih next).0, ap (λ ls. one ++ ls) (ih next).1)
+    same_these (lines place bytes) (behind [] one (lines next rest)) (without_uris next frames end) (one ++ uri_lines next frames)
+    (is_refused next frames) e ((ih next).0, ap (λ ls. one ++ ls) (ih next).1, (ih next).2)
 by_line place Refuse bytes text p rest frames end is e ih = none_left (lines place bytes) e
 
 by_delimiter : (place : Place) (b : Bool) (bytes text rest : List ℕ) (frames : List Frame) (end : End) → IsFrame text (special Delimiter)
     → lines place bytes ≡ (if b then lines Over rest else behind text [] (lines (after_delimiter place) rest))
-    → ((next : Place) → AreThese (lines next rest) (without_uris next frames end) (uri_lines next frames))
+    → ((next : Place) → AreBehind next rest frames end)
     → AreThese (lines place bytes)
     (if b then without_uris Over frames end
     else record {
@@ -239,30 +251,33 @@ by_delimiter : (place : Place) (b : Bool) (bytes text rest : List ℕ) (frames :
       end = (without_uris (after_delimiter place) frames end).end;
     })
     (if b then uri_lines Over frames else uri_lines (after_delimiter place) frames)
+    (if b then is_refused Over frames else is_refused (after_delimiter place) frames)
 by_delimiter place true bytes text rest frames end is e ih =
-    same_these (lines place bytes) (lines Over rest) (without_uris Over frames end) (uri_lines Over frames) e (ih Over)
+    same_these (lines place bytes) (lines Over rest) (without_uris Over frames end) (uri_lines Over frames) (is_refused Over frames) e
+    (ih Over)
 by_delimiter place false bytes text rest frames end is e ih =
     one_more (lines place bytes) (lines (after_delimiter place) rest) (special Delimiter) text (without_uris (after_delimiter place) frames end)
-    (uri_lines (after_delimiter place) frames) e is (ih (after_delimiter place))
+    (uri_lines (after_delimiter place) frames) (is_refused (after_delimiter place) frames) e is (ih (after_delimiter place))
 
 by_flush : (place : Place) (b : Bool) (f : Frame) (bytes text rest : List ℕ) (frames : List Frame) (end : End) → IsFrame text f
     → lines place bytes ≡ (if b then nothing else behind text [] (lines SectionStart rest))
-    → AreThese (lines SectionStart rest) (without_uris SectionStart frames end) (uri_lines SectionStart frames)
+    → AreBehind SectionStart rest frames end
     → AreThese (lines place bytes)
     (if b then record { list = []; end = ended }
     else record { list = f ∷ (without_uris SectionStart frames end).list; end = (without_uris SectionStart frames end).end })
-    (if b then [] else uri_lines SectionStart frames)
+    (if b then [] else uri_lines SectionStart frames) (if b then true else is_refused SectionStart frames)
 by_flush place true f bytes text rest frames end is e ih = none_left (lines place bytes) e
 by_flush place false f bytes text rest frames end is e ih =
-    one_more (lines place bytes) (lines SectionStart rest) f text (without_uris SectionStart frames end) (uri_lines SectionStart frames) e is ih
+    one_more (lines place bytes) (lines SectionStart rest) f text (without_uris SectionStart frames end) (uri_lines SectionStart frames)
+    (is_refused SectionStart frames) e is ih
 
 -- the packet lines
 pub frames_are : (place : Place) (frames : List Frame) (bytes : List ℕ) (end : End) → AreFrames bytes frames end
     → AreFrames (lines place bytes).passed (without_uris place frames end).list (without_uris place frames end).end
-    × ((lines place bytes).lines ≡ uri_lines place frames)
+    × ((lines place bytes).lines ≡ uri_lines place frames) × ((lines place bytes).is_refused ≡ is_refused place frames)
 frames_are place [] bytes end h =
-    let e : lines place bytes ≡ all_of bytes = end_same place bytes end h in
-    (subst (λ xs. IsEnd xs end) (sym (ap (λ (p : Parts). p.passed) e)) h, ap (λ (p : Parts). p.lines) e)
+    let e : lines place bytes ≡ ending bytes = end_same place bytes end h in
+    (subst (λ xs. IsEnd xs end) (sym (ap (λ (p : Parts). p.passed) e)) h, ap (λ (p : Parts). p.lines) e, ap (λ (p : Parts). p.is_refused) e)
 frames_are place (payload p ∷ frames) bytes end h =
     by_line place (fate place p) bytes h.0 p h.1 frames end h.3 (ap (lines place) h.2 ∙ line_front place h.0 p h.1 h.3)
     (λ next. frames_are next frames h.1 end h.4)

@@ -12,28 +12,28 @@ use Rattle.gixp_packfile_uris.specs.declared.place.After.{After}
 use Rattle.gixp_packfile_uris.specs.declared.place.Next.TheVariants.{Hold, Payload, Rest, Refused}
 use Rattle.gixp_packfile_uris.specs.Order.{is_holding}
 use Rattle.gixp_packfile_uris.specs.Line.{text_of, fate}
-use Rattle.gixp_packfile_uris.specs.Parts.{Parts, behind, parts, parts_from, passed_from, lines_from, fate_after, takes_uri, held_after, lines_held}
-use Rattle.gixp_packfile_uris.specs.Sink.{TakesLines, all_lines, SameLines}
+use Rattle.gixp_packfile_uris.specs.Parts.{Parts, ending, behind, parts, parts_from, passed_from, lines_from, refused_from, fate_after, takes_uri, held_after, lines_held}
+use Rattle.gixp_packfile_uris.specs.Sink.{TakesLines, all_lines, SameKnown}
 
 pub not_less : (m n : ℕ) → n ≤ m → nat_lt m n ≡ false
 not_less m n h = search rules
 
 -- bytes that are held come first, where no line is held
 pub payload_front : (place : Place) (n : ℕ) (held ys : List ℕ) → parts place (Payload n) held ys ≡ behind held [] (parts place (Payload n) [] ys)
-payload_front place n held [] = let P : List ℕ → Parts = λ xs. record { passed = xs; lines = [] } in ap P (sym (append-nil held))
+payload_front place n held [] = ap ending (sym (append-nil held))
 payload_front place zero held (b ∷ ys) = refl
 payload_front place (suc n) held (b ∷ ys) = refl
 
 -- one front after another
 behind_twice : (a b : List ℕ) (p : Parts) → behind (a ++ b) [] p ≡ behind a [] (behind b [] p)
-behind_twice a b p = let P : List ℕ → Parts = λ xs. record { passed = xs; lines = p.lines } in ap P (append_assoc a b p.passed)
+behind_twice a b p = let P : List ℕ → Parts = λ xs. record { passed = xs; lines = p.lines; is_refused = p.is_refused } in ap P (append_assoc a b p.passed)
 
 pub known_front : (place : Place) (next : Next) (a b ys : List ℕ) → is_holding next ≡ false
     → parts place next (a ++ b) ys ≡ behind a [] (parts place next b ys)
 known_front place (Hold size) a b ys h = cc
 known_front place (Payload n) a b ys h = payload_front place n (a ++ b) ys
     ∙ (behind_twice a b (parts place (Payload n) [] ys) ∙ ap (behind a []) (sym (payload_front place n b ys)))
-known_front place Rest a b ys h = let P : List ℕ → Parts = λ xs. record { passed = xs; lines = [] } in ap P (append_assoc a b ys)
+known_front place Rest a b ys h = ap ending (append_assoc a b ys)
 known_front place Refused a b ys h = refl
 
 -- a payload comes as it is
@@ -116,13 +116,20 @@ takes_through (Some xs) (Some ys) bytes f g h e = sym (ap f h ∙ e ys)
 -- and lines
 pub lines_through : (taken : Option (List (List ℕ))) (old new : Option (List ℕ)) (bytes : List ℕ) (f g : List ℕ → List (List ℕ))
     → Consumes old new bytes → ((ys : List ℕ) → f (bytes ++ ys) ≡ g ys)
-    → SameLines (all_lines taken (option_map f old)) (all_lines taken (option_map g new))
+    → SameKnown (all_lines taken (option_map f old)) (all_lines taken (option_map g new))
 lines_through None old new bytes f g h e = tt
 lines_through (Some t) None new bytes f g h e = tt
 lines_through (Some t) (Some xs) None bytes f g h e = absurd h
 lines_through (Some t) (Some xs) (Some ys) bytes f g h e = ap (λ ls. t ++ ls) (sym (ap f h ∙ e ys))
 
-pub same_same : (a b c : Option (List (List ℕ))) → SameLines a b → SameLines b c → SameLines a c
+-- and what else is known
+pub known_through : {A : Type 0} (old new : Option (List ℕ)) (bytes : List ℕ) (f g : List ℕ → A)
+    → Consumes old new bytes → ((ys : List ℕ) → f (bytes ++ ys) ≡ g ys) → SameKnown (option_map f old) (option_map g new)
+known_through None new bytes f g h e = tt
+known_through (Some xs) None bytes f g h e = absurd h
+known_through (Some xs) (Some ys) bytes f g h e = sym (ap f h ∙ e ys)
+
+pub same_same : {A : Type 0} (a b c : Option A) → SameKnown a b → SameKnown b c → SameKnown a c
 same_same None b c h k = tt
 same_same (Some x) None c h k = absurd h
 same_same (Some x) (Some y) None h k = absurd k
@@ -161,7 +168,7 @@ gives_held (Some bs) place next held out later d e =
 
 pub gives_no_line : (taken : Option (List (List ℕ))) (o : Option (List ℕ)) (place : Place) (next : Next) (held out later : List ℕ)
     → is_holding next ≡ false → held ≡ out ++ later
-    → SameLines (all_lines taken (option_map (λ bs. (parts place next held bs).lines) o))
+    → SameKnown (all_lines taken (option_map (λ bs. (parts place next held bs).lines) o))
     (all_lines taken (option_map (λ bs. (parts place next later bs).lines) o))
 gives_no_line None o place next held out later d e = tt
 gives_no_line (Some t) None place next held out later d e = tt
@@ -177,7 +184,7 @@ takes_held old new place size held got after came h k e = rw e (takes_through ol
 
 pub takes_lines : (taken : Option (List (List ℕ))) (old new : Option (List ℕ)) (place : Place) (size : ℕ) (held got after : List ℕ)
     → Consumes old new got → length held + length got ≤ size → length held < size → after ≡ held ++ got
-    → SameLines (all_lines taken (option_map (λ bs. (parts place (Hold size) held bs).lines) old)) (lines_from taken place size after new)
+    → SameKnown (all_lines taken (option_map (λ bs. (parts place (Hold size) held bs).lines) old)) (lines_from taken place size after new)
 takes_lines taken old new place size held got after came h k e = rw e (lines_through taken old new got
     (λ bs. (parts place (Hold size) held bs).lines)
     (λ bs. (parts_from place size (held ++ got) bs).lines) came (λ ys. ap (λ (p : Parts). p.lines) (told place size held got ys h k)))
@@ -205,7 +212,7 @@ reads_payload old new place next held buf rest left n is none fits bound some ca
 
 pub reads_no_line : (taken : Option (List (List ℕ))) (old new : Option (List ℕ)) (place : Place) (next : Next) (held got : List ℕ)
     (left n : ℕ) → next ≡ Payload left → held ≡ [] → length got ≡ n → n ≤ left → Consumes old new got
-    → SameLines (all_lines taken (option_map (λ bs. (parts place next held bs).lines) old))
+    → SameKnown (all_lines taken (option_map (λ bs. (parts place next held bs).lines) old))
     (all_lines taken (option_map (λ bs. (parts place (Payload (left - n)) held bs).lines) new))
 reads_no_line taken old new place next held got left n is none len fits came =
     rw (is, none) (lines_through taken old new got (λ bs. (parts place (Payload left) [] bs).lines)
@@ -226,7 +233,7 @@ took_whole (Some bs) place size held kept a fits is k =
 pub took_lines : (taken then_taken : Option (List (List ℕ))) (o : Option (List ℕ)) (place : Place) (size : ℕ) (held kept : List ℕ) (a : After)
     → TakesLines taken then_taken (lines_held place size held) → size ≤ length held → a ≡ held_after place size held
     → kept ≡ take a.count held
-    → SameLines (lines_from taken place size held o) (all_lines then_taken (option_map (λ bs. (parts a.place a.next kept bs).lines) o))
+    → SameKnown (lines_from taken place size held o) (all_lines then_taken (option_map (λ bs. (parts a.place a.next kept bs).lines) o))
 took_lines None then_taken o place size held kept a takes fits is k = tt
 took_lines (Some t) then_taken None place size held kept a takes fits is k = tt
 took_lines (Some t) None (Some bs) place size held kept a takes fits is k = absurd takes
@@ -251,7 +258,7 @@ took_part (Some bs) place next size held kept few is k =
 
 pub took_no_line : (taken : Option (List (List ℕ))) (o : Option (List ℕ)) (place : Place) (next : Next) (size : ℕ) (held kept : List ℕ)
     → length held < size → next ≡ Hold size → kept ≡ held
-    → SameLines (lines_from taken place size held o) (all_lines taken (option_map (λ bs. (parts place next kept bs).lines) o))
+    → SameKnown (lines_from taken place size held o) (all_lines taken (option_map (λ bs. (parts place next kept bs).lines) o))
 took_no_line None o place next size held kept few is k = tt
 took_no_line (Some t) None place next size held kept few is k = tt
 took_no_line (Some t) (Some bs) place next size held kept few is k =
@@ -282,3 +289,44 @@ pub behind_held : (old new : List ℕ) (start end n : ℕ) → start ≡ 0 → t
     → take (end + n) new ≡ slice_range old start end ++ take n (drop end new)
 behind_held old new start end n first same =
     take-add end n new ∙ ap (λ xs. xs ++ take n (drop end new)) (same ∙ sym (first_range old start end first))
+
+-- whether a line is refused
+pub gives_refusal : (o : Option (List ℕ)) (place : Place) (next : Next) (held out later : List ℕ) → is_holding next ≡ false
+    → held ≡ out ++ later
+    → SameKnown (option_map (λ bs. (parts place next held bs).is_refused) o) (option_map (λ bs. (parts place next later bs).is_refused) o)
+gives_refusal None place next held out later d e = tt
+gives_refusal (Some bs) place next held out later d e =
+    sym (ap (λ h. (parts place next h bs).is_refused) e ∙ ap (λ (p : Parts). p.is_refused) (known_front place next out later bs d))
+
+pub takes_refusal : (old new : Option (List ℕ)) (place : Place) (size : ℕ) (held got after : List ℕ)
+    → Consumes old new got → length held + length got ≤ size → length held < size → after ≡ held ++ got
+    → SameKnown (option_map (λ bs. (parts place (Hold size) held bs).is_refused) old) (refused_from place size after new)
+takes_refusal old new place size held got after came h k e = rw e (known_through old new got
+    (λ bs. (parts place (Hold size) held bs).is_refused)
+    (λ bs. (parts_from place size (held ++ got) bs).is_refused) came (λ ys. ap (λ (p : Parts). p.is_refused) (told place size held got ys h k)))
+
+pub reads_refusal : (old new : Option (List ℕ)) (place : Place) (next : Next) (held got : List ℕ)
+    (left n : ℕ) → next ≡ Payload left → held ≡ [] → length got ≡ n → n ≤ left → Consumes old new got
+    → SameKnown (option_map (λ bs. (parts place next held bs).is_refused) old)
+    (option_map (λ bs. (parts place (Payload (left - n)) held bs).is_refused) new)
+reads_refusal old new place next held got left n is none len fits came =
+    rw (is, none) (known_through old new got (λ bs. (parts place (Payload left) [] bs).is_refused)
+    (λ bs. (parts place (Payload (left - n)) [] bs).is_refused) came
+    (λ ys. ap (λ (p : Parts). p.is_refused) (payload_part place left got ys (omega arith)
+    ∙ ap (λ k. behind got [] (parts place (Payload (left - k)) [] ys)) len)))
+
+pub took_refusal : (o : Option (List ℕ)) (place : Place) (size : ℕ) (held kept : List ℕ) (a : After) → size ≤ length held
+    → a ≡ held_after place size held → kept ≡ take a.count held
+    → option_map (λ bs. (parts a.place a.next kept bs).is_refused) o ≡ refused_from place size held o
+took_refusal None place size held kept a fits is k = refl
+took_refusal (Some bs) place size held kept a fits is k =
+    let t : nat_lt (length held) size ≡ false = search rules in
+    let w : After → Parts = λ x. parts x.place x.next (take x.count held) bs in
+    rw t (ap Some (ap (λ ks. (parts a.place a.next ks bs).is_refused) k ∙ ap (λ x. (w x).is_refused) is))
+
+pub took_part_refusal : (o : Option (List ℕ)) (place : Place) (next : Next) (size : ℕ) (held kept : List ℕ) → length held < size
+    → next ≡ Hold size → kept ≡ held
+    → option_map (λ bs. (parts place next kept bs).is_refused) o ≡ refused_from place size held o
+took_part_refusal None place next size held kept few is k = refl
+took_part_refusal (Some bs) place next size held kept few is k =
+    let t : nat_lt (length held) size ≡ true = search rules in rw (t, is, k) refl

@@ -26,8 +26,8 @@ count_of Section = 0
 count_of Over = 0
 
 -- a section has 1,000 lines at most; of a line that is held until it is whole some bytes are missing
-abbrev pub IsInOrder : (room start end : ℕ) → Place → Next → Type 0
-IsInOrder room start end place next =
+abbrev pub IsHeldInOrder : (room start end : ℕ) → Place → Next → Type 0
+IsHeldInOrder room start end place next =
     (room ≡ 65520) × (start ≤ end) × (end ≤ 65520) × (count_of place ≤ 1000)
     × (is_holding next ≡ true → (start ≡ 0) × (end < size_held next) × (4 ≤ size_held next) × (size_held next ≤ 65520))
 

@@ -76,24 +76,29 @@ abbrev pub lines_held : Place → ℕ → List ℕ → List (List ℕ)
 lines_held place size held =
     if size == 4 then [] else if takes_uri place (fate place (drop 4 held)) then text_of (drop 4 held) ∷ [] else []
 
--- the bytes that are passed on, and the lines that the sink takes
+-- the bytes that are passed on, the lines that the sink takes, and whether a line is refused behind them
 pub record Parts : Type 0 where
   pub passed : List ℕ
   pub lines : List (List ℕ)
+  pub is_refused : Bool
+
+-- bytes that are passed on, to the reader's end
+abbrev pub ending : List ℕ → Parts
+ending bytes = record { passed = bytes; lines = []; is_refused = false }
 
 abbrev pub behind : List ℕ → List (List ℕ) → Parts → Parts
-behind front first p = record { passed = front ++ p.passed; lines = first ++ p.lines }
+behind front first p = record { passed = front ++ p.passed; lines = first ++ p.lines; is_refused = p.is_refused }
 
 -- those of some bytes, and of what is held before them
 abbrev pub parts : Place → Next → (held : List ℕ) → List ℕ → Parts
-parts place Refused held bytes = record { passed = held; lines = [] }
-parts place Rest held bytes = record { passed = held ++ bytes; lines = [] }
-parts place (Payload n) held [] = record { passed = held; lines = [] }
+parts place Refused held bytes = record { passed = held; lines = []; is_refused = true }
+parts place Rest held bytes = ending (held ++ bytes)
+parts place (Payload n) held [] = ending held
 parts place (Payload n) held (b ∷ bytes) = elim n [
   | zero ↦ behind held [] (parts place (Hold 4) (b ∷ []) bytes)
   | suc m ↦ behind held [] (behind (b ∷ []) [] (parts place (Payload m) [] bytes))
 ]
-parts place (Hold size) held [] = record { passed = held; lines = [] }
+parts place (Hold size) held [] = ending held
 parts place (Hold size) held (b ∷ bytes) =
     if nat_lt (length held + 1) size then parts place (Hold size) (held ++ b ∷ []) bytes
     else behind [] (lines_held place size (held ++ b ∷ []))
@@ -121,12 +126,20 @@ abbrev pub lines_of : {R S : Type 0} → (R → Option (List ℕ)) → (S → Op
 lines_of remaining lines p = all_lines (lines p.sink)
     (option_map (λ bytes. (parts p.place p.next (slice_range p.room.items p.start p.end) bytes).lines) (remaining p.reader))
 
+-- whether it will refuse a line
+abbrev pub refused_of : {R S : Type 0} → (R → Option (List ℕ)) → PackfileUris R S → Option Bool
+refused_of remaining p =
+    option_map (λ bytes. (parts p.place p.next (slice_range p.room.items p.start p.end) bytes).is_refused) (remaining p.reader)
+
 -- the same after these bytes of a line
 abbrev pub passed_from : Place → (size : ℕ) → List ℕ → Option (List ℕ) → Option (List ℕ)
 passed_from place size held bytes = option_map (λ bs. (parts_from place size held bs).passed) bytes
 
 abbrev pub lines_from : Option (List (List ℕ)) → Place → (size : ℕ) → List ℕ → Option (List ℕ) → Option (List (List ℕ))
 lines_from taken place size held bytes = all_lines taken (option_map (λ bs. (parts_from place size held bs).lines) bytes)
+
+abbrev pub refused_from : Place → (size : ℕ) → List ℕ → Option (List ℕ) → Option Bool
+refused_from place size held bytes = option_map (λ bs. (parts_from place size held bs).is_refused) bytes
 
 -- how often it can go on before it passes something on
 abbrev pub steps_of : {R S : Type 0} → PackfileUris R S → ℕ
@@ -144,7 +157,7 @@ ReadsHeld old new steps left (Ok false) = Keeps old new × (left < steps)
 ReadsHeld old new steps left (Err e) = Keeps old new
 
 -- a call that passes on what it can, or nothing; then the reader went on
-abbrev pub GivesOrSteps : {E : Type 0} → Option (List ℕ) → Option (List ℕ) → (steps left : ℕ) → List ℕ → Result (Option ℕ) E → Type 0
-GivesOrSteps old new steps left buf (Ok (Some n)) = (n ≤ length buf) × Consumes old new (take n buf) × (n ≡ 0 → IsAtEnd new)
-GivesOrSteps old new steps left buf (Ok None) = Keeps old new × (left < steps)
-GivesOrSteps old new steps left buf (Err e) = Keeps old new
+abbrev pub PassesOrSteps : {E : Type 0} → Option (List ℕ) → Option (List ℕ) → (steps left : ℕ) → List ℕ → Result (Option ℕ) E → Type 0
+PassesOrSteps old new steps left buf (Ok (Some n)) = (n ≤ length buf) × Consumes old new (take n buf) × (n ≡ 0 → IsAtEnd new)
+PassesOrSteps old new steps left buf (Ok None) = Keeps old new × (left < steps)
+PassesOrSteps old new steps left buf (Err e) = Keeps old new

@@ -1,5 +1,5 @@
 -- The packet lines that are passed on, and the lines of the section `packfile-uris` (gitprotocol-v2, "fetch").
-use Rattle.std.specs.Prelude.{ℕ, if◌then◌else◌, List, [], ◌∷◌, ◌++◌}
+use Rattle.std.specs.Prelude.{ℕ, Bool, true, false, if◌then◌else◌, List, [], ◌∷◌, ◌++◌}
 use Rattle.gixp_packetline.specs.Frames.{Frame, payload, special, End, ended, Frames, no_frames, with_frame}
 use Rattle.gixp_packetline.specs.declared.protocol.MessageKind.TheVariants.{Flush, Delimiter, ResponseEnd, Text}
 use Rattle.gixp_packfile_uris.specs.declared.place.Place.{Place}
@@ -36,3 +36,16 @@ uri_lines place (special Delimiter ∷ frames) = if in_uris place then uri_lines
 uri_lines place (special Flush ∷ frames) = if in_uris place then [] else uri_lines SectionStart frames
 uri_lines place (special ResponseEnd ∷ frames) = if in_uris place then [] else uri_lines SectionStart frames
 uri_lines place (special Text ∷ frames) = []
+
+-- whether a line is refused: one that is none of the section's, or a flush packet or a response-end packet in it
+abbrev pub is_refused : Place → List Frame → Bool
+is_refused place [] = false
+is_refused place (payload p ∷ frames) = elim (fate place p) [
+  | Pass next ↦ is_refused next frames
+  | Take next ↦ is_refused next frames
+  | Refuse ↦ true
+]
+is_refused place (special Delimiter ∷ frames) = if in_uris place then is_refused Over frames else is_refused (after_delimiter place) frames
+is_refused place (special Flush ∷ frames) = if in_uris place then true else is_refused SectionStart frames
+is_refused place (special ResponseEnd ∷ frames) = if in_uris place then true else is_refused SectionStart frames
+is_refused place (special Text ∷ frames) = false

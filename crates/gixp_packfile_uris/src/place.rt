@@ -1,7 +1,7 @@
 //! Where a reader of packet lines is.
 ghost use Rattle.std.specs.Prelude.{List, [], ◌∷◌, ℕ, Option, None, vec_len};
 ghost use Rattle.gixp_packfile_uris.specs.Sink.{TakesLines};
-ghost use Rattle.gixp_packfile_uris.specs.Order.{IsInOrder};
+ghost use Rattle.gixp_packfile_uris.specs.Order.{IsHeldInOrder};
 
 /// How many URIs an answer may name.
 pub const MOST_URIS: usize = 1000;
@@ -85,5 +85,5 @@ pub struct PackfileUris<R, S> {
     pub(crate) room: Vec<u8>,
     pub(crate) start: usize,
     pub(crate) end: usize,
-    ghost in_order: { IsInOrder (vec_len room) start end place next },
+    ghost in_order: { IsHeldInOrder (vec_len room) start end place next },
 }

@@ -1,12 +1,12 @@
 //! A reader of packet lines that takes the section `packfile-uris` out.
-ghost use Rattle.std.specs.Prelude.{◌≡◌, if◌then◌else◌, [], ◌∷◌, ◌+◌, ◌<◌, ◌≤◌, length, take, false, vec_len, IfOk};
+ghost use Rattle.std.specs.Prelude.{◌≡◌, if◌then◌else◌, [], ◌∷◌, ◌+◌, ◌<◌, ◌≤◌, length, take, true, false, vec_len, IfOk, IfSome};
 ghost use Rattle.std.specs.Option.{option_map};
 ghost use Rattle.std.specs.Io.{ReadsAtMost};
 ghost use Rattle.std.specs.Io.KnownBytes.{Consumes, ReadConsumes};
 ghost use Rattle.gixp_packetline.specs.Frames.{size_of};
-ghost use Rattle.gixp_packfile_uris.specs.Parts.{in_uris, after_delimiter, delimiter_after, flush_after, line_after, digits_after, fate_after, takes_uri, parts_of, to_come, lines_of, passed_from, lines_from, steps_of, ReadsInto, ReadsHeld, GivesOrSteps};
+ghost use Rattle.gixp_packfile_uris.specs.Parts.{in_uris, after_delimiter, delimiter_after, flush_after, line_after, digits_after, fate_after, takes_uri, parts_of, to_come, lines_of, refused_of, passed_from, lines_from, refused_from, steps_of, ReadsInto, ReadsHeld, PassesOrSteps};
 ghost use Rattle.gixp_packfile_uris.specs.Order.{is_holding};
-ghost use Rattle.gixp_packfile_uris.specs.Sink.{TakesLines, all_lines, SameLines};
+ghost use Rattle.gixp_packfile_uris.specs.Sink.{TakesLines, all_lines, SameKnown, IsKnownFalse};
 
 use crate::line::{fate, text_of};
 use crate::place::{After, Fate, Next, PackfileUris, Place, UriSink};
@@ -190,6 +190,8 @@ impl<R: Read + Drop, S: UriSink + Drop> PackfileUris<R, S> {
         ensures bytes { IfOk result (λ p. to_come R.remaining p ≡ option_map (λ bytes. (parts_of bytes).passed) (R.remaining reader)) }
         ensures lines { IfOk result (λ p. lines_of R.remaining S.lines p
             ≡ all_lines (S.lines sink) (option_map (λ bytes. (parts_of bytes).lines) (R.remaining reader))) }
+        ensures refusal { IfOk result (λ p. refused_of R.remaining p
+            ≡ option_map (λ bytes. (parts_of bytes).is_refused) (R.remaining reader)) }
         ensures unread { IfOk result (λ p. p.reader ≡ reader) }
     {
         Ok(PackfileUris {
@@ -213,7 +215,8 @@ impl<R: Read, S: UriSink> PackfileUris<R, S> {
         ensures some { 0 < result }
         ensures bound { result ≤ length buf.new }
         ensures given { Consumes (to_come R.remaining self.old) (to_come R.remaining self.new) (take result buf.new) }
-        ensures lines { SameLines (lines_of R.remaining S.lines self.old) (lines_of R.remaining S.lines self.new) }
+        ensures lines { SameKnown (lines_of R.remaining S.lines self.old) (lines_of R.remaining S.lines self.new) }
+        ensures refusal { SameKnown (refused_of R.remaining self.old) (refused_of R.remaining self.new) }
     {
         let count = (self.end - self.start).min(buf.len());
         let end = self.start + count;
@@ -227,8 +230,9 @@ impl<R: Read, S: UriSink> PackfileUris<R, S> {
         requires { self.old.next ≡ Next.Hold 4 }
         ensures bytes { to_come R.remaining self.new
             ≡ passed_from self.old.place 4 (take 4 self.old.room.items) (R.remaining self.old.reader) }
-        ensures lines { SameLines (lines_from (S.lines self.old.sink) self.old.place 4 (take 4 self.old.room.items)
+        ensures lines { SameKnown (lines_from (S.lines self.old.sink) self.old.place 4 (take 4 self.old.room.items)
             (R.remaining self.old.reader)) (lines_of R.remaining S.lines self.new) }
+        ensures refusal { refused_of R.remaining self.new ≡ refused_from self.old.place 4 (take 4 self.old.room.items) (R.remaining self.old.reader) }
         ensures fewer { steps_of self.new < steps_of self.old }
     {
         let after = digits_after(self.place, size_of(&self.room[..4]));
@@ -243,8 +247,9 @@ impl<R: Read, S: UriSink> PackfileUris<R, S> {
         requires line { 4 < size }
         ensures bytes { to_come R.remaining self.new
             ≡ passed_from self.old.place size (take size self.old.room.items) (R.remaining self.old.reader) }
-        ensures lines { SameLines (lines_from (S.lines self.old.sink) self.old.place size (take size self.old.room.items)
+        ensures lines { SameKnown (lines_from (S.lines self.old.sink) self.old.place size (take size self.old.room.items)
             (R.remaining self.old.reader)) (lines_of R.remaining S.lines self.new) }
+        ensures refusal { refused_of R.remaining self.new ≡ refused_from self.old.place size (take size self.old.room.items) (R.remaining self.old.reader) }
         ensures fewer { steps_of self.new < steps_of self.old }
     {
         let line = &self.room[4..size];
@@ -263,8 +268,9 @@ impl<R: Read, S: UriSink> PackfileUris<R, S> {
         requires bound { end ≤ size }
         ensures bytes { to_come R.remaining self.new
             ≡ passed_from self.old.place size (take end self.old.room.items) (R.remaining self.old.reader) }
-        ensures lines { SameLines (lines_from (S.lines self.old.sink) self.old.place size (take end self.old.room.items)
+        ensures lines { SameKnown (lines_from (S.lines self.old.sink) self.old.place size (take end self.old.room.items)
             (R.remaining self.old.reader)) (lines_of R.remaining S.lines self.new) }
+        ensures refusal { refused_of R.remaining self.new ≡ refused_from self.old.place size (take end self.old.room.items) (R.remaining self.old.reader) }
         ensures fewer { steps_of self.new < steps_of self.old }
     {
         if end < size {
@@ -281,7 +287,9 @@ impl<R: Read, S: UriSink> PackfileUris<R, S> {
         requires { self.old.next ≡ Next.Hold size }
         ensures bytes { ReadsHeld (to_come R.remaining self.old) (to_come R.remaining self.new) (steps_of self.old) (steps_of self.new)
             result }
-        ensures lines { SameLines (lines_of R.remaining S.lines self.old) (lines_of R.remaining S.lines self.new) }
+        ensures end { IfOk result (λ is_end. is_end ≡ true → IsKnownFalse (refused_of R.remaining self.new)) }
+        ensures lines { SameKnown (lines_of R.remaining S.lines self.old) (lines_of R.remaining S.lines self.new) }
+        ensures refusal { SameKnown (refused_of R.remaining self.old) (refused_of R.remaining self.new) }
     {
         let count = read_into(&mut self.reader, &mut self.room, self.end, size)?;
         if count > 0 {
@@ -303,7 +311,9 @@ impl<R: Read, S: UriSink> PackfileUris<R, S> {
         requires room { 0 < length buf.old }
         ensures bound { ReadsAtMost result buf.new }
         ensures bytes { ReadConsumes (to_come R.remaining self.old) (to_come R.remaining self.new) result buf.new }
-        ensures lines { SameLines (lines_of R.remaining S.lines self.old) (lines_of R.remaining S.lines self.new) }
+        ensures end { IfOk result (λ n. n ≡ 0 → IsKnownFalse (refused_of R.remaining self.new)) }
+        ensures lines { SameKnown (lines_of R.remaining S.lines self.old) (lines_of R.remaining S.lines self.new) }
+        ensures refusal { SameKnown (refused_of R.remaining self.old) (refused_of R.remaining self.new) }
     {
         let most = left.min(buf.len());
         let count = self.reader.read(&mut buf[..most])?;
@@ -314,9 +324,11 @@ impl<R: Read, S: UriSink> PackfileUris<R, S> {
     // Gives what it can, or takes a step without it.
     fn step(&mut self, buf: &mut [u8]) -> io::Result<Option<usize>>
         requires { 0 < length buf.old }
-        ensures bytes { GivesOrSteps (to_come R.remaining self.old) (to_come R.remaining self.new) (steps_of self.old) (steps_of self.new)
+        ensures bytes { PassesOrSteps (to_come R.remaining self.old) (to_come R.remaining self.new) (steps_of self.old) (steps_of self.new)
             buf.new result }
-        ensures lines { SameLines (lines_of R.remaining S.lines self.old) (lines_of R.remaining S.lines self.new) }
+        ensures end { IfOk result (λ found. IfSome found (λ n. n ≡ 0 → IsKnownFalse (refused_of R.remaining self.new))) }
+        ensures lines { SameKnown (lines_of R.remaining S.lines self.old) (lines_of R.remaining S.lines self.new) }
+        ensures refusal { SameKnown (refused_of R.remaining self.old) (refused_of R.remaining self.new) }
     {
         if let Next::Hold(size) = self.next {
             if self.read_held(size)? {
@@ -348,7 +360,9 @@ impl<R: Read, S: UriSink> PackfileUris<R, S> {
     pub fn read_passing(&mut self, buf: &mut [u8]) -> io::Result<usize>
         ensures bound { ReadsAtMost result buf.new }
         ensures bytes { ReadConsumes (to_come R.remaining self.old) (to_come R.remaining self.new) result buf.new }
-        ensures lines { SameLines (lines_of R.remaining S.lines self.old) (lines_of R.remaining S.lines self.new) }
+        ensures end { IfOk result (λ n. n ≡ 0 → 0 < length buf.new → IsKnownFalse (refused_of R.remaining self.new)) }
+        ensures lines { SameKnown (lines_of R.remaining S.lines self.old) (lines_of R.remaining S.lines self.new) }
+        ensures refusal { SameKnown (refused_of R.remaining self.old) (refused_of R.remaining self.new) }
     {
         if buf.is_empty() {
             return Ok(0);

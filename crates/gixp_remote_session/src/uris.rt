@@ -21,6 +21,9 @@ use std::alloc::Global;
 use std::cell::RefCell;
 use std::{fs, mem};
 
+// What is said of a section that was refused.
+const BAD_LINE: &str = "expected '<hash> <uri>' in each line of the section packfile-uris";
+
 /// What the server says of URIs.
 #[derive(Drop)]
 pub(crate) struct Uris {
@@ -88,9 +91,7 @@ pub(crate) fn forget_uris(uris: &RefCell<Uris>) {
 /// Fails where a line of the section was refused.
 pub(crate) fn expect_lines(uris: &RefCell<Uris>) -> Result<(), Trouble> {
     match uris.try_borrow() {
-        Ok(uris) if uris.is_refused => Err(Trouble::Fatal(
-            "expected '<hash> <uri>' in each line of the section packfile-uris",
-        )),
+        Ok(uris) if uris.is_refused => Err(Trouble::Fatal(BAD_LINE)),
         _ => Ok(()),
     }
 }
@@ -153,7 +154,7 @@ fn named_by<'a>(
     let mut all = Vec::new(alloc);
     for line in lines {
         let Some((name, uri)) = parts_of(line.as_bytes()) else {
-            return Err(Trouble::Memory);
+            return Err(Trouble::Fatal(BAD_LINE));
         };
         if !setting.allows(uri) {
             return Err(Trouble::of_word(

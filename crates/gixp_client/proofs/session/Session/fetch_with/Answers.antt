@@ -34,7 +34,7 @@ returns-clause-refused g c = inr (
       (ap g.T.ExtendedBufRead.reading (sym (c.unless_reported-came.ensures.transport ∙ c.take_kept-messages.ensures)))
       c.in_ok-known.ensures
       c.carry_out-came.ensures.fetched.0 (
-      refused_of _ _ _ _ _ _ _ _ _ c.unless_reported-came.ensures.reported c.in-Err.ensures.refused c.carry_out-came.ensures.fetched.1,
-      λ unsent. ap (λ s. s.shaken) c.unless_reported-came.ensures.others ∙ c.carry_out-came.ensures.fetched.2 unsent,
-    ),
+        refused_of _ _ _ _ _ _ _ _ _ c.unless_reported-came.ensures.reported c.in-Err.ensures.refused c.carry_out-came.ensures.fetched.1,
+        λ unsent. ap (λ s. s.shaken) c.unless_reported-came.ensures.others ∙ c.carry_out-came.ensures.fetched.2 unsent,
+      ),
 )

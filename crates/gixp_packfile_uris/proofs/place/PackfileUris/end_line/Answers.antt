@@ -3,7 +3,7 @@ use Rattle.std.proofs.lemmas.List.{take-take, length-take-le}
 use Rattle.gixp_packfile_uris.specs.Order.{is_holding, size_held}
 use Rattle.gixp_packfile_uris.specs.Sink.{TakesLines}
 use Rattle.gixp_packfile_uris.proofs.OrderLemmas.{line_fate_is, fewer_steps}
-use Rattle.gixp_packfile_uris.proofs.PartsLemmas.{first_range, took_whole, took_lines, payload_of, line_is, line_text}
+use Rattle.gixp_packfile_uris.proofs.PartsLemmas.{first_range, took_whole, took_lines, took_refusal, payload_of, line_is, line_text}
 use Rattle.gixp_packfile_uris.proofs.place.PackfileUris.end_line.Goals as goal
 
 pub invariant_of-self : goal.invariant_of-self
@@ -67,3 +67,19 @@ returns-clause-fewer g c =
     let size_is = ap size_held c.requires.held in
     rw c.requires.held (fewer_steps s.place (take (c.args.size - 4) (drop 4 c.deref.result.now)) c.args.size s.start s.end c.fate-fate.result c.fate_after-after.result s.in_order.3
     c.fate-fate.ensures c.fate_after-after.ensures o.0 (omega (arith, c.requires.line)) (omega (arith, o.1, o.3)))
+
+pub returns-clause-refusal : goal.returns-clause-refusal
+returns-clause-refusal g c =
+    let s = c.args.self.now in
+    let size = c.args.size in
+    let o = s.in_order.4 (ap is_holding c.requires.held) in
+    let size_is = ap size_held c.requires.held in
+    let a = c.fate_after-after.result in
+    let is = line_fate_is s.place (take (c.args.size - 4) (drop 4 c.deref.result.now)) c.args.size c.fate-fate.result c.fate_after-after.result s.in_order.3 c.fate-fate.ensures
+    c.fate_after-after.ensures in
+    let len : length (take size s.room.items) ≡ size = length-take-le size s.room.items (omega (arith, s.in_order.0, o.3, size_is)) in
+    took_refusal (g.R.Read.remaining s.reader) s.place size (take size s.room.items) _ a (omega (arith, len))
+    (line_is s.place size (take size s.room.items) _ c.fate-fate.result a c.requires.line len
+    (ap (λ r. take (size - 4) (drop 4 r)) c.deref.ensures.value ∙ payload_of size s.room.items (omega (arith, c.requires.line)))
+    c.fate-fate.ensures c.fate_after-after.ensures)
+    (first_range s.room.items s.start a.count o.0 ∙ sym (take-take a.count size s.room.items is.0))

@@ -1,7 +1,7 @@
 use Rattle.std.specs.Prelude.{slice_range}
 use Rattle.std.proofs.lemmas.List.{take-append-le, take_all}
 use Rattle.std.proofs.Common.{◌≡◌, ◌+◌, ◌++◌, arith, length, take, drop, ap, sym, ◌∙◌}
-use Rattle.gixp_packfile_uris.proofs.PartsLemmas.{gives_held, gives_no_line, range_parts, range_length}
+use Rattle.gixp_packfile_uris.proofs.PartsLemmas.{gives_held, gives_no_line, gives_refusal, range_parts, range_length}
 use Rattle.gixp_packfile_uris.proofs.place.PackfileUris.give.Goals as goal
 
 pub returns-clause-given : goal.returns-clause-given
@@ -23,3 +23,9 @@ returns-clause-lines g c =
     let n = c.min-count.result in
     gives_no_line (g.S.UriSink.lines s.sink) (g.R.Read.remaining s.reader) s.place s.next _ _ _ c.requires.known
     (range_parts s.room.items s.start n s.end (omega arith))
+
+pub returns-clause-refusal : goal.returns-clause-refusal
+returns-clause-refusal g c =
+    let s = c.args.self.now in
+    let n = c.min-count.result in
+    gives_refusal (g.R.Read.remaining s.reader) s.place s.next _ _ _ c.requires.known (range_parts s.room.items s.start n s.end (omega arith))

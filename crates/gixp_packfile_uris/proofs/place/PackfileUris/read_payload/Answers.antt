@@ -1,6 +1,6 @@
 use Rattle.std.proofs.Common.{◌≡◌, ◌≤◌, ◌++◌, arith, length, take, drop, length-take, sym, ap, ◌∙◌}
 use Rattle.std.proofs.lemmas.List.{take-append-le, length-take-le}
-use Rattle.gixp_packfile_uris.proofs.PartsLemmas.{reads_payload, reads_no_line, no_range}
+use Rattle.gixp_packfile_uris.proofs.PartsLemmas.{reads_payload, reads_no_line, reads_refusal, no_range}
 use Rattle.gixp_packfile_uris.proofs.place.PackfileUris.read_payload.Goals as goal
 
 pub returns-clause-bytes : goal.returns-clause-bytes
@@ -20,6 +20,17 @@ returns-clause-lines g c =
     let fits : n ≤ length c.read.new.buf = c.in_ok-count.ensures.bound.0 in
     let len = length-take c.min-most.result c.args.buf.now in
     reads_no_line (g.S.UriSink.lines s.sink) (g.R.Read.remaining s.reader) (g.R.Read.remaining c.read.new.self) s.place s.next _
+    (take n c.read.new.buf) c.args.left n
+    c.requires.next (no_range s.room.items s.start s.end (omega arith)) (length-take-le n c.read.new.buf fits) (omega (arith, len))
+    c.in_ok-count.ensures.bytes.0
+
+pub returns-clause-refusal : goal.returns-clause-refusal
+returns-clause-refusal g c =
+    let s = c.args.self.now in
+    let n = c.in_ok-count.count in
+    let fits : n ≤ length c.read.new.buf = c.in_ok-count.ensures.bound.0 in
+    let len = length-take c.min-most.result c.args.buf.now in
+    reads_refusal (g.R.Read.remaining s.reader) (g.R.Read.remaining c.read.new.self) s.place s.next _
     (take n c.read.new.buf) c.args.left n
     c.requires.next (no_range s.room.items s.start s.end (omega arith)) (length-take-le n c.read.new.buf fits) (omega (arith, len))
     c.in_ok-count.ensures.bytes.0
