@@ -1,5 +1,5 @@
 -- What a session hands to the calls below.
-use Rattle.std.proofs.Common.{◌≡◌, Bool, List, [], ◌∷◌, Option, Some, None, Result, Ok, Err, Vec, refl, subst, sym, ap, ◌∙◌}
+use Rattle.std.proofs.Common.{◌≡◌, Bool, List, [], ◌∷◌, Option, Some, None, Result, Ok, Err, Vec, inl, refl, subst, sym, ap, ◌∙◌}
 use Rattle.std.specs.declared.alloc.Global.{Global}
 use Rattle.gixp_response.specs.Answer.{update_items}
 use Rattle.std.specs.Prelude.{if◌then◌else◌}
@@ -25,7 +25,9 @@ use Rattle.gixp_fetch.specs.declared.options.Outcome.{Outcome}
 use Rattle.gixp_fetch.specs.declared.error.Error.{Error as FetchError}
 use Rattle.gixp_fetch.specs.FetchShallow.{shallow_value}
 use Rattle.gixp_fetch.specs.Fetch.{World, Parties}
-use Rattle.gixp_fetch.specs.Fetched.{FetchCall, Fetches, call_of}
+use Rattle.gixp_fetch.specs.Fetched.{FetchCall, Fetches, unprepared, call_of}
+use Rattle.gixp_fetch.specs.Prepare.{no_room}
+use Rattle.gixp_fetch.specs.declared.error.Error.TheVariants.{Memory}
 use Rattle.gixp_fetch.specs.Mapped.{Knowledge}
 use Rattle.gixp_client.specs.Tables.{asked_table}
 use Rattle.gixp_client.specs.Boundaries.{has_id}
@@ -35,18 +37,27 @@ use Rattle.gixp_client.specs.declared.request.Request.{Request}
 use Rattle.gixp_client.specs.declared.watched.Watched.{Watched}
 
 -- a fetch with these parts is one with those of the session
-pub as_session : {N I S A C P X : Type 0} (parties : Parties N I A S C P X) (table : TableValue) (agent : FeatureValue)
-    (more : List FeatureValue) (shaken : Handshake) (request : Request) (old : World N I S C) (came : Result (Option Outcome) (FetchError A X))
-    (new : World N I S C) (progress : P) → table ≡ asked_table request.wants_progress request.uri_protocols
+pub as_session : {N I S A C P X : Type 0} (parties : Parties N I A S C P X) (table : TableValue) (agent agent' : FeatureValue)
+    (more more' : List FeatureValue) (shaken : Handshake) (request : Request) (old : World N I S C)
+    (came : Result (Option Outcome) (FetchError A X)) (new : World N I S C) (progress : P)
+    → table ≡ asked_table request.wants_progress request.uri_protocols → agent ≡ agent' → more ≡ more'
     → Fetches parties (call_of table shaken agent more request.tags (shallow_value request.shallow) request.rejects_shallow)
     old came new progress
-    → CarriesFetch parties (session_call shaken agent more request) old came new progress
-as_session parties table agent more shaken request old came new progress t f = record {
+    → CarriesFetch parties (session_call shaken agent' more' request) old came new progress
+as_session parties table agent agent' more more' shaken request old came new progress t a m f = record {
   fetched =
-      subst (λ (x : TableValue). Fetches parties (call_of x shaken agent more request.tags (shallow_value request.shallow)
-      request.rejects_shallow)
-      old came new progress) t f;
+      subst (λ (x : TableValue). Fetches parties (call_of x shaken agent' more' request.tags (shallow_value request.shallow)
+      request.rejects_shallow) old came new progress) t
+      (subst (λ (x : List FeatureValue). Fetches parties (call_of table shaken agent' x request.tags (shallow_value request.shallow)
+      request.rejects_shallow) old came new progress) m
+      (subst (λ (x : FeatureValue). Fetches parties (call_of table shaken x more request.tags (shallow_value request.shallow)
+      request.rejects_shallow) old came new progress) a f));
 }
+
+-- so is one for which there was no room
+pub unbegun : {N I S A C P X : Type 0} (parties : Parties N I A S C P X) (call : FetchCall) (world : World N I S C) (progress : P)
+    → CarriesFetch parties call world (Err Memory) world progress
+unbegun parties call world progress = record { fetched = inl (unprepared (no_room refl) refl) }
 
 -- so is a ref map
 pub as_obtained : (table table' : TableValue) (agent name : FeatureValue) (context : Context) (h : Handshake) (plain : Bool)
@@ -134,6 +145,25 @@ in_session parties map_of knows shaken request made known is_in boundary boundar
         unsent = λ h. let u = f.unsent h in (sym stands ∙ u.0, u.1);
       };
     }
+
+-- the same with what is so by whether a round was negotiated
+pub so_in_session : {N I A C P X : Type 0} (parties : Parties (Watched N) I A ShallowMemory C P X) (map_of : Watched N → RefMap)
+    (knows : Watched N → Knowledge) (shaken : Handshake) (request : Request) (made : RefMap) (known : Knowledge)
+    (is_in : ObjectId → Bool) (boundary boundary' : List ObjectId) (old : Reading) (consumer : C)
+    (told told' : Result (Option Outcome) Error) (new new' : Reading) (consumer' : C) (store store' : ShallowMemory)
+    (agent agent' : FeatureValue) (more more' : List FeatureValue) (IsSo : Bool → Type 0) → store.ids.items ≡ boundary → store'.ids.items ≡ boundary'
+    → agent ≡ agent' → more ≡ more' → told ≡ told' → new ≡ new'
+    → ((id : ObjectId) → is_in id ≡ has_id boundary id)
+    → (f : FetchesMap parties map_of knows (session_call shaken agent more request) made known is_in old store consumer told new store'
+    consumer') → IsSo f.last.negotiated
+    → (s : FetchesInSession parties map_of knows (session_call shaken agent' more' request) made known boundary boundary' old
+    consumer told' new' consumer') × IsSo s.fetches.last.negotiated
+so_in_session parties map_of knows shaken request made known is_in boundary boundary' old consumer told told' new new' consumer' store
+    store' agent agent' more more' IsSo before after named said tells stands same f h = (
+      in_session parties map_of knows shaken request made known is_in boundary boundary' old consumer told told' new new' consumer'
+          store store' agent agent' more more' before after named said tells stands same f,
+      h,
+    )
 
 -- the call of a session by a copy of the changes of the boundary that came with the handshake
 pub same_call : (shaken : Handshake) (told : Option (Vec ShallowUpdate Global)) (agent : FeatureValue) (more : List FeatureValue)

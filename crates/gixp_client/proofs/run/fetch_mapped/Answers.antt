@@ -29,7 +29,7 @@ returns-clause-fetched g c =
           unnoted = c.new-watched.ensures.unknown;
           owned = c.fetch_over-came.result;
           owns = f.tells;
-          tells = c.known_alone.ensures.checked ∙ ap (known_alone _ _) c.unknown.ensures;
+          tells = c.known_alone-told.ensures.checked ∙ ap (known_alone _ _) c.unknown.ensures;
         };
         holds = f.holds;
         unsent = λ h. unsent_fetch _ (λ w. w.negotiated) (λ w s a p r d v t b goes. goes.3) (λ w s a p e v t b fails. fails.1)
