@@ -110,8 +110,9 @@ fn keep(rt: &HostRuntime, folder: &str, has_pack: bool, boundary: &Boundary) -> 
     }
     let shallow = format!(in alloc; "{folder}/shallow")?;
     if !boundary.ids.is_empty() {
-        let text = shallow_text(alloc, &boundary.ids)?;
-        fs::write(rt, shallow.as_str(), text)?;
+        let lock = format!(in alloc; "{shallow}.lock")?;
+        fs::write(rt, lock.as_str(), shallow_text(alloc, &boundary.ids)?)?;
+        fs::rename(rt, lock.as_str(), shallow.as_str())?;
     } else if fs::exists(rt, shallow.as_str())? {
         fs::remove_file(rt, shallow.as_str())?;
     }
