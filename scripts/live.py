@@ -32,6 +32,7 @@ from live_loss import try_loss, try_web_loss
 from live_program import try_program
 from live_seen import try_seen
 from live_servers import has_loopback
+from live_uris import try_uris
 from live_web import try_web
 
 
@@ -63,6 +64,7 @@ def main():
         if has_loopback():
             try_web(t)
             try_web_loss(t, web_servers()[0])
+            try_uris(t)
         t.finish(given.again)
         print(f"{t.passed} passed, {t.failed} failed", flush=True)
         print(f"{time.time() - began:.0f} s", file=sys.stderr)

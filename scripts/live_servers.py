@@ -30,15 +30,17 @@ def as_ssh():
     LIVE_SAYS      a band and a text that stand before the pack's last packet line
     LIVE_ENDS      it ends right behind the pack
     LIVE_PACK      a file with the pack that it sends in place of its own
+    LIVE_URIS      lines of a section `packfile-uris` before the pack, with escapes. A `*` before them leaves out the delimiter packet
+                   after them, and a `!` all that is behind them
     LIVE_WAITS     a file that it makes before it answers a fetch, which it does once that is gone: with LIVE_BODIES
     """
     path = shlex.split(sys.argv[-1])[1]
-    names = "STARTS", "VERSION", "MOST", "PAD", "BODIES", "BOUNDARY", "SAYS", "ENDS", "PACK", "WAITS"
+    names = "STARTS", "VERSION", "MOST", "PAD", "BODIES", "BOUNDARY", "SAYS", "ENDS", "PACK", "URIS", "WAITS"
     wish = {name: os.environ.get(f"LIVE_{name}") for name in names}
     if wish["STARTS"]:
         with open(wish["STARTS"], "a") as starts:
             starts.write("start\n")
-    edits = any(wish[name] for name in ("BOUNDARY", "SAYS", "ENDS", "PACK"))
+    edits = any(wish[name] for name in ("BOUNDARY", "SAYS", "ENDS", "PACK", "URIS"))
     if wish["VERSION"] or wish["BODIES"] or edits:
         os.environ["GIT_PROTOCOL"] = f"version={wish['VERSION'] or 2}"
     if wish["BODIES"] or edits:
@@ -69,6 +71,13 @@ def edited(answer, wish):
     if wish["BOUNDARY"]:
         lines = b"".join(frame(line.encode() + b"\n") for line in wish["BOUNDARY"].split(","))
         front = front.split(frame(b"shallow-info\n"))[0] + frame(b"shallow-info\n") + lines + b"0001"
+    if wish["URIS"]:
+        mark, text = (wish["URIS"][0], wish["URIS"][1:]) if wish["URIS"][0] in "*!" else ("", wish["URIS"])
+        lines = text.encode("latin1").decode("unicode_escape").encode("latin1").split(b"\n")
+        front += frame(b"packfile-uris\n") + b"".join(frame(line + b"\n") for line in lines)
+        if mark == "!":
+            return front
+        front += b"" if mark else b"0001"
     if wish["PACK"]:
         pack = frame(b"\1" + pathlib.Path(wish["PACK"]).read_bytes()) + b"0000"
     if wish["SAYS"]:
