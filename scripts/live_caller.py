@@ -1,5 +1,6 @@
 """Cases of live.py for what git's caller opens, sets and says: open files, variables, shell words, settings, numbers of processes."""
 import fcntl
+import itertools
 import os
 import re
 import shutil
@@ -7,6 +8,9 @@ import subprocess
 
 from live_harness import by_both, by_path, clone_both, grow, leaves_nothing, make, same, state
 from live_servers import here_ssh, shell_ssh
+
+# A session id in git's form, behind those of the processes above.
+SESSION_ID = re.compile(r"session-id=(\S*/)?\d{8}T\d{6}\.\d{6}Z-H[0-9a-f]{8}-P[0-9a-f]{8}\b")
 
 # Open files
 
@@ -125,6 +129,21 @@ def families(name, t):
             t.check(f"{name}: {variant} {word}", ends[0] == ends[1] and leaves_nothing(t), ends)
 
 
+def session_ids(name, t):
+    """A session id is sent where the user's settings say so and the server has one."""
+    for client, server_says in itertools.product(("true", "false"), repeat=2):
+        server, sent = make(t, "server", 5), []
+        t.git("config", "transfer.advertiseSID", server_says, at=server)
+        for version in ("0", "2"):
+            for url in by_path(server):
+                trace = t.folder("trace")
+                words = ["-c", f"protocol.version={version}", "-c", f"transfer.advertiseSID={client}"]
+                t.git(*words, "clone", "-q", url, t.folder("to"), more={"GIT_TRACE_PACKET": str(trace)})
+                lines = [line for line in trace.read_text().splitlines() if "upload-pack< " in line]
+                sent.append([bool(SESSION_ID.search(line)) for line in lines if "session-id=" in line])
+        t.check(f"{name}: {client}, server {server_says}", sent[0] == sent[1] and sent[2] == sent[3], sent)
+
+
 def severities(name, t):
     """Severities of fetch.fsck.* that git refuses, of some objects always, and ids that it doesn't know."""
     server = make(t, "server", 3)
@@ -229,7 +248,7 @@ def locales(name, t):
 def try_caller(t):
     for name, action in (
         ("open files", open_files), ("files of traces", traces), ("variables", variables), ("words for a shell", shell_words),
-        ("families of addresses", families), ("severities", severities),
+        ("families of addresses", families), ("session ids", session_ids), ("severities", severities),
         ("control characters", control_characters), ("an older bash", older_bash), ("locales", locales),
     ):
         t.case(f"caller: {name}", action)

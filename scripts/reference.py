@@ -1,5 +1,6 @@
 #!/usr/bin/env python3
-"""Makes docs/REFERENCE.md: every public name of gix_protocol, with its path, its signature and its traits, without contracts.
+"""Makes docs/REFERENCE.md: every public name of gix_protocol, with its path, its purpose, its signature and its traits. The methods of
+traits have their contracts, since whoever implements a trait owes them; those of functions stand in the source.
 
 Usage: reference.py [--write]
 
@@ -16,7 +17,7 @@ CRATES = TOP / "crates"
 REFERENCE = TOP / "docs" / "REFERENCE.md"
 HEAD = """# Reference
 
-Every public name of `gix_protocol`, with its path and its signature; `impl` has the traits of a type, but `From`. Contracts and comments stand with the function, in the file that is named. `scripts/reference.py --write` makes this page.
+Every public name of `gix_protocol`, with its path, its purpose and its signature; `impl` has the traits of a type, but `From`. The methods of a trait have their contracts, which an implementation owes. All other contracts and comments stand in the file that is named. `scripts/reference.py --write` makes this page.
 """
 QUOTING = "README.md", "docs/USING.md"
 ITEM = r"pub (?:const )?(?:fn|struct|enum|trait|type|const) {name}\b"
@@ -99,8 +100,23 @@ def follow(crate, module, path):
     return "module", *at
 
 
-def cut(text):
-    """A signature up to its contract or body, on one line."""
+def purpose(crate, module, name):
+    """The first paragraph of an item's comment; none where it has none."""
+    text = text_of(crate, module)[1].read_text()
+    found = re.search(r"(?m)^" + ITEM.format(name=name), text)
+    lines = []
+    for line in reversed(text[: found.start()].split("\n")[:-1]):
+        if line.startswith("///"):
+            lines.insert(0, line[3:].strip())
+        elif not line.startswith("#["):
+            break
+    paragraph = lines[: lines.index("")] if "" in lines else lines
+    # a link into the code goes nowhere from the page
+    return re.sub(r"\[(`[^`]+`)\](?:\([\w:]+\))?", r"\1", " ".join(paragraph))
+
+
+def end_of(text):
+    """Where a signature ends: at its contract or body."""
     depth = 0
     for i, c in enumerate(text):
         if c in "([{" and not (c == "{" and depth == 0):
@@ -108,9 +124,22 @@ def cut(text):
         elif c in ")]}":
             depth -= 1
         elif depth == 0 and (c in "{;" or re.match(r"\s(?:requires|ensures|ghost)\b", text[i:])):
-            text = text[:i]
-            break
-    line = " ".join(text.split()).replace("( ", "(").replace(", )", ")").replace(",)", ")").rstrip(",")
+            return i
+    return len(text)
+
+
+def contract(text):
+    """The clauses behind a signature, each on a line."""
+    at = end_of(text)
+    while clause := re.match(r"\s*((?:requires|ensures)\b[^{]*)", text[at:]):
+        body = block(text, at)
+        yield f"{' '.join(clause[1].split())} {{ {' '.join(body.split())} }}"
+        at = text.index("{", at) + len(body) + 2
+
+
+def cut(text):
+    """A signature up to its contract or body, on one line."""
+    line = " ".join(text[: end_of(text)].split()).replace("( ", "(").replace(", )", ")").replace(",)", ")").rstrip(",")
     return re.sub(r"<\s+", "<", re.sub(r",\s*>", ">", line)).replace("& ", "&")
 
 
@@ -204,7 +233,12 @@ def described(crate, module, name):
         line = text[found.start() :]
         yield cut(line.split("=", 1)[0] if kind == "const" else line)
         aliased = behind_alias(crate, module, line) if kind == "type" else None
-        yield from methods_of(*aliased) if aliased else ()
+        if aliased:
+            behind = text_of(*aliased[:2])[0]
+            begins = re.search(r"(?m)^" + ITEM.format(name=aliased[2]), behind).start()
+            traits = traits_of(*aliased, behind[:begins])
+            yield from [f"    impl {', '.join(traits)}"] if traits else ()
+            yield from methods_of(*aliased)
         return
     yield cut(text[found.start() :])
     traits = traits_of(crate, module, name, text[: found.start()]) if kind in ("struct", "enum") else []
@@ -229,8 +263,10 @@ def described(crate, module, name):
                 rest = body[member.start() :]
                 if member[1] == "ghost" and " use " in member[0]:
                     continue
-                line = " ".join(rest.split(";", 1)[0].split()) if member[1] in ("type", "ghost", "const") else cut(rest.lstrip())
+                is_method = member[1] not in ("type", "ghost", "const")
+                line = cut(rest.lstrip()) if is_method else " ".join(rest.split(";", 1)[0].split())
                 yield f"    {line}"
+                yield from (f"        {clause}" for clause in contract(rest.lstrip()) if is_method)
     yield from methods_of(crate, module, name)
 
 
@@ -275,7 +311,8 @@ def listed(path, crate, module, seen):
         else:
             file = text_of(*where[:2])[1].relative_to(TOP)
             lines = "\n".join(described(*where))
-            yield f"`{here}` ({file})\n\n```rust\n{lines}\n```\n"
+            said = purpose(*where)
+            yield f"`{here}` ({file})\n\n{said + chr(10) * 2 if said else ''}```rust\n{lines}\n```\n"
 
 
 def code_of(text):

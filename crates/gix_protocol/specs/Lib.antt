@@ -1,5 +1,7 @@
 -- The definitions that public clauses cite.
 pub use Rattle.gixp_hash.specs.Hex
+pub use Rattle.gixp_hash.specs.IdLaws
+pub use Rattle.gixp_hash.specs.Failures
 pub use Rattle.gixp_hash.specs.ObjectId
 pub use Rattle.gixp_hash.specs.Digits
 pub use Rattle.gixp_packetline.specs.FrameKind
@@ -299,6 +301,7 @@ pub use Rattle.gixp_updates.specs.LocalSide
 pub use Rattle.gixp_updates.specs.LookUps
 pub use Rattle.gixp_updates.specs.Limits
 pub use Rattle.gixp_updates.specs.Modes
+pub use Rattle.gixp_updates.specs.NamedEdits
 pub use Rattle.gixp_updates.specs.Unmatched
 pub use Rattle.gixp_updates.specs.UpdateError
 pub use Rattle.gixp_updates.specs.declared.refs.edit.Edit as EditType
@@ -311,7 +314,10 @@ pub use Rattle.gixp_client.specs.Boundaries
 pub use Rattle.gixp_client.specs.Changes
 pub use Rattle.gixp_client.specs.ClientCalls
 pub use Rattle.gixp_client.specs.ClientError
+pub use Rattle.gixp_client.specs.ErrorClasses
+pub use Rattle.gixp_client.specs.Clashes
 pub use Rattle.gixp_client.specs.ClientMaps
+pub use Rattle.gixp_client.specs.ClientNames
 pub use Rattle.gixp_client.specs.ClientPromise
 pub use Rattle.gixp_client.specs.Filters
 pub use Rattle.gixp_client.specs.Heard
@@ -326,6 +332,26 @@ pub use Rattle.gixp_client.specs.Tables
 pub use Rattle.gixp_client.specs.Unshallowed
 pub use Rattle.gixp_client.specs.Windows
 pub use Rattle.gixp_client.specs.declared.error.Error as SessionErrorType
+pub use Rattle.gixp_client.specs.declared.name.ClientName as ClientNameType
 pub use Rattle.gixp_client.specs.declared.request.Request as RequestType
 pub use Rattle.gixp_client.specs.declared.state.State as SessionStateType
 pub use Rattle.gixp_client.specs.declared.session.Session as SessionType
+pub use Rattle.gixp_client.specs.declared.boundary.Boundary as BoundaryType
+pub use Rattle.gixp_client.specs.declared.changes.LocalChange as LocalChangeType
+pub use Rattle.gixp_client.specs.declared.class.ErrorClass as ErrorClassType
+pub use Rattle.gixp_client.specs.declared.conflict.Conflict as SessionConflictType
+pub use Rattle.gixp_client.specs.declared.consumer.PackError as PackErrorType
+pub use Rattle.gixp_client.specs.declared.fetched.Fetched as FetchedType
+pub use Rattle.gixp_client.specs.declared.heard.Heard as HeardType
+pub use Rattle.gixp_client.specs.declared.listen.Kept as KeptType
+pub use Rattle.gixp_client.specs.declared.listen.RemoteLines as RemoteLinesType
+pub use Rattle.gixp_client.specs.declared.listen.ServerText as ServerTextType
+pub use Rattle.gixp_client.specs.declared.listen.Silent as SilentType
+pub use Rattle.gixp_client.specs.declared.over.Filtered as FilteredType
+pub use Rattle.gixp_client.specs.declared.repository.Repository as RepositoryType
+pub use Rattle.gixp_client.specs.declared.watched.Watched as WatchedType
+pub use Rattle.gixp_client.specs.declared.windows.Windowed as WindowedType
+pub use Rattle.gixp_matching.specs.declared.match_group.key.KeyBytes as KeyBytesType
+pub use Rattle.gixp_matching.specs.declared.match_group.key.KeySource as KeySourceType
+pub use Rattle.gixp_negotiate.specs.declared.negotiate.one_round.State as RoundStateType
+pub use Rattle.gixp_client.specs.declared.tables.UriProtocols as UriProtocolsType

@@ -3,7 +3,7 @@ pub mod negotiate;
 
 pub use gixp_fetch::consume::{ConsumePack, CopyError, CopyPack, ReadToEnd};
 pub use gixp_fetch::error::Error;
-pub use gixp_fetch::fetch::fetch;
+pub use gixp_fetch::fetch::{fetch, fetch_with_features};
 pub use gixp_fetch::options::{Context, NegotiateOutcome, Options, Outcome};
 pub use gixp_fetch::{RemoteText, WithSidebands, laws};
 pub use gixp_negotiate::negotiate::Negotiate;

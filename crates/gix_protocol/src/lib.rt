@@ -14,6 +14,7 @@ pub mod transport;
 pub use gixp_handshake::{
     Handshake, SendFlushOnDrop, bisync, credentials, indicate_end_of_interaction,
 };
+pub use gixp_hash::ObjectId;
 pub use gixp_progress::RemoteProgress;
 pub use gixp_refmap::{LsRefsCommand, ls_refs};
 pub use gixp_requests::{Command, agent, agent_feature, command};

@@ -14,5 +14,6 @@ pub use gixp_wire::{
     Service, SetServiceResponse, Transport, fits_line,
 };
 
-/// A reader of bands whose transport and interrupt are lent for the same time.
+/// A reader of bands whose transport and interrupt are lent for the same time. A consumer of a pack is lent
+/// `gix_protocol::fetch::WithSidebands`, which is this type with the progress reporter that shows the server's texts.
 pub type WithSidebands<'a, T, P, I> = gixp_sidebands::WithSidebands<'a, 'a, T, P, I>;

@@ -6,3 +6,4 @@ pub mod ChangeLemmas
 pub mod BoundaryLemmas
 pub mod MapLemmas
 pub mod SettleLemmas
+pub mod UnsentLemmas

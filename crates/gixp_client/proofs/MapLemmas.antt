@@ -87,8 +87,8 @@ pub maps_refs_here : (request : Request) (agent : FeatureValue) (shaken : Handsh
     (r : Result RefMap MapError) → shaken.refs ≡ Some refs → MapsInSession request agent shaken plain old new r
     → MapsRefsHere request shaken refs.items old new r
 maps_refs_here request agent shaken refs plain old new r e m =
-    let made = made_of_refs (asked_table request.wants_progress) agent m.context shaken.capabilities refs plain old new r m.obtains.prepared
-    (subst (λ (x : Option (Vec Ref Global)). PreparesBy x (asked_table request.wants_progress) true agent m.context shaken.capabilities
+    let made = made_of_refs (asked_table request.wants_progress request.uri_protocols) agent m.context shaken.capabilities refs plain old new r m.obtains.prepared
+    (subst (λ (x : Option (Vec Ref Global)). PreparesBy x (asked_table request.wants_progress request.uri_protocols) true agent m.context shaken.capabilities
     m.obtains.prepared) e m.obtains.prepares) m.obtains.obtains in
     record { context = m.context; asked = m.asked; unsent = made.0; maps = made.1 }
 
@@ -98,8 +98,8 @@ pub lists_for_map : (request : Request) (agent : FeatureValue) (shaken : Handsha
 lists_for_map request agent shaken plain old new r e m = record {
   context = m.context;
   asked = m.asked;
-  lists = made_of_none (asked_table request.wants_progress) agent m.context shaken plain old new r m.obtains.prepared
-      (subst (λ (x : Option (Vec Ref Global)). PreparesBy x (asked_table request.wants_progress) true agent m.context shaken.capabilities
+  lists = made_of_none (asked_table request.wants_progress request.uri_protocols) agent m.context shaken plain old new r m.obtains.prepared
+      (subst (λ (x : Option (Vec Ref Global)). PreparesBy x (asked_table request.wants_progress request.uri_protocols) true agent m.context shaken.capabilities
       m.obtains.prepared) e m.obtains.prepares) m.obtains.obtains;
 }
 

@@ -1,12 +1,12 @@
 -- A session is one run of the law `headline`.
-use Rattle.std.proofs.Common.{◌≡◌, ◌∙◌, ℕ, ap, subst, List, Option, Result, Ok}
-use Rattle.std.specs.Prelude.{String, string_bytes}
-use Rattle.std.specs.declared.alloc.Global.{Global}
+use Rattle.std.proofs.Common.{◌≡◌, ◌∙◌, ℕ, ap, refl, subst, Bool, true, false, List, [], Option, None, Result, Ok}
+use Rattle.std.specs.Prelude.{string_bytes, codes, if◌then◌else◌}
 use Rattle.gixp_packetline.specs.Reading.{Reading}
 use Rattle.gixp_hash.specs.declared.object_id.ObjectId.{ObjectId}
 use Rattle.gixp_wire.specs.Greeting.{Parameter}
 use Rattle.gixp_wire.specs.declared.service.Service.TheVariants.{UploadPack}
 use Rattle.gixp_response.specs.Answer.{update_items}
+use Rattle.gixp_capabilities.specs.Capabilities.{CapabilityValue, has_named}
 use Rattle.gixp_requests.specs.Feature.{FeatureValue}
 use Rattle.gixp_refmap.specs.declared.refmap.init.Context.{Context}
 use Rattle.gixp_refmap.specs.declared.refmap.map.RefMap.{RefMap}
@@ -18,9 +18,11 @@ use Rattle.gixp_fetch.specs.Fetch.{World, Parties}
 use Rattle.gixp_fetch.specs.Fetched.{FetchCall, unlocked_world}
 use Rattle.gixp_fetch.specs.Mapped.{Knowledge}
 use Rattle.gixp_fetch.specs.Headline.{Run, Promise}
-use Rattle.gixp_client.specs.ClientCalls.{OpensSession, MapsInSession, FetchesInSession, session_call, client_feature}
+use Rattle.gixp_client.specs.ClientCalls.{OpensSession, MapsInSession, FetchesInSession, session_call}
+use Rattle.gixp_client.specs.ClientNames.{client_feature, named_by, own_features, id_features}
 use Rattle.gixp_client.specs.ClientPromise.{IsOneRun}
 use Rattle.gixp_client.specs.declared.error.Error.{Error}
+use Rattle.gixp_client.specs.declared.name.ClientName.{ClientName}
 use Rattle.gixp_client.specs.declared.request.Request.{Request}
 use Rattle.gixp_client.specs.declared.watched.Watched.{Watched}
 
@@ -31,20 +33,21 @@ pub one_run : {N I A C P X : Type 0} (parties : Parties (Watched N) I A ShallowM
     (came : Result (Option Outcome) (FetchError A X)) (new : World (Watched N) I ShallowMemory C) (progress : P)
     (run : Run parties map_of knows call context start made old came new progress)
     → Promise parties map_of knows call context start made old came new progress run)
-    → (parameters : List Parameter) (agent : FeatureValue) (request : Request) (start shaken middle : Reading)
+    → (parameters : List Parameter) (agent : FeatureValue) (more : List FeatureValue) (request : Request)
+    (start shaken middle : Reading)
     (handshake kept : Handshake) (made : RefMap) (known : Knowledge) (boundary boundary' : List ObjectId) (consumer : C)
     (told : Result (Option Outcome) Error) (new : Reading) (consumer' : C)
     → OpensSession parameters parties.plain start shaken handshake
     → MapsInSession request agent handshake parties.plain shaken middle (Ok made)
     → kept ≡ record handshake { refs = kept.refs }
-    → FetchesInSession parties map_of knows (session_call kept agent request) made known boundary boundary' middle
+    → FetchesInSession parties map_of knows (session_call kept agent more request) made known boundary boundary' middle
     consumer told new consumer'
-    → IsOneRun parties map_of knows agent request start made known boundary consumer told new consumer'
-one_run parties map_of knows promises parameters agent request start shaken middle handshake kept made known
+    → IsOneRun parties map_of knows agent more request start made known boundary consumer told new consumer'
+one_run parties map_of knows promises parameters agent more request start shaken middle handshake kept made known
     boundary boundary' consumer told new
     consumer' opens maps keeps fetched =
     let f = fetched.fetches in let h = f.holds in
-    let run : Run parties map_of knows (session_call kept agent request) maps.context start made
+    let run : Run parties map_of knows (session_call kept agent more request) maps.context start made
     (unlocked_world f.first middle h.interrupt fetched.store consumer) f.came
     (unlocked_world f.last new h.interrupt' fetched.store' consumer') h.progress = record {
       service = UploadPack;
@@ -79,34 +82,49 @@ one_run parties map_of knows promises parameters agent request start shaken midd
       promise = promises _ _ _ _ _ _ _ _ run;
     }
 
+nothing_either : (has : Bool) → (if has then own_features None else []) ≡ []
+nothing_either true = refl
+nothing_either false = refl
+
+-- a client without a session id says nothing of itself beside its name
+nothing_more : (name : ClientName) (caps : List CapabilityValue) → name.session_id ≡ None → id_features caps name.session_id ≡ []
+nothing_more name caps i = ap (id_features caps) i ∙ nothing_either (has_named (codes "session-id") caps)
+
 -- the same by the name of the client, which the session holds
 pub named_run : {N I A C P X : Type 0} (parties : Parties (Watched N) I A ShallowMemory C P X) (map_of : Watched N → RefMap)
     (knows : Watched N → Knowledge)
-    → ((parameters : List Parameter) (agent : FeatureValue) (request : Request) (start shaken middle : Reading)
+    → ((parameters : List Parameter) (agent : FeatureValue) (more : List FeatureValue) (request : Request)
+    (start shaken middle : Reading)
     (handshake kept : Handshake) (made : RefMap) (known : Knowledge) (boundary boundary' : List ObjectId) (consumer : C)
     (told : Result (Option Outcome) Error) (new : Reading) (consumer' : C)
     → OpensSession parameters parties.plain start shaken handshake
     → MapsInSession request agent handshake parties.plain shaken middle (Ok made)
     → kept ≡ record handshake { refs = kept.refs }
-    → FetchesInSession parties map_of knows (session_call kept agent request) made known boundary boundary' middle
+    → FetchesInSession parties map_of knows (session_call kept agent more request) made known boundary boundary' middle
     consumer told new consumer'
-    → IsOneRun parties map_of knows agent request start made known boundary consumer told new consumer')
-    → (parameters : List Parameter) (agent : List ℕ) (held held' : String Global) (request : Request) (start shaken middle : Reading)
+    → IsOneRun parties map_of knows agent more request start made known boundary consumer told new consumer')
+    → (parameters : List Parameter) (agent : List ℕ) (held held' : ClientName) (request : Request) (start shaken middle : Reading)
     (handshake kept : Handshake) (made : RefMap) (known : Knowledge) (boundary boundary' : List ObjectId) (consumer : C)
     (told : Result (Option Outcome) Error) (new : Reading) (consumer' : C)
-    → string_bytes held ≡ agent → held' ≡ held
+    → string_bytes held.agent ≡ agent → held.session_id ≡ None → held' ≡ held
     → OpensSession parameters parties.plain start shaken handshake
-    → MapsInSession request (client_feature (string_bytes held)) handshake parties.plain shaken middle (Ok made)
+    → MapsInSession request (named_by held) handshake parties.plain shaken middle (Ok made)
     → kept ≡ record handshake { refs = kept.refs }
-    → FetchesInSession parties map_of knows (session_call kept (client_feature (string_bytes held')) request) made known
+    → FetchesInSession parties map_of knows
+    (session_call kept (named_by held') (id_features kept.capabilities held'.session_id) request) made known
     boundary boundary' middle
     consumer told new consumer'
-    → IsOneRun parties map_of knows (client_feature agent) request start made known boundary consumer told new consumer'
+    → IsOneRun parties map_of knows (client_feature agent) [] request start made known boundary consumer told new consumer'
 named_run parties map_of knows law parameters agent held held' request start shaken middle handshake kept made known boundary boundary'
-    consumer told new consumer' n e opens maps keeps fetched =
-    law parameters (client_feature agent) request start shaken middle handshake kept made known boundary boundary' consumer told new
+    consumer told new consumer' n i e opens maps keeps fetched =
+    law parameters (client_feature agent) [] request start shaken middle handshake kept made known boundary boundary' consumer told new
     consumer' opens
     (subst (λ (x : List ℕ). MapsInSession request (client_feature x) handshake parties.plain shaken middle (Ok made)) n maps) keeps
-    (subst (λ (x : List ℕ). FetchesInSession parties map_of knows (session_call kept (client_feature x) request) made known
-    boundary boundary' middle
-    consumer told new consumer') (ap (λ (x : String Global). string_bytes x) e ∙ n) fetched)
+    (subst (λ (x : List FeatureValue). FetchesInSession parties map_of knows (session_call kept (client_feature agent) x request)
+    made known boundary boundary' middle consumer told new consumer') (nothing_more held kept.capabilities i)
+    (subst (λ (x : List ℕ). FetchesInSession parties map_of knows
+    (session_call kept (client_feature x) (id_features kept.capabilities held.session_id) request)
+    made known boundary boundary' middle consumer told new consumer') n
+    (subst (λ (x : ClientName). FetchesInSession parties map_of knows
+    (session_call kept (named_by x) (id_features kept.capabilities x.session_id) request)
+    made known boundary boundary' middle consumer told new consumer') e fetched)))

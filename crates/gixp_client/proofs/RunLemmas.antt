@@ -1,5 +1,7 @@
 -- What a session hands to the calls below.
-use Rattle.std.proofs.Common.{◌≡◌, Bool, List, [], ◌∷◌, Option, Some, None, Result, Ok, Err, refl, subst, sym, ap, ◌∙◌}
+use Rattle.std.proofs.Common.{◌≡◌, Bool, List, [], ◌∷◌, Option, Some, None, Result, Ok, Err, Vec, refl, subst, sym, ap, ◌∙◌}
+use Rattle.std.specs.declared.alloc.Global.{Global}
+use Rattle.gixp_response.specs.Answer.{update_items}
 use Rattle.std.specs.Prelude.{if◌then◌else◌}
 use Rattle.std.specs.Option.{option_map_or}
 use Rattle.gixp_hash.specs.declared.object_id.ObjectId.{ObjectId}
@@ -23,7 +25,7 @@ use Rattle.gixp_fetch.specs.declared.options.Outcome.{Outcome}
 use Rattle.gixp_fetch.specs.declared.error.Error.{Error as FetchError}
 use Rattle.gixp_fetch.specs.FetchShallow.{shallow_value}
 use Rattle.gixp_fetch.specs.Fetch.{World, Parties}
-use Rattle.gixp_fetch.specs.Fetched.{Fetches, call_of}
+use Rattle.gixp_fetch.specs.Fetched.{FetchCall, Fetches, call_of}
 use Rattle.gixp_fetch.specs.Mapped.{Knowledge}
 use Rattle.gixp_client.specs.Tables.{asked_table}
 use Rattle.gixp_client.specs.Boundaries.{has_id}
@@ -33,18 +35,17 @@ use Rattle.gixp_client.specs.declared.request.Request.{Request}
 use Rattle.gixp_client.specs.declared.watched.Watched.{Watched}
 
 -- a fetch with these parts is one with those of the session
-pub as_session : {N I S A C P X : Type 0} (parties : Parties N I A S C P X) (table : TableValue) (agent name : FeatureValue)
-    (shaken : Handshake) (request : Request) (old : World N I S C) (came : Result (Option Outcome) (FetchError A X))
-    (new : World N I S C) (progress : P) → table ≡ asked_table request.wants_progress → agent ≡ name
-    → Fetches parties (call_of table shaken agent request.tags (shallow_value request.shallow) request.rejects_shallow)
+pub as_session : {N I S A C P X : Type 0} (parties : Parties N I A S C P X) (table : TableValue) (agent : FeatureValue)
+    (more : List FeatureValue) (shaken : Handshake) (request : Request) (old : World N I S C) (came : Result (Option Outcome) (FetchError A X))
+    (new : World N I S C) (progress : P) → table ≡ asked_table request.wants_progress request.uri_protocols
+    → Fetches parties (call_of table shaken agent more request.tags (shallow_value request.shallow) request.rejects_shallow)
     old came new progress
-    → CarriesFetch parties (session_call shaken name request) old came new progress
-as_session parties table agent name shaken request old came new progress t a f = record {
+    → CarriesFetch parties (session_call shaken agent more request) old came new progress
+as_session parties table agent more shaken request old came new progress t f = record {
   fetched =
-      subst (λ (x : TableValue). Fetches parties (call_of x shaken name request.tags (shallow_value request.shallow)
+      subst (λ (x : TableValue). Fetches parties (call_of x shaken agent more request.tags (shallow_value request.shallow)
       request.rejects_shallow)
-      old came new progress) t (subst (λ (x : FeatureValue). Fetches parties
-      (call_of table shaken x request.tags (shallow_value request.shallow) request.rejects_shallow) old came new progress) a f);
+      old came new progress) t f;
 }
 
 -- so is a ref map
@@ -105,13 +106,14 @@ pub in_session : {N I A C P X : Type 0} (parties : Parties (Watched N) I A Shall
     (knows : Watched N → Knowledge) (shaken : Handshake) (request : Request) (made : RefMap) (known : Knowledge)
     (is_in : ObjectId → Bool) (boundary boundary' : List ObjectId) (old : Reading) (consumer : C)
     (told told' : Result (Option Outcome) Error) (new new' : Reading) (consumer' : C) (store store' : ShallowMemory)
-    (name name' : FeatureValue) → store.ids.items ≡ boundary → store'.ids.items ≡ boundary' → name ≡ name' → told ≡ told' → new ≡ new'
+    (agent agent' : FeatureValue) (more more' : List FeatureValue) → store.ids.items ≡ boundary → store'.ids.items ≡ boundary'
+    → agent ≡ agent' → more ≡ more' → told ≡ told' → new ≡ new'
     → ((id : ObjectId) → is_in id ≡ has_id boundary id)
-    → FetchesMap parties map_of knows (session_call shaken name request) made known is_in old store consumer told new store' consumer'
-    → FetchesInSession parties map_of knows (session_call shaken name' request) made known boundary boundary' old
+    → FetchesMap parties map_of knows (session_call shaken agent more request) made known is_in old store consumer told new store' consumer'
+    → FetchesInSession parties map_of knows (session_call shaken agent' more' request) made known boundary boundary' old
     consumer told' new' consumer'
 in_session parties map_of knows shaken request made known is_in boundary boundary' old consumer told told' new new' consumer' store store'
-    name name' before after named tells stands same f = record {
+    agent agent' more more' before after named said tells stands same f = record {
       store = store;
       store' = store';
       before = before;
@@ -124,8 +126,31 @@ in_session parties map_of knows shaken request made known is_in boundary boundar
         came = f.came;
         tells = tells_alike is_in (has_id boundary) f.first f.last f.came told told' same tells f.tells;
         holds =
-            subst (λ (x : Reading). HoldsFetch parties (session_call shaken name' request) f.first old store consumer f.came f.last x
-            store' consumer') stands (subst (λ (x : FeatureValue). HoldsFetch parties (session_call shaken x request) f.first old store
-            consumer f.came f.last new store' consumer') named f.holds);
+            subst (λ (x : Reading). HoldsFetch parties (session_call shaken agent' more' request) f.first old store consumer f.came f.last x
+            store' consumer') stands (subst (λ (x : List FeatureValue). HoldsFetch parties (session_call shaken agent' x request) f.first
+            old store consumer f.came f.last new store' consumer') said
+            (subst (λ (x : FeatureValue). HoldsFetch parties (session_call shaken x more request) f.first old store
+            consumer f.came f.last new store' consumer') named f.holds));
+        unsent = λ h. let u = f.unsent h in (sym stands ∙ u.0, u.1);
       };
     }
+
+-- the call of a session by a copy of the changes of the boundary that came with the handshake
+pub same_call : (shaken : Handshake) (told : Option (Vec ShallowUpdate Global)) (agent : FeatureValue) (more : List FeatureValue)
+    (request : Request) → update_items told ≡ update_items shaken.v1_shallow_updates
+    → session_call (record shaken { v1_shallow_updates = told }) agent more request ≡ session_call shaken agent more request
+same_call shaken told agent more request e =
+    ap (λ (x : List ShallowUpdate). let call = session_call shaken agent more request in
+    record call { wishes = record call.wishes { told = x } }) e
+
+-- a fetch by the same call, and what is so by whether a round was negotiated
+pub carried_by : {N I S A C P X : Type 0} (parties : Parties (Watched N) I A S C P X) (map_of : Watched N → RefMap)
+    (knows : Watched N → Knowledge) (made : RefMap) (known : Knowledge) (is_in : ObjectId → Bool) (old : Reading) (store : S)
+    (consumer : C) (told : Result (Option Outcome) Error) (new : Reading) (store' : S) (consumer' : C) (call call' : FetchCall)
+    (is_negotiated : Bool) (IsSo : Bool → Type 0) → call ≡ call'
+    → ((f : FetchesMap parties map_of knows call made known is_in old store consumer told new store' consumer')
+    × (f.last.negotiated ≡ is_negotiated)) → IsSo is_negotiated
+    → (f : FetchesMap parties map_of knows call' made known is_in old store consumer told new store' consumer') × IsSo f.last.negotiated
+carried_by parties map_of knows made known is_in old store consumer told new store' consumer' call call' is_negotiated IsSo e f h =
+    subst (λ (x : FetchCall). (f : FetchesMap parties map_of knows x made known is_in old store consumer told new store' consumer')
+    × IsSo f.last.negotiated) e (f.0, subst IsSo (sym f.1) h)

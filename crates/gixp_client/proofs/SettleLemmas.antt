@@ -14,7 +14,7 @@ use Rattle.gixp_client.specs.declared.error.Error.{Error}
 use Rattle.gixp_client.specs.declared.error.Error.TheVariants.{Memory}
 use Rattle.gixp_client.specs.declared.state.State.{State}
 use Rattle.gixp_client.specs.declared.state.State.TheVariants.{Ended}
-use Rattle.gixp_client.specs.SessionStates.{behind_fetch, IsReport, IsReportIn, IsRefusedFetch}
+use Rattle.gixp_client.specs.SessionStates.{behind_outcome, behind_fetch, IsReport, IsReportIn, IsRefusedFetch}
 
 -- one with an outcome wasn't reported
 pub came_of : (A B C D : Type 0) (came result : Result (Option Outcome) Error) (o : Option Outcome)
@@ -28,19 +28,21 @@ report_of result e h (inl k) = subst IsReportIn k h
 report_of result e h (inr k) = subst IsReport (sym k) tt
 
 -- how it was refused, by where the session stood before it was asked what the server reported
-pub refused_of : (A C : Type 0) (version : Protocol) (came result : Result (Option Outcome) Error) (e : Error) (s t : State)
+pub refused_of : (A C : Type 0) (is_negotiated : Bool) (version : Protocol) (came result : Result (Option Outcome) Error) (e : Error) (s t : State)
     → (A × (result ≡ came) × (t ≡ s)) ⊎ (C × IsReportIn result × (t ≡ Ended)) → (result ≡ Err e) ⊎ (e ≡ Memory)
-    → s ≡ behind_fetch version came → IsRefusedFetch version came e t
-refused_of A C version came result e s t (inl h) (inl k) stands = inl (inl (sym h.1 ∙ k), h.2 ∙ stands)
-refused_of A C version came result e s t (inl h) (inr k) stands = inl (inr k, h.2 ∙ stands)
-refused_of A C version came result e s t (inr h) k stands = inr (report_of result e h.1 k, h.2)
+    → s ≡ behind_fetch is_negotiated version came → IsRefusedFetch is_negotiated version came e t
+refused_of A C is_negotiated version came result e s t (inl h) (inl k) stands = inl (inl (sym h.1 ∙ k), h.2 ∙ stands)
+refused_of A C is_negotiated version came result e s t (inl h) (inr k) stands = inl (inr k, h.2 ∙ stands)
+refused_of A C is_negotiated version came result e s t (inr h) k stands = inr (report_of result e h.1 k, h.2)
 
 -- where it stands with an outcome
-pub stands_of : (A C : Type 0) (version : Protocol) (came result : Result (Option Outcome) Error) (o : Option Outcome) (s t : State)
+pub stands_of : (A C : Type 0) (is_negotiated : Bool) (version : Protocol) (came result : Result (Option Outcome) Error)
+    (o : Option Outcome) (s t : State)
     → (A × (result ≡ came) × (t ≡ s)) ⊎ (C × IsReportIn result × (t ≡ Ended)) → result ≡ Ok o
-    → s ≡ behind_fetch version came → t ≡ behind_fetch version (Ok o)
-stands_of A C version came result o s t (inl h) e stands = h.2 ∙ stands ∙ ap (behind_fetch version) (sym h.1 ∙ e)
-stands_of A C version came result o s t (inr h) e stands = absurd (subst IsReportIn e h.1)
+    → s ≡ behind_fetch is_negotiated version came → t ≡ behind_outcome version o
+stands_of A C is_negotiated version came result o s t (inl h) e stands =
+    h.2 ∙ stands ∙ ap (behind_fetch is_negotiated version) (sym h.1 ∙ e)
+stands_of A C is_negotiated version came result o s t (inr h) e stands = absurd (subst IsReportIn e h.1)
 
 -- an update that takes an id out, by whether the boundary has it
 taken_known : (has : Bool) (known : Bool) (id : ObjectId) (rest : Option ObjectId) (others : Bool) → has ≡ known

@@ -1,5 +1,5 @@
 -- What the calls of a client's session do: one handshake, ref maps over it, and fetches.
-use Rattle.std.specs.Prelude.{◌≡◌, ℕ, Bool, List, [], ◌∷◌, map, codes, Option, Some, None, Vec, Result, Ok, Err}
+use Rattle.std.specs.Prelude.{◌≡◌, ℕ, Bool, false, List, [], ◌∷◌, map, Option, Some, None, Vec, Result, Ok, Err}
 use Rattle.std.specs.BTreeSet.{contains}
 use Rattle.std.specs.declared.alloc.Global.{Global}
 use Rattle.gixp_packetline.specs.Reading.{Reading}
@@ -8,7 +8,7 @@ use Rattle.gixp_wire.specs.declared.service.Service.TheVariants.{UploadPack}
 use Rattle.gixp_hash.specs.declared.object_id.ObjectId.{ObjectId}
 use Rattle.gixp_hash.specs.ObjectId.{id_cmp}
 use Rattle.gixp_requests.specs.Feature.{FeatureValue}
-use Rattle.gixp_requests.specs.Command.{git_table, agent_feature}
+use Rattle.gixp_requests.specs.Command.{git_table}
 use Rattle.gixp_refspec.specs.Spec.{Spec}
 use Rattle.gixp_refspec.specs.RefSpec.{owned_value_of}
 use Rattle.gixp_refs.specs.declared.handshake.Ref.{Ref}
@@ -43,14 +43,6 @@ use Rattle.gixp_client.specs.declared.state.State.{State}
 use Rattle.gixp_client.specs.declared.state.State.TheVariants.{AtStop, Ended, Broken}
 use Rattle.gixp_client.specs.declared.watched.Watched.{Watched}
 
--- the feature that names a client by this text
-abbrev pub named_feature : List ℕ → FeatureValue
-named_feature agent = record { name = codes "agent"; value = Some agent }
-
--- how a client names itself
-abbrev pub client_feature : List ℕ → FeatureValue
-client_feature = agent_feature
-
 abbrev pub some_spec : Option Spec → List Spec
 some_spec None = []
 some_spec (Some s) = s ∷ []
@@ -79,7 +71,7 @@ pub record MapsInSession (request : Request) (agent : FeatureValue) (shaken : Ha
     (r : Result RefMap MapError) : Type 0 where
   pub context : Context
   pub asked : context_value context ≡ asked_specs request
-  pub obtains : Obtains (asked_table request.wants_progress) agent context shaken plain old new r
+  pub obtains : Obtains (asked_table request.wants_progress request.uri_protocols) agent context shaken plain old new r
 
 -- what came of a fetch, with nothing of the caller's in it
 abbrev pub IsToldCame : {A X : Type 0} → Result (Option Outcome) (FetchError A X) → Result (Option Outcome) Error → Type 0
@@ -131,11 +123,13 @@ module _ {N I S A C P X : Type 0} (parties : Parties (Watched N) I A S C P X) (m
     pub came : Result (Option Outcome) (FetchError A X)
     pub tells : TellsKnown is_in first last came told
     pub holds : HoldsFetch parties call first old store consumer came last new store' consumer'
+    -- nothing was sent, and nothing of a pack came, where no round was negotiated
+    pub unsent : last.negotiated ≡ false → (new ≡ old) × (consumer' ≡ consumer)
 
 -- what a fetch of a session is handed in
-abbrev pub session_call : Handshake → FeatureValue → Request → FetchCall
-session_call shaken agent request =
-    call_of (asked_table request.wants_progress) shaken agent request.tags (shallow_value request.shallow) request.rejects_shallow
+abbrev pub session_call : Handshake → FeatureValue → List FeatureValue → Request → FetchCall
+session_call shaken agent more request = call_of (asked_table request.wants_progress request.uri_protocols) shaken agent more
+    request.tags (shallow_value request.shallow) request.rejects_shallow
 
 -- what its negotiation knows
 abbrev pub session_knowledge : Request → Objects → LocalRefs → Knowledge

@@ -23,7 +23,7 @@ use Rattle.gixp_client.specs.declared.watched.Watched.{Watched}
 module _ {N I A C P X : Type 0} (parties : Parties (Watched N) I A ShallowMemory C P X) (map_of : Watched N → RefMap)
     (knows : Watched N → Knowledge) where
   -- a session from where its transport was first, up to the fetch of which this is told: one run of the law, and what is true of it
-  pub record IsOneRun (agent : FeatureValue) (request : Request) (start : Reading) (made : RefMap) (known : Knowledge)
+  pub record IsOneRun (agent : FeatureValue) (more : List FeatureValue) (request : Request) (start : Reading) (made : RefMap) (known : Knowledge)
       (boundary : List ObjectId) (consumer : C) (told : Result (Option Outcome) Error) (new : Reading) (consumer' : C) : Type 0 where
     pub context : Context
     pub asked : context_value context ≡ asked_specs request
@@ -40,7 +40,7 @@ module _ {N I A C P X : Type 0} (parties : Parties (Watched N) I A ShallowMemory
     pub progress : P
     pub came : Result (Option Outcome) (FetchError A X)
     pub tells : TellsKnown (has_id boundary) first last came told
-    pub run : Run parties map_of knows (session_call shaken agent request) context start made
+    pub run : Run parties map_of knows (session_call shaken agent more request) context start made
         (unlocked_world first middle interrupt store consumer) came (unlocked_world last new interrupt' store' consumer') progress
-    pub promise : Promise parties map_of knows (session_call shaken agent request) context start made
+    pub promise : Promise parties map_of knows (session_call shaken agent more request) context start made
         (unlocked_world first middle interrupt store consumer) came (unlocked_world last new interrupt' store' consumer') progress run

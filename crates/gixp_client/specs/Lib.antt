@@ -3,6 +3,9 @@ pub mod Tables
 pub mod Unshallowed
 pub mod Filters
 pub mod ClientError
+pub mod ErrorClasses
+pub mod Clashes
+pub mod ClientNames
 pub mod ClientCalls
 pub mod ListEnds
 pub mod SessionStates

@@ -8,6 +8,7 @@ use Rattle.gixp_refmap.specs.declared.fetch.Tags.TheVariants.{Included}
 use Rattle.gixp_refspec.specs.declared.spec.RefSpec.{RefSpec}
 use Rattle.gixp_refspec.specs.RefSpec.{owned_value_of}
 use Rattle.gixp_refspec.specs.Spec.{spec_of}
+use Rattle.gixp_client.specs.declared.tables.UriProtocols.TheVariants.{Neither}
 use Rattle.gixp_client.specs.declared.error.Error.{Error}
 use Rattle.gixp_client.specs.declared.error.Error.TheVariants as error
 use Rattle.gixp_client.specs.declared.request.Request.{Request}
@@ -23,6 +24,7 @@ pub record IsDefaultRequest (r : Request) : Type 0 where
   pub unfiltered : r.filter ≡ None
   pub stops : r.goes_on ≡ false
   pub wants_progress : r.wants_progress ≡ true
+  pub without_uris : r.uri_protocols ≡ Neither
 
 -- the value of a text is added, behind the other refspecs
 pub record AddsSpec (text : List ℕ) (old new : Request) : Type 0 where

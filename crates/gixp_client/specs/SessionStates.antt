@@ -57,11 +57,17 @@ abbrev pub behind_map : Bool → Protocol → Error → State
 behind_map true version e = AtStop
 behind_map false version e = behind_refusal version e
 
--- behind a fetch: nothing was sent where there was nothing to ask for, and a server of version 0 or 1 goes behind its pack
-abbrev pub behind_fetch : Protocol → Result (Option Outcome) Error → State
-behind_fetch version (Ok None) = AtStop
-behind_fetch version (Ok (Some outcome)) = behind_answers version Ended
-behind_fetch version (Err e) = behind_refusal version e
+-- behind a fetch that came to this: nothing was sent where there was nothing to ask for, and a server of version 0 or 1 goes behind
+-- its pack
+abbrev pub behind_outcome : Protocol → Option Outcome → State
+behind_outcome version None = AtStop
+behind_outcome version (Some outcome) = behind_answers version Ended
+
+-- behind a fetch: nothing was sent where it was refused before a round was negotiated
+abbrev pub behind_fetch : (is_negotiated : Bool) → Protocol → Result (Option Outcome) Error → State
+behind_fetch is_negotiated version (Ok outcome) = behind_outcome version outcome
+behind_fetch true version (Err e) = behind_refusal version e
+behind_fetch false version (Err e) = AtStop
 
 -- ---- errors that the server reports beside a pack (band 3)
 
@@ -80,6 +86,6 @@ IsReportIn (Ok outcome) = ⊥
 IsReportIn (Err e) = IsReport e
 
 -- a fetch was refused: as it is told, or for want of memory behind it; or the server reported an error, and has gone
-abbrev pub IsRefusedFetch : Protocol → Result (Option Outcome) Error → Error → State → Type 0
-IsRefusedFetch version told e state =
-    (((told ≡ Err e) ⊎ (e ≡ Memory)) × (state ≡ behind_fetch version told)) ⊎ (IsReport e × (state ≡ Ended))
+abbrev pub IsRefusedFetch : (is_negotiated : Bool) → Protocol → Result (Option Outcome) Error → Error → State → Type 0
+IsRefusedFetch is_negotiated version told e state =
+    (((told ≡ Err e) ⊎ (e ≡ Memory)) × (state ≡ behind_fetch is_negotiated version told)) ⊎ (IsReport e × (state ≡ Ended))

@@ -1,7 +1,9 @@
--- What a client asks for of a server by itself, by whether the server's progress is wanted (gitprotocol-capabilities, "no-progress";
--- gitprotocol-v2, "fetch").
-use Rattle.std.specs.Prelude.{Bool, true, false, [], ◌∷◌, ◌++◌, codes}
-use Rattle.gixp_requests.specs.Command.{TableValue, always, git_table}
+-- What a client asks for of a server by itself, by whether the server's progress is wanted, and by the protocols of the URIs that may
+-- stand for packs (gitprotocol-capabilities, "no-progress"; gitprotocol-v2, "fetch"; git-config, "fetch.uriProtocols").
+use Rattle.std.specs.Prelude.{ℕ, Bool, true, false, List, [], ◌∷◌, ◌++◌, codes}
+use Rattle.gixp_requests.specs.Command.{TableValue, always, by, git_table}
+use Rattle.gixp_client.specs.declared.tables.UriProtocols.{UriProtocols}
+use Rattle.gixp_client.specs.declared.tables.UriProtocols.TheVariants.{Neither, Http, Https, Both}
 
 -- the word for none stands behind the others
 abbrev pub quiet : TableValue → TableValue
@@ -10,6 +12,23 @@ quiet t = record t {
   fetch_arguments = t.fetch_arguments ++ always (codes "no-progress") ∷ [];
 }
 
-abbrev pub asked_table : Bool → TableValue
-asked_table true = git_table
-asked_table false = quiet git_table
+abbrev pub plain_table : Bool → TableValue
+plain_table true = git_table
+plain_table false = quiet git_table
+
+-- a line of version 2 names the protocols, where the server offers it
+abbrev pub naming : List ℕ → TableValue → TableValue
+naming line t = record t {
+  v2_fetch = t.v2_fetch ++ codes "packfile-uris" ∷ [];
+  fetch_arguments = t.fetch_arguments ++ by (codes "packfile-uris") line ∷ [];
+  fetch_prefixes = t.fetch_prefixes ++ codes "packfile-uris " ∷ [];
+}
+
+abbrev pub with_uris : UriProtocols → TableValue → TableValue
+with_uris Neither t = t
+with_uris Http t = naming (codes "packfile-uris http") t
+with_uris Https t = naming (codes "packfile-uris https") t
+with_uris Both t = naming (codes "packfile-uris http,https") t
+
+abbrev pub asked_table : Bool → UriProtocols → TableValue
+asked_table wants_progress protocols = with_uris protocols (plain_table wants_progress)

@@ -31,7 +31,7 @@ pub enum LocalChange {
         /// The id that it is to hold.
         id: ObjectId,
     },
-    /// It is moved.
+    /// It is moved: it holds another id, where git may fast-forward, force or reject it.
     Moved {
         /// Its full name.
         name: BString,
@@ -240,7 +240,8 @@ fn add_removals(
 /// of its refspecs stands for and no mapping goes to, which are removed (git-fetch, "--prune"). A ref whose name isn't safe is left
 /// out, and so is one that no refspec stands for.
 ///
-/// It looks at no object: whether a move loses commits, and whether the objects are there, `refs::update::update` says.
+/// It looks at no object: whether a move loses commits, and whether the objects are there, `refs::update::update` says. So a ref whose
+/// history ends at an update of the boundary that wasn't asked for is made here, where git rejects it.
 ///
 /// # Errors
 ///

@@ -130,7 +130,8 @@ impl Error {
         }
     }
 
-    /// The kind of the read or write that failed; `UnexpectedEof` where the connection ended.
+    /// The kind of the read or write of the connection that failed; `UnexpectedEof` where the connection ended. There is none where the
+    /// repository can't be read (`Objects`, `LocalRefs`) or the pack can't be written (`PackError::Write`), which have a kind of their own.
     pub fn io_kind(&self) -> Option<ErrorKind>
         ensures { result ≡ kind_in self.now }
     {
@@ -187,7 +188,10 @@ impl Display for Rest<'_> {
             Error::UnknownObjectFormat { format } => {
                 write!(f, "mismatched algorithms: client sha1; server {format}")
             }
-            Error::Conflicts(e) => write!(f, "the refs can't be mapped: {e}"),
+            Error::Conflicts(_) => match self.error.conflict() {
+                Some(conflict) => conflict.fmt(f),
+                None => f.write_str("the refs can't be mapped"),
+            },
             Error::Request(e) => write!(f, "a request wasn't sent: {e:?}"),
             Error::Answer(response::Error::MissingServerCapability { feature }) => {
                 write!(f, "the server doesn't offer {feature}")

@@ -1,26 +1,29 @@
 //! The fetches of a session.
-ghost use Rattle.std.specs.Prelude.{◌≡◌, ◌≢◌, ◌⊎◌, true, false, [], List, None, Ok, Err, IfOk, IfErr, Option, Result, string_bytes};
+ghost use Rattle.std.specs.Prelude.{◌≡◌, ◌≢◌, ◌⊎◌, true, false, [], List, None, Ok, Err, IfOk, IfErr, Option, Result};
 ghost use Rattle.std.specs.BTreeSet.{contains};
 ghost use Rattle.gixp_hash.specs.ObjectId.{id_cmp};
 ghost use Rattle.gixp_hash.specs.declared.object_id.ObjectId.{ObjectId as Id};
+ghost use Rattle.gixp_response.specs.Answer.{update_items};
 ghost use Rattle.gixp_fetch.specs.declared.options.Outcome.{Outcome};
 ghost use Rattle.gixp_fetch.specs.Fetch.{parties_of};
 ghost use Rattle.gixp_fetch.specs.FetchShallow.{shallow_value, is_change};
 ghost use Rattle.gixp_client.specs.Boundaries.{IsLeftBoundary, IsBoundaryAfter};
 ghost use Rattle.gixp_client.specs.ClientError.{IsUnsent};
-ghost use Rattle.gixp_client.specs.ClientCalls.{named_feature, client_feature, session_call, session_knowledge, FetchesMap, FetchesInSession};
+ghost use Rattle.gixp_client.specs.ClientCalls.{session_call, session_knowledge, FetchesMap, FetchesInSession};
+ghost use Rattle.gixp_client.specs.ClientNames.{agent_of, own_features, named_by, id_features};
 ghost use Rattle.gixp_client.specs.Unshallowed.{TakesKnown, KnowsAll};
-ghost use Rattle.gixp_client.specs.SessionStates.{behind_fetch, is_reported, IsReportIn, IsRefusedFetch};
+ghost use Rattle.gixp_client.specs.SessionStates.{behind_outcome, behind_fetch, is_reported, IsReportIn, IsRefusedFetch};
 
 use crate::boundary::{Boundary, set_of};
 use crate::error::Error;
 use crate::fetched::Fetched;
 use crate::listen::{Kept, Listener};
+use crate::name::SentName;
 use crate::repository::Repository;
 use crate::request::Request;
 use crate::run::{Peer, SessionNegotiation, Wanted, fetch_mapped};
 use crate::session::Session;
-use crate::settle::{expect_filter, is_reported, reported, settled, store_of};
+use crate::settle::{copied_updates, expect_filter, is_reported, reported, settled, store_of};
 use crate::state::{State, behind_fetch};
 use gixp_fetch::consume::ConsumePack;
 use gixp_fetch::mapped::NegotiatesMap;
@@ -30,54 +33,55 @@ use gixp_negotiate::negotiate::Negotiate;
 use gixp_negotiators::AnyNegotiator;
 use gixp_progress::NestedProgress;
 use gixp_refmap::RefMap;
-use gixp_requests::agent;
-use gixp_shallow::{ShallowMemory, ShallowStore};
+use gixp_shallow::{ShallowMemory, ShallowStore, ShallowUpdate};
 use gixp_sidebands::{Interrupt, NeverInterrupt};
 use gixp_wire::Transport;
-use std::alloc::{AllocError, Global};
-
-// The name of a client as it is sent to the server.
-fn client_name(alloc: Global, name: &String) -> Result<String, AllocError>
-    ensures { IfOk result (λ text. named_feature (string_bytes text) ≡ client_feature (string_bytes name.now)) }
-{
-    let text = agent(alloc, name.as_str())?;
-    Ok(text)
-}
+use std::alloc::Global;
 
 impl<T: Transport + Drop, L: Listener + Drop, P: NestedProgress + Drop> Session<T, L, P>
 where
     P::SubProgress: Drop,
 {
-    // A fetch, and the state of the session after it.
+    // A fetch, and the state of the session after it. It takes the changes of the boundary that came with the handshake: a copy is
+    // for it, so that they are here again where no round was negotiated.
     fn carry_out<'a, F: Find, R: RefStore, N: Negotiator, C: ConsumePack<P>>(
         &mut self,
         wanted: Wanted<'a, F, R, N>,
-        agent: String,
+        name: SentName,
+        told: Option<Vec<ShallowUpdate>>,
         store: &mut ShallowMemory,
         pack: &mut C,
     ) -> Result<Option<Outcome>, Error>
     where
         C::Error: Into<Error>,
-        ensures fetched { FetchesMap
+        requires { update_items told ≡ update_items self.old.shaken.v1_shallow_updates }
+        ensures fetched { (f : FetchesMap
             (parties_of ⟦<SessionNegotiation<'a, F, R, N> as Negotiate>⟧.calls ⟦<ShallowMemory as ShallowStore>⟧.calls
             ⟦<NeverInterrupt as Interrupt>⟧.says C.consumes T.is_plain)
             ⟦<SessionNegotiation<'a, F, R, N> as NegotiatesMap>⟧.map_of ⟦<SessionNegotiation<'a, F, R, N> as NegotiatesMap>⟧.knows
-            (session_call self.old.shaken (named_feature (string_bytes agent)) wanted.entry.request.now) wanted.entry.map.now
+            (session_call self.old.shaken (agent_of name.agent) (own_features name.session_id)
+            wanted.entry.request.now) wanted.entry.map.now
             (session_knowledge wanted.entry.request.now (F.contents wanted.entry.objects.now) (R.refs wanted.entry.refs.now))
             (contains id_cmp wanted.entry.boundary.now)
-            (T.reading self.old.transport.inner) store.old pack.old result (T.reading self.new.transport.inner) store.new pack.new }
-        ensures state { self.new.state ≡ behind_fetch self.old.shaken.server_protocol_version result }
+            (T.reading self.old.transport.inner) store.old pack.old result (T.reading self.new.transport.inner) store.new pack.new)
+            × (self.new.state ≡ behind_fetch f.last.negotiated self.old.shaken.server_protocol_version result)
+            × (f.last.negotiated ≡ false → self.new.shaken ≡ self.old.shaken) }
         ensures known { IfOk result (TakesKnown (contains id_cmp wanted.entry.boundary.now)) }
     {
         let version = self.shaken.server_protocol_version;
         let alloc = self.alloc;
+        let first = self.shaken.v1_shallow_updates.take();
+        self.shaken.v1_shallow_updates = told;
         let peer = Peer {
             shaken: &mut self.shaken,
             transport: &mut self.transport,
             progress: &mut self.progress,
         };
-        let came = fetch_mapped(alloc, wanted, agent, peer, store, pack);
-        self.state = behind_fetch(version, &came);
+        let (came, is_negotiated) = fetch_mapped(alloc, wanted, name, peer, store, pack);
+        if !is_negotiated {
+            self.shaken.v1_shallow_updates = first;
+        }
+        self.state = behind_fetch(is_negotiated, version, &came);
         came
     }
 
@@ -106,7 +110,8 @@ where
     /// # Errors
     ///
     /// Those of [`Error`]. What the consumer has is then to be thrown away, and the boundary and the refs are to stay as they are.
-    /// `state` says whether another call may come.
+    /// `state` says whether another call may come. Where no round was negotiated nothing was sent, and the session is as it was but
+    /// for what the listener and the progress reporter heard.
     pub fn fetch<'a, F: Find, R: RefStore, C: ConsumePack<P>>(
         &mut self,
         map: &'a RefMap,
@@ -125,24 +130,27 @@ where
             ⟦<NeverInterrupt as Interrupt>⟧.says C.consumes T.is_plain)
             ⟦<SessionNegotiation<'a, F, R, AnyNegotiator> as NegotiatesMap>⟧.map_of
             ⟦<SessionNegotiation<'a, F, R, AnyNegotiator> as NegotiatesMap>⟧.knows
-            (session_call self.old.shaken (client_feature (string_bytes self.old.agent)) request.now) map.now
+            (session_call self.old.shaken (named_by self.old.name) (id_features self.old.shaken.capabilities self.old.name.session_id)
+            request.now) map.now
             (session_knowledge request.now (F.contents repository.entry.objects.now) (R.refs repository.entry.refs.now))
             repository.entry.boundary.now after (T.reading self.old.transport.inner) pack.old (Ok f.outcome)
             (T.reading self.new.transport.inner) pack.new
             × IsBoundaryAfter (is_change (shallow_value request.now.shallow)) repository.entry.boundary.now after f.boundary)) }
-        ensures stands { IfOk result (λ f. self.new.state ≡ behind_fetch self.old.shaken.server_protocol_version (Ok f.outcome)) }
+        ensures stands { IfOk result (λ f. self.new.state ≡ behind_outcome self.old.shaken.server_protocol_version f.outcome) }
         ensures known { IfOk result (λ f. KnowsAll repository.entry.boundary.now f.outcome) }
         ensures refused { IfErr result (λ e. (IsUnsent e × (self.new ≡ self.old) × (pack.new ≡ pack.old))
-            ⊎ ((told : Result (Option Outcome) Error) × (after : List Id) × FetchesInSession
+            ⊎ ((told : Result (Option Outcome) Error) × (after : List Id) × (f : FetchesInSession
             (parties_of ⟦<SessionNegotiation<'a, F, R, AnyNegotiator> as Negotiate>⟧.calls ⟦<ShallowMemory as ShallowStore>⟧.calls
             ⟦<NeverInterrupt as Interrupt>⟧.says C.consumes T.is_plain)
             ⟦<SessionNegotiation<'a, F, R, AnyNegotiator> as NegotiatesMap>⟧.map_of
             ⟦<SessionNegotiation<'a, F, R, AnyNegotiator> as NegotiatesMap>⟧.knows
-            (session_call self.old.shaken (client_feature (string_bytes self.old.agent)) request.now) map.now
+            (session_call self.old.shaken (named_by self.old.name) (id_features self.old.shaken.capabilities self.old.name.session_id)
+            request.now) map.now
             (session_knowledge request.now (F.contents repository.entry.objects.now) (R.refs repository.entry.refs.now))
             repository.entry.boundary.now after (T.reading self.old.transport.inner) pack.old told
-            (T.reading self.new.transport.inner) pack.new
-            × IsRefusedFetch self.old.shaken.server_protocol_version told e self.new.state)) }
+            (T.reading self.new.transport.inner) pack.new)
+            × IsRefusedFetch f.fetches.last.negotiated self.old.shaken.server_protocol_version told e self.new.state
+            × (f.fetches.last.negotiated ≡ false → self.new.shaken ≡ self.old.shaken))) }
     {
         let mut negotiator = request.algorithm.negotiator(self.alloc);
         self.fetch_with(map, repository, request, &mut negotiator, pack)
@@ -171,23 +179,26 @@ where
             (parties_of ⟦<SessionNegotiation<'a, F, R, N> as Negotiate>⟧.calls ⟦<ShallowMemory as ShallowStore>⟧.calls
             ⟦<NeverInterrupt as Interrupt>⟧.says C.consumes T.is_plain)
             ⟦<SessionNegotiation<'a, F, R, N> as NegotiatesMap>⟧.map_of ⟦<SessionNegotiation<'a, F, R, N> as NegotiatesMap>⟧.knows
-            (session_call self.old.shaken (client_feature (string_bytes self.old.agent)) request.now) map.now
+            (session_call self.old.shaken (named_by self.old.name) (id_features self.old.shaken.capabilities self.old.name.session_id)
+            request.now) map.now
             (session_knowledge request.now (F.contents repository.entry.objects.now) (R.refs repository.entry.refs.now))
             repository.entry.boundary.now after (T.reading self.old.transport.inner) pack.old (Ok f.outcome)
             (T.reading self.new.transport.inner) pack.new
             × IsBoundaryAfter (is_change (shallow_value request.now.shallow)) repository.entry.boundary.now after f.boundary)) }
-        ensures stands { IfOk result (λ f. self.new.state ≡ behind_fetch self.old.shaken.server_protocol_version (Ok f.outcome)) }
+        ensures stands { IfOk result (λ f. self.new.state ≡ behind_outcome self.old.shaken.server_protocol_version f.outcome) }
         ensures known { IfOk result (λ f. KnowsAll repository.entry.boundary.now f.outcome) }
         ensures refused { IfErr result (λ e. (IsUnsent e × (self.new ≡ self.old) × (pack.new ≡ pack.old))
-            ⊎ ((told : Result (Option Outcome) Error) × (after : List Id) × FetchesInSession
+            ⊎ ((told : Result (Option Outcome) Error) × (after : List Id) × (f : FetchesInSession
             (parties_of ⟦<SessionNegotiation<'a, F, R, N> as Negotiate>⟧.calls ⟦<ShallowMemory as ShallowStore>⟧.calls
             ⟦<NeverInterrupt as Interrupt>⟧.says C.consumes T.is_plain)
             ⟦<SessionNegotiation<'a, F, R, N> as NegotiatesMap>⟧.map_of ⟦<SessionNegotiation<'a, F, R, N> as NegotiatesMap>⟧.knows
-            (session_call self.old.shaken (client_feature (string_bytes self.old.agent)) request.now) map.now
+            (session_call self.old.shaken (named_by self.old.name) (id_features self.old.shaken.capabilities self.old.name.session_id)
+            request.now) map.now
             (session_knowledge request.now (F.contents repository.entry.objects.now) (R.refs repository.entry.refs.now))
             repository.entry.boundary.now after (T.reading self.old.transport.inner) pack.old told
-            (T.reading self.new.transport.inner) pack.new
-            × IsRefusedFetch self.old.shaken.server_protocol_version told e self.new.state)) }
+            (T.reading self.new.transport.inner) pack.new)
+            × IsRefusedFetch f.fetches.last.negotiated self.old.shaken.server_protocol_version told e self.new.state
+            × (f.fetches.last.negotiated ≡ false → self.new.shaken ≡ self.old.shaken))) }
     {
         self.expect_open()?;
         let alloc = self.alloc;
@@ -200,7 +211,8 @@ where
             });
         }
         expect_filter(alloc, &self.shaken, request)?;
-        let agent = client_name(alloc, &self.agent)?;
+        let name = self.name.sent(alloc, &self.shaken.capabilities)?;
+        let told = copied_updates(alloc, &self.shaken.v1_shallow_updates)?;
         let mut store = store_of(alloc, before)?;
         let known = set_of(alloc, before)?;
         let Repository {
@@ -216,7 +228,7 @@ where
             negotiator,
             boundary: &known,
         };
-        let came = self.carry_out(wanted, agent, &mut store, pack);
+        let came = self.carry_out(wanted, name, told, &mut store, pack);
         let messages = self.transport.take_kept(alloc);
         let came = self.unless_reported(came, &messages, request.goes_on);
         let after = store.ids();

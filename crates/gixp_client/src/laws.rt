@@ -31,7 +31,8 @@ use gixp_sidebands::Interrupt;
 /// [`headline`](gixp_fetch::laws::headline), with all that it promises: the clauses `refs`, `mappings`, `requests`, `few`, `pack`.
 /// Of the handshake nothing but its refs may have changed in between.
 pub fn sessions_are_runs<'a, N: PaysForHaves + NegotiatesMap, I: Interrupt, P, C: ConsumePack<P>>()
-    ensures { (plain : Bool) (parameters : List Parameter) (agent : FeatureValue) (request : Request) (start shaken middle : Reading)
+    ensures { (plain : Bool) (parameters : List Parameter) (agent : FeatureValue) (more : List FeatureValue) (request : Request)
+        (start shaken middle : Reading)
         (handshake kept : Handshake) (made : RefMap) (known : Knowledge) (boundary after : List ObjectId) (consumer : C)
         (told : Result (Option Outcome) Error) (new : Reading) (consumer' : C)
         → OpensSession parameters plain start shaken handshake
@@ -39,10 +40,10 @@ pub fn sessions_are_runs<'a, N: PaysForHaves + NegotiatesMap, I: Interrupt, P, C
         → kept ≡ record handshake { refs = kept.refs }
         → FetchesInSession
         (parties_of ⟦<Watched<'a, N> as Negotiate>⟧.calls ⟦<ShallowMemory as ShallowStore>⟧.calls I.says C.consumes plain)
-        ⟦<Watched<'a, N> as NegotiatesMap>⟧.map_of ⟦<Watched<'a, N> as NegotiatesMap>⟧.knows (session_call kept agent request)
+        ⟦<Watched<'a, N> as NegotiatesMap>⟧.map_of ⟦<Watched<'a, N> as NegotiatesMap>⟧.knows (session_call kept agent more request)
         made known boundary after middle consumer told new consumer'
         → IsOneRun (parties_of ⟦<Watched<'a, N> as Negotiate>⟧.calls ⟦<ShallowMemory as ShallowStore>⟧.calls I.says C.consumes plain)
-        ⟦<Watched<'a, N> as NegotiatesMap>⟧.map_of ⟦<Watched<'a, N> as NegotiatesMap>⟧.knows agent request start made known boundary
+        ⟦<Watched<'a, N> as NegotiatesMap>⟧.map_of ⟦<Watched<'a, N> as NegotiatesMap>⟧.knows agent more request start made known boundary
         consumer told new consumer' }
 {
     headline::<Watched<'a, N>, ShallowMemory, I, P, C>();

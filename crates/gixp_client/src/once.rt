@@ -2,7 +2,8 @@
 ghost use Rattle.std.specs.Prelude.{◌≡◌, ◌⊎◌, [], None, Ok, IfOk};
 ghost use Rattle.gixp_packetline.specs.Reading.{Reading};
 ghost use Rattle.gixp_fetch.specs.Fetch.{parties_of};
-ghost use Rattle.gixp_client.specs.ClientCalls.{client_feature, session_knowledge};
+ghost use Rattle.gixp_client.specs.ClientCalls.{session_knowledge};
+ghost use Rattle.gixp_client.specs.ClientNames.{client_feature};
 ghost use Rattle.gixp_client.specs.ClientPromise.{IsOneRun};
 
 use crate::error::Error;
@@ -15,7 +16,7 @@ use crate::run::{FilteredNegotiation, SessionNegotiation};
 use crate::session::Session;
 use gixp_fetch::consume::ConsumePack;
 use gixp_fetch::mapped::NegotiatesMap;
-use gixp_graph::{Find, RefStore};
+use gixp_graph::{Find, Negotiator, RefStore};
 use gixp_negotiate::negotiate::Negotiate;
 use gixp_negotiators::AnyNegotiator;
 use gixp_progress::Discard;
@@ -55,14 +56,62 @@ where
         ⟦<NeverInterrupt as Interrupt>⟧.says C.consumes T.is_plain)
         ⟦<SessionNegotiation<'a, F, R, AnyNegotiator> as NegotiatesMap>⟧.map_of
         ⟦<SessionNegotiation<'a, F, R, AnyNegotiator> as NegotiatesMap>⟧.knows
-        (client_feature agent.now) request.now (T.reading transport) came.0
+        (client_feature agent.now) [] request.now (T.reading transport) came.0
+        (session_knowledge request.now (F.contents repository.entry.objects.now) (R.refs repository.entry.refs.now))
+        repository.entry.boundary.now pack.old (Ok came.1.outcome) end pack.new)) }
+{
+    let mut negotiator = request.algorithm.negotiator(alloc);
+    fetch_once_with(
+        alloc,
+        transport,
+        agent,
+        listener,
+        request,
+        repository,
+        &mut negotiator,
+        pack,
+    )
+}
+
+/// The same, with a negotiator of the caller's in place of the request's algorithm. It is for one fetch.
+///
+/// # Errors
+///
+/// As [`fetch_once`].
+pub fn fetch_once_with<
+    'a,
+    T: Transport + Drop,
+    L: Listener + Drop,
+    F: Find,
+    R: RefStore,
+    N: Negotiator,
+    C: ConsumePack<Discard>,
+>(
+    alloc: Global,
+    transport: T,
+    agent: &str,
+    listener: L,
+    request: &'a Request,
+    repository: Repository<'a, F, R>,
+    negotiator: &'a mut N,
+    pack: &mut C,
+) -> Result<(RefMap, Fetched), Error>
+where
+    C::Error: Into<Error>,
+    ensures { IfOk result (λ came. ((came.0.mappings.items ≡ []) × (came.1.outcome ≡ None) × (pack.new ≡ pack.old))
+        ⊎ ((end : Reading) × IsOneRun
+        (parties_of ⟦<SessionNegotiation<'a, F, R, N> as Negotiate>⟧.calls ⟦<ShallowMemory as ShallowStore>⟧.calls
+        ⟦<NeverInterrupt as Interrupt>⟧.says C.consumes T.is_plain)
+        ⟦<SessionNegotiation<'a, F, R, N> as NegotiatesMap>⟧.map_of
+        ⟦<SessionNegotiation<'a, F, R, N> as NegotiatesMap>⟧.knows
+        (client_feature agent.now) [] request.now (T.reading transport) came.0
         (session_knowledge request.now (F.contents repository.entry.objects.now) (R.refs repository.entry.refs.now))
         repository.entry.boundary.now pack.old (Ok came.1.outcome) end pack.new)) }
 {
     let mut session = Session::open(alloc, transport, agent, listener)?;
     let map = session.map(request)?;
-    let fetched = session.fetch(&map, repository, request, pack)?;
-    sessions_are_runs::<FilteredNegotiation<'a, F, R, AnyNegotiator>, NeverInterrupt, Discard, C>();
+    let fetched = session.fetch_with(&map, repository, request, negotiator, pack)?;
+    sessions_are_runs::<FilteredNegotiation<'a, F, R, N>, NeverInterrupt, Discard, C>();
     let _ = session.close();
     Ok((map, fetched))
 }

@@ -8,7 +8,7 @@ ghost use Rattle.gixp_client.specs.ClientCalls.{some_spec};
 ghost use Rattle.gixp_client.specs.Tables.{asked_table};
 
 use crate::error::Error;
-use crate::tables::table_by;
+use crate::tables::{UriProtocols, table_by};
 use bstr::{BStr, BString};
 use gixp_negotiators::Algorithm;
 use gixp_refmap::fetch::Tags;
@@ -42,6 +42,9 @@ pub struct Request {
     pub goes_on: bool,
     /// Whether the server is to say how far it came. Else it is asked not to, where it can be. The default is true.
     pub wants_progress: bool,
+    /// Over which protocols the server may name packs by URIs in place of objects in its pack (gitprotocol-v2, "packfile-uris"). The
+    /// transport has to take the section `packfile-uris` out of the answer: a fetch refuses it. The default is none.
+    pub uri_protocols: UriProtocols,
 }
 
 impl Request {
@@ -63,6 +66,7 @@ impl Request {
             filter: None,
             goes_on: false,
             wants_progress: true,
+            uri_protocols: UriProtocols::Neither,
         }
     }
 
@@ -105,9 +109,9 @@ impl Request {
 
     // What is asked for of the server by itself.
     pub(crate) fn table(&self) -> CommandTable
-        ensures { table_of result ≡ asked_table self.now.wants_progress }
+        ensures { table_of result ≡ asked_table self.now.wants_progress self.now.uri_protocols }
     {
-        table_by(self.wants_progress)
+        table_by(self.wants_progress, self.uri_protocols)
     }
 
     // The refspecs, and the refspec of the tags.

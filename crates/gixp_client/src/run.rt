@@ -3,19 +3,20 @@ ghost use Rattle.std.specs.Prelude.{◌≡◌, ◌≢◌, ◌≤◌, true, false
 ghost use Rattle.std.specs.BTreeSet.{contains};
 ghost use Rattle.gixp_hash.specs.ObjectId.{id_cmp};
 ghost use Rattle.gixp_packetline.specs.declared.protocol.Protocol.TheVariants.{V2};
-ghost use Rattle.gixp_requests.specs.Feature.{feature_value};
 ghost use Rattle.gixp_fetch.specs.Fetch.{parties_of};
-ghost use Rattle.gixp_client.specs.ClientCalls.{named_feature, HoldsAndTells, FetchesMap, session_call, session_knowledge};
+ghost use Rattle.gixp_client.specs.ClientCalls.{HoldsAndTells, FetchesMap, session_call, session_knowledge};
+ghost use Rattle.gixp_client.specs.ClientNames.{agent_of, own_features};
 ghost use Rattle.gixp_client.specs.Unshallowed.{TakesKnown};
 
 use crate::error::Error;
+use crate::name::{SentName, identified, named};
 use crate::over::Filtered;
 use crate::refusal::told;
 use crate::request::Request;
 use crate::watched::{Watched, known_alone};
 use crate::windows::{MOST_HAVES, Windowed};
 use gixp_fetch::consume::ConsumePack;
-use gixp_fetch::fetch::fetch;
+use gixp_fetch::fetch::fetch_with_features;
 use gixp_fetch::mapped::NegotiatesMap;
 use gixp_fetch::options::{Context, Options, Outcome};
 use gixp_graph::{Find, Graph, Negotiator, RefStore, Shared};
@@ -27,7 +28,6 @@ use gixp_negotiate::negotiate::negotiation::{NegotiateContext, Negotiation};
 use gixp_packetline::Protocol;
 use gixp_progress::NestedProgress;
 use gixp_refmap::RefMap;
-use gixp_requests::command::Feature;
 use gixp_shallow::{ShallowMemory, ShallowStore};
 use gixp_sidebands::{Interrupt, NeverInterrupt};
 use gixp_wire::Transport;
@@ -62,13 +62,6 @@ pub(crate) fn most_haves(version: Protocol, is_over_pipes: bool) -> usize
     }
 }
 
-// The feature that names a client.
-fn named(agent: String) -> Feature
-    ensures { feature_value result ≡ named_feature (string_bytes agent) }
-{
-    ("agent", Some(agent))
-}
-
 /// What a fetch is of: what is mapped, whose repository fetches it and how, and who chooses the haves.
 pub(crate) struct Wanted<'a, F, R, N> {
     pub(crate) map: &'a RefMap,
@@ -91,7 +84,7 @@ pub(crate) struct Peer<'s, T, P> {
 fn fetch_over<N: Negotiate, T: Transport, P: NestedProgress, C: ConsumePack<P>>(
     alloc: Global,
     negotiation: &mut N,
-    agent: String,
+    name: SentName,
     request: &Request,
     peer: Peer<'_, T, P>,
     store: &mut ShallowMemory,
@@ -103,7 +96,7 @@ where
     ensures taken { peer.exit.0.now ≡ record peer.entry.shaken.now { v1_shallow_updates = None } }
     ensures fetched { HoldsAndTells
         (parties_of N.calls ⟦<ShallowMemory as ShallowStore>⟧.calls ⟦<NeverInterrupt as Interrupt>⟧.says C.consumes T.is_plain)
-        (session_call peer.entry.shaken.now (named_feature (string_bytes agent)) request.now) negotiation.old
+        (session_call peer.entry.shaken.now (agent_of name.agent) (own_features name.session_id) request.now) negotiation.old
         (T.reading peer.entry.transport.now) store.old pack.old result negotiation.new (T.reading peer.exit.1.0.now) store.new
         pack.new }
 {
@@ -112,6 +105,10 @@ where
         transport,
         progress,
     } = peer;
+    let Ok(more) = identified(alloc, name.session_id) else {
+        shaken.v1_shallow_updates = None;
+        return Err(Error::Memory);
+    };
     let context = Context {
         handshake: shaken,
         transport,
@@ -124,20 +121,21 @@ where
         reject_shallow_remote: request.rejects_shallow,
     };
     let mut never = NeverInterrupt;
-    let came = fetch(
+    let came = fetch_with_features(
         alloc,
         negotiation,
         pack,
         progress,
         &mut never,
-        named(agent),
+        named(name.agent),
+        more,
         context,
         options,
     );
     told(alloc, came)
 }
 
-/// Fetches what is mapped. All that the negotiation borrows is a local here.
+/// Fetches what is mapped, and says whether a round was negotiated. All that the negotiation borrows is a local here.
 pub(crate) fn fetch_mapped<
     'a,
     F: Find,
@@ -149,20 +147,20 @@ pub(crate) fn fetch_mapped<
 >(
     alloc: Global,
     wanted: Wanted<'a, F, R, N>,
-    agent: String,
+    name: SentName,
     peer: Peer<'_, T, P>,
     store: &mut ShallowMemory,
     pack: &mut C,
-) -> Result<Option<Outcome>, Error>
+) -> (Result<Option<Outcome>, Error>, bool)
 where
     P::SubProgress: Drop,
     C::Error: Into<Error>,
     ensures taken { peer.exit.0.now ≡ record peer.entry.shaken.now { v1_shallow_updates = None } }
-    ensures fetched { FetchesMap
+    ensures fetched { (f : FetchesMap
         (parties_of ⟦<SessionNegotiation<'a, F, R, N> as Negotiate>⟧.calls ⟦<ShallowMemory as ShallowStore>⟧.calls
         ⟦<NeverInterrupt as Interrupt>⟧.says C.consumes T.is_plain)
         ⟦<SessionNegotiation<'a, F, R, N> as NegotiatesMap>⟧.map_of ⟦<SessionNegotiation<'a, F, R, N> as NegotiatesMap>⟧.knows
-        (session_call peer.entry.shaken.now (named_feature (string_bytes agent)) wanted.entry.request.now) wanted.entry.map.now
+        (session_call peer.entry.shaken.now (agent_of name.agent) (own_features name.session_id) wanted.entry.request.now) wanted.entry.map.now
         (record {
           tags = wanted.entry.request.now.tags;
           shallow = wanted.entry.request.now.shallow;
@@ -171,8 +169,9 @@ where
           refs = R.refs wanted.entry.refs.now;
         })
         (contains id_cmp wanted.entry.boundary.now)
-        (T.reading peer.entry.transport.now) store.old pack.old result (T.reading peer.exit.1.0.now) store.new pack.new }
-    ensures known { IfOk result (TakesKnown (contains id_cmp wanted.entry.boundary.now)) }
+        (T.reading peer.entry.transport.now) store.old pack.old result.0 (T.reading peer.exit.1.0.now) store.new pack.new)
+        × (f.last.negotiated ≡ result.1) }
+    ensures known { IfOk result.0 (TakesKnown (contains id_cmp wanted.entry.boundary.now)) }
 {
     let Wanted {
         map,
@@ -196,6 +195,7 @@ where
     let windowed = Windowed::new(negotiation, most);
     let filtered = Filtered::new(windowed, request.filter.as_deref());
     let mut watched = Watched::new(filtered, boundary);
-    let came = fetch_over(alloc, &mut watched, agent, request, peer, store, pack);
-    known_alone(came, watched.unknown(), boundary)
+    let came = fetch_over(alloc, &mut watched, name, request, peer, store, pack);
+    let told = known_alone(came, watched.unknown(), boundary);
+    (told, watched.is_negotiated())
 }

@@ -12,7 +12,8 @@ ghost use Rattle.gixp_refmap.specs.Mapping.{unknown_format};
 ghost use Rattle.gixp_handshake.specs.HandshakeValues.{refs_value};
 ghost use Rattle.gixp_handshake.specs.ObtainProgress.{TellsObtained};
 ghost use Rattle.gixp_handshake.specs.ShakeProgress.{TellsShake};
-ghost use Rattle.gixp_client.specs.ClientCalls.{client_feature, OpensSession, ListsInSession, GivesRefs, MapsInSession, ClosesSession};
+ghost use Rattle.gixp_client.specs.ClientCalls.{OpensSession, ListsInSession, GivesRefs, MapsInSession, ClosesSession};
+ghost use Rattle.gixp_client.specs.ClientNames.{is_session_id, named_by};
 ghost use Rattle.gixp_client.specs.Filters.{offers_filter};
 ghost use Rattle.gixp_client.specs.ListEnds.{IsUnasked, is_flush, are_whole, whole_refs, whole_map};
 ghost use Rattle.gixp_client.specs.SessionStates.{behind_refusal, behind_map};
@@ -21,6 +22,7 @@ use crate::error::Error;
 use crate::heard::Heard;
 use crate::list_ends::{are_whole, expect_format, is_at_flush, whole_map, whole_refs};
 use crate::listen::Listener;
+use crate::name::{ClientName, is_session_id};
 use crate::request::Request;
 use crate::settle::can_filter;
 use crate::state::{State, behind_map, behind_refusal};
@@ -33,7 +35,6 @@ use gixp_progress::{Discard, NestedProgress};
 use gixp_refmap::refmap::copied_refs;
 use gixp_refmap::{LsRefsCommand, RefMap};
 use gixp_refs::handshake::Ref;
-use gixp_requests::agent_feature;
 use gixp_requests::command::CommandTable;
 use gixp_wire::{Service, Transport};
 use std::alloc::{AllocError, Global};
@@ -41,15 +42,15 @@ use std::alloc::{AllocError, Global};
 /// A session with a server: after the handshake its refs can be listed and mapped, and what is mapped fetched, under version 2 as
 /// often as need be.
 ///
-/// `state` says where a failed call leaves it. A call that fails before anything was sent leaves it as it was, and so does one that
-/// gives up where the server waits for a request. A server that sends an error message has gone. After a failed read or write, or an
+/// `state` says where a failed call leaves it. A call that fails before its first request is ready leaves it as it was, and so does one
+/// that gives up where the server waits for a request. A server that sends an error message has gone. After a failed read or write, or an
 /// answer that can't be read, the session is broken. In both cases every later call returns `Error::Over` and sends nothing. A
 /// dropped session is closed.
 pub struct Session<T: Transport + Drop, L: Listener + Drop, P: NestedProgress + Drop = Discard> {
     pub(crate) alloc: Global,
     pub(crate) transport: Heard<T, L>,
     pub(crate) shaken: Handshake,
-    pub(crate) agent: String,
+    pub(crate) name: ClientName,
     pub(crate) state: State,
     pub(crate) progress: P,
 }
@@ -78,7 +79,8 @@ impl<T: Transport + Drop, L: Listener + Drop> Session<T, L, Discard> {
         listener: L,
     ) -> Result<Session<T, L, Discard>, Error>
         ensures opened { IfOk result (λ s. OpensSession [] T.is_plain (T.reading transport) (T.reading s.transport.inner) s.shaken) }
-        ensures named { IfOk result (λ s. string_bytes s.agent ≡ agent.now) }
+        ensures named { IfOk result (λ s. string_bytes s.name.agent ≡ agent.now) }
+        ensures nameless { IfOk result (λ s. s.name.session_id ≡ None) }
         ensures state { IfOk result (λ s. s.state ≡ State.AtStop) }
     {
         Session::open_with(
@@ -115,7 +117,8 @@ impl<T: Transport + Drop, L: Listener + Drop, P: NestedProgress + Drop> Session<
         requires { A.IsAlwaysCallable authenticate }
         ensures opened { IfOk result (λ s. OpensSession (parameters_of extra_parameters.items) T.is_plain (T.reading transport)
             (T.reading s.transport.inner) s.shaken) }
-        ensures named { IfOk result (λ s. string_bytes s.agent ≡ agent.now) }
+        ensures named { IfOk result (λ s. string_bytes s.name.agent ≡ agent.now) }
+        ensures nameless { IfOk result (λ s. s.name.session_id ≡ None) }
         ensures state { IfOk result (λ s. s.state ≡ State.AtStop) }
         ensures told { IfOk result (λ s. TellsShake P.told UploadPack (parameters_of extra_parameters.items) (T.reading transport) progress
             (Ok s.shaken) s.progress) }
@@ -135,10 +138,34 @@ impl<T: Transport + Drop, L: Listener + Drop, P: NestedProgress + Drop> Session<
             alloc,
             transport,
             shaken,
-            agent,
+            name: ClientName {
+                agent,
+                session_id: None,
+            },
             state: State::AtStop,
             progress,
         })
+    }
+
+    /// Names the session by this id from now on: each request for a pack has it, where the server takes one (gitprotocol-v2,
+    /// "session-id"; gitprotocol-capabilities, "session-id"). False, and nothing changes, where it isn't one or more printable
+    /// characters of ASCII without a blank.
+    ///
+    /// # Errors
+    ///
+    /// An allocation failure alone, after which nothing is changed.
+    pub fn set_session_id(&mut self, id: &str) -> Result<bool, AllocError>
+        ensures fits { IfOk result (λ fits. fits ≡ is_session_id id.now) }
+        ensures held { result ≡ Ok true → option_map string_bytes self.new.name.session_id ≡ Some id.now }
+        ensures rest { self.new ≡ record self.old { name = record self.old.name { session_id = self.new.name.session_id } } }
+        ensures unchanged { result ≢ Ok true → self.new ≡ self.old }
+    {
+        if !is_session_id(id.as_bytes()) {
+            return Ok(false);
+        }
+        let id = String::from_str(self.alloc, id)?;
+        self.name.session_id = Some(id);
+        Ok(true)
     }
 
     /// Whether another call may come.
@@ -202,22 +229,22 @@ impl<T: Transport + Drop, L: Listener + Drop, P: NestedProgress + Drop> Session<
         ensures over { self.old.state ≢ State.AtStop → (result ≡ Err Error.Over) × (self.new ≡ self.old) }
         ensures other { unknown_format self.old.shaken.capabilities ≢ None → self.new ≡ self.old }
         ensures format { OnOk result (unknown_format self.old.shaken.capabilities ≡ None) }
-        ensures listed { OnOk result ((refs : Vec ListedRef Allocator) × ListsInSession (client_feature (string_bytes self.old.agent))
+        ensures listed { OnOk result ((refs : Vec ListedRef Allocator) × ListsInSession (named_by self.old.name)
             self.old.shaken T.is_plain (T.reading self.old.transport.inner) (T.reading self.new.transport.inner) (Ok refs)
             × (self.new.shaken ≡ record self.old.shaken { refs = Some refs })) }
         ensures ended { OnOk result (is_flush (T.reading self.new.transport.inner).stopped ≡ true) }
         ensures refused { IfErr result (λ e. ((self.new ≡ self.old) × IsUnasked self.old.shaken.capabilities e)
-            ⊎ ((listed : Result (Vec ListedRef Allocator) ListError) × ListsInSession (client_feature (string_bytes self.old.agent))
+            ⊎ ((listed : Result (Vec ListedRef Allocator) ListError) × ListsInSession (named_by self.old.name)
             self.old.shaken T.is_plain (T.reading self.old.transport.inner) (T.reading self.new.transport.inner) listed
             × (whole_refs listed (is_flush (T.reading self.new.transport.inner).stopped) ≡ Err e)
             × (self.new.state ≡ behind_refusal self.old.shaken.server_protocol_version e) × (self.new.shaken ≡ self.old.shaken))) }
         ensures stays { OnOk result (self.new.state ≡ self.old.state) }
-        ensures agent { self.new.agent ≡ self.old.agent }
+        ensures name { self.new.name ≡ self.old.name }
     {
         self.expect_open()?;
         expect_format(self.alloc, &self.shaken.capabilities)?;
         let table = CommandTable::git();
-        let name = agent_feature(self.alloc, self.agent.as_str())?;
+        let name = self.name.agent_feature(self.alloc)?;
         let command = LsRefsCommand::new(
             self.alloc,
             &table,
@@ -252,16 +279,16 @@ impl<T: Transport + Drop, L: Listener + Drop, P: NestedProgress + Drop> Session<
         ensures other { unknown_format self.old.shaken.capabilities ≢ None → self.new ≡ self.old }
         ensures format { self.old.shaken.refs ≡ None → OnOk result (unknown_format self.old.shaken.capabilities ≡ None) }
         ensures listed { self.old.shaken.refs ≡ None → OnOk result ((refs : Vec ListedRef Allocator) × ListsInSession
-            (client_feature (string_bytes self.old.agent)) self.old.shaken T.is_plain (T.reading self.old.transport.inner)
+            (named_by self.old.name) self.old.shaken T.is_plain (T.reading self.old.transport.inner)
             (T.reading self.new.transport.inner) (Ok refs) × (self.new.shaken ≡ record self.old.shaken { refs = Some refs })) }
         ensures ended { self.old.shaken.refs ≡ None → OnOk result (is_flush (T.reading self.new.transport.inner).stopped ≡ true) }
         ensures refused { IfErr result (λ e. ((self.new ≡ self.old) × IsUnasked self.old.shaken.capabilities e)
-            ⊎ ((listed : Result (Vec ListedRef Allocator) ListError) × ListsInSession (client_feature (string_bytes self.old.agent))
+            ⊎ ((listed : Result (Vec ListedRef Allocator) ListError) × ListsInSession (named_by self.old.name)
             self.old.shaken T.is_plain (T.reading self.old.transport.inner) (T.reading self.new.transport.inner) listed
             × (whole_refs listed (is_flush (T.reading self.new.transport.inner).stopped) ≡ Err e)
             × (self.new.state ≡ behind_refusal self.old.shaken.server_protocol_version e) × (self.new.shaken ≡ self.old.shaken))) }
         ensures stays { OnOk result (self.new.state ≡ self.old.state) }
-        ensures agent { self.new.agent ≡ self.old.agent }
+        ensures name { self.new.name ≡ self.old.name }
     {
         match self.shaken.refs {
             Some(_) => Ok(()),
@@ -275,7 +302,7 @@ impl<T: Transport + Drop, L: Listener + Drop, P: NestedProgress + Drop> Session<
     ///
     /// As `list`. Refs that are here are given whatever the state.
     pub fn refs(&mut self) -> Result<&[Ref], Error>
-        ensures given { IfOk result (λ refs. GivesRefs (client_feature (string_bytes self.old.agent)) self.old.shaken T.is_plain
+        ensures given { IfOk result (λ refs. GivesRefs (named_by self.old.name) self.old.shaken T.is_plain
             (T.reading self.old.transport.inner) self.old.shaken.refs refs.now) }
         ensures refused { IfErr result (λ e. IsUnasked self.old.shaken.capabilities e
             ⊎ ((listed : Result (Vec ListedRef Allocator) ListError) × (is_ended : Bool) × (whole_refs listed is_ended ≡ Err e))) }
@@ -310,14 +337,14 @@ impl<T: Transport + Drop, L: Listener + Drop, P: NestedProgress + Drop> Session<
     /// another hash function than SHA-1, to which nothing is sent, `Over`, or `Memory`.
     pub fn map(&mut self, request: &Request) -> Result<RefMap, Error>
         ensures over { self.old.state ≢ State.AtStop → (result ≡ Err Error.Over) × (self.new ≡ self.old) }
-        ensures mapped { IfOk result (λ m. MapsInSession request.now (client_feature (string_bytes self.old.agent))
+        ensures mapped { IfOk result (λ m. MapsInSession request.now (named_by self.old.name)
             self.old.shaken T.is_plain
             (T.reading self.old.transport.inner) (T.reading self.new.transport.inner) (Ok m)) }
         ensures whole { OnOk result (are_whole (is_some self.old.shaken.refs) (T.reading self.new.transport.inner).stopped ≡ true) }
         ensures format { OnOk result (unknown_format self.old.shaken.capabilities ≡ None) }
         ensures other { unknown_format self.old.shaken.capabilities ≢ None → self.new ≡ self.old }
         ensures refused { IfErr result (λ e. ((self.new ≡ self.old) × IsUnasked self.old.shaken.capabilities e)
-            ⊎ ((made : Result MadeMap MapError) × MapsInSession request.now (client_feature (string_bytes self.old.agent))
+            ⊎ ((made : Result MadeMap MapError) × MapsInSession request.now (named_by self.old.name)
             self.old.shaken T.is_plain (T.reading self.old.transport.inner) (T.reading self.new.transport.inner) made
             × (whole_map made (are_whole (is_some self.old.shaken.refs) (T.reading self.new.transport.inner).stopped) ≡ Err e)
             × (self.new.state ≡ behind_map (is_some self.old.shaken.refs) self.old.shaken.server_protocol_version e))) }
@@ -325,12 +352,12 @@ impl<T: Transport + Drop, L: Listener + Drop, P: NestedProgress + Drop> Session<
         ensures told { IfOk result (λ m. TellsObtained P.told self.old.shaken.refs self.old.progress (Ok m) self.new.progress) }
         ensures handshake { self.new.shaken ≡ record self.old.shaken { refs = self.new.shaken.refs } }
         ensures refs { option_map refs_value self.new.shaken.refs ≡ option_map refs_value self.old.shaken.refs }
-        ensures agent { self.new.agent ≡ self.old.agent }
+        ensures name { self.new.name ≡ self.old.name }
     {
         self.expect_open()?;
         expect_format(self.alloc, &self.shaken.capabilities)?;
         let context = request.context()?;
-        let name = agent_feature(self.alloc, self.agent.as_str())?;
+        let name = self.name.agent_feature(self.alloc)?;
         let here = self.refs_here()?;
         let is_here = has_refs(&self.shaken.refs);
         let version = self.shaken.server_protocol_version;
@@ -361,7 +388,7 @@ impl<T: Transport + Drop, L: Listener + Drop, P: NestedProgress + Drop> Session<
             alloc: _alloc,
             transport,
             shaken: _shaken,
-            agent: _agent,
+            name: _name,
             state: _state,
             progress: _progress,
         } = self;
@@ -401,7 +428,7 @@ impl<T: Transport + Drop, L: Listener + Drop, P: NestedProgress + Drop> Drop for
             alloc: _alloc,
             transport: _transport,
             shaken: _shaken,
-            agent: _agent,
+            name: _name,
             state: _state,
             progress: _progress,
         } = self;

@@ -1,5 +1,6 @@
 //! What stands before a fetch of a session, and what is made of it after.
 ghost use Rattle.std.specs.Prelude.{◌≡◌, ◌⊎◌, IfOk, IfErr, Ok, Err};
+ghost use Rattle.gixp_response.specs.Answer.{update_items};
 ghost use Rattle.gixp_fetch.specs.FetchShallow.{shallow_value, is_change};
 ghost use Rattle.gixp_client.specs.ClientError.{IsUnsent};
 ghost use Rattle.gixp_client.specs.Filters.{offers_filter};
@@ -18,7 +19,7 @@ use gixp_hash::ObjectId;
 use gixp_requests::Command;
 use gixp_requests::command::CommandTable;
 use gixp_requests::fetch::Arguments;
-use gixp_shallow::{Shallow, ShallowMemory};
+use gixp_shallow::{Shallow, ShallowMemory, ShallowUpdate};
 use std::alloc::{AllocError, Global};
 
 /// A store of a boundary.
@@ -27,6 +28,19 @@ pub(crate) fn store_of(alloc: Global, boundary: &[ObjectId]) -> Result<ShallowMe
 {
     let ids = Vec::from_slice(alloc, boundary)?;
     Ok(ShallowMemory::new(ids))
+}
+
+/// A copy of the changes of the boundary that came with the handshake.
+pub(crate) fn copied_updates(
+    alloc: Global,
+    updates: &Option<Vec<ShallowUpdate>>,
+) -> Result<Option<Vec<ShallowUpdate>>, AllocError>
+    ensures { IfOk result (λ copy. update_items copy ≡ update_items updates.now) }
+{
+    match updates {
+        Some(updates) => Ok(Some(Vec::from_slice(alloc, updates)?)),
+        None => Ok(None),
+    }
 }
 
 /// Whether the server can leave out objects by a filter.

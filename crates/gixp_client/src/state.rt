@@ -1,7 +1,7 @@
 //! Whether a session may go on.
 ghost use Rattle.std.specs.Prelude.{◌≡◌, is_some};
 ghost use Rattle.gixp_client.specs.ClientError.{said_in};
-ghost use Rattle.gixp_client.specs.SessionStates.{behind_answers, behind_request, behind_answer, behind_unsaid, behind_refusal, behind_map, behind_fetch};
+ghost use Rattle.gixp_client.specs.SessionStates.{behind_answers, behind_request, behind_answer, behind_unsaid, behind_refusal, behind_map, behind_outcome, behind_fetch};
 
 use crate::error::Error;
 use gixp_capabilities::client;
@@ -99,13 +99,32 @@ pub(crate) fn behind_map(is_here: bool, version: Protocol, e: &Error) -> State
     }
 }
 
-/// After a fetch.
-pub(crate) fn behind_fetch(version: Protocol, came: &Result<Option<Outcome>, Error>) -> State
-    ensures { result ≡ behind_fetch version came.now }
+// After a fetch that came to this.
+fn behind_outcome(version: Protocol, outcome: &Option<Outcome>) -> State
+    ensures { result ≡ behind_outcome version outcome.now }
+{
+    match outcome {
+        None => State::AtStop,
+        Some(_) => behind_answers(version, State::Ended),
+    }
+}
+
+/// After a fetch, by whether a round was negotiated.
+pub(crate) fn behind_fetch(
+    is_negotiated: bool,
+    version: Protocol,
+    came: &Result<Option<Outcome>, Error>,
+) -> State
+    ensures { result ≡ behind_fetch is_negotiated version came.now }
 {
     match came {
-        Ok(None) => State::AtStop,
-        Ok(Some(_)) => behind_answers(version, State::Ended),
-        Err(e) => behind_refusal(version, e),
+        Ok(outcome) => behind_outcome(version, outcome),
+        Err(e) => {
+            if is_negotiated {
+                behind_refusal(version, e)
+            } else {
+                State::AtStop
+            }
+        }
     }
 }

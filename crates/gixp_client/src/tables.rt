@@ -1,9 +1,33 @@
 //! What a client asks for of a server by itself.
-ghost use Rattle.std.specs.Prelude.{◌≡◌};
-ghost use Rattle.gixp_requests.specs.Command.{table_of};
-ghost use Rattle.gixp_client.specs.Tables.{asked_table};
+ghost use Rattle.std.specs.Prelude.{◌≡◌, ◌≢◌};
+ghost use Rattle.gixp_requests.specs.Command.{table_of, entries_of};
+ghost use Rattle.gixp_client.specs.Tables.{plain_table, with_uris, asked_table};
 
 use gixp_requests::command::CommandTable;
+
+/// The protocols of the URIs by which a server may name packs in place of objects in its pack (git-config, "fetch.uriProtocols").
+#[derive(Clone, Copy, Debug, PartialEq, Eq)]
+pub enum UriProtocols {
+    /// None.
+    Neither,
+    /// http.
+    Http,
+    /// https.
+    Https,
+    /// http and https.
+    Both,
+}
+
+// The lines that a fetch of version 2 begins with.
+type Lines = &'static [(&'static str, Option<&'static str>)];
+
+const THIN: (&str, Option<&str>) = ("thin-pack", None);
+const OFFSETS: (&str, Option<&str>) = ("ofs-delta", None);
+const BANDS: (&str, Option<&str>) = ("sideband-all", Some("sideband-all"));
+const QUIET: (&str, Option<&str>) = ("no-progress", None);
+const HTTP: (&str, Option<&str>) = ("packfile-uris http", Some("packfile-uris"));
+const HTTPS: (&str, Option<&str>) = ("packfile-uris https", Some("packfile-uris"));
+const BOTH: (&str, Option<&str>) = ("packfile-uris http,https", Some("packfile-uris"));
 
 static QUIET_V1_FETCH: [(&str, Option<&str>); 13] = [
     ("multi_ack", Some("multi_ack_detailed")),
@@ -21,17 +45,39 @@ static QUIET_V1_FETCH: [(&str, Option<&str>); 13] = [
     ("no-progress", None),
 ];
 
-static QUIET_ARGUMENTS: [(&str, Option<&str>); 4] = [
-    ("thin-pack", None),
-    ("ofs-delta", None),
-    ("sideband-all", Some("sideband-all")),
-    ("no-progress", None),
+static QUIET_ARGUMENTS: [(&str, Option<&str>); 4] = [THIN, OFFSETS, BANDS, QUIET];
+
+static ARGUMENTS_HTTP: [(&str, Option<&str>); 4] = [THIN, OFFSETS, BANDS, HTTP];
+static ARGUMENTS_HTTPS: [(&str, Option<&str>); 4] = [THIN, OFFSETS, BANDS, HTTPS];
+static ARGUMENTS_BOTH: [(&str, Option<&str>); 4] = [THIN, OFFSETS, BANDS, BOTH];
+static QUIET_HTTP: [(&str, Option<&str>); 5] = [THIN, OFFSETS, BANDS, QUIET, HTTP];
+static QUIET_HTTPS: [(&str, Option<&str>); 5] = [THIN, OFFSETS, BANDS, QUIET, HTTPS];
+static QUIET_BOTH: [(&str, Option<&str>); 5] = [THIN, OFFSETS, BANDS, QUIET, BOTH];
+
+static URI_FEATURES: [&str; 5] = ["shallow", "filter", "ref-in-want", "sideband-all", "packfile-uris"];
+
+static URI_PREFIXES: [&str; 16] = [
+    "want ",
+    "have ",
+    "done",
+    "thin-pack",
+    "no-progress",
+    "include-tag",
+    "ofs-delta",
+    "shallow ",
+    "deepen ",
+    "deepen-relative",
+    "deepen-since ",
+    "deepen-not ",
+    "filter ",
+    "want-ref ",
+    "sideband-all",
+    "packfile-uris ",
 ];
 
-/// git's table; where no progress is wanted, with `no-progress` after the rest: a feature of versions 0 and 1 where the server offers
-/// it, and a line of version 2 (gitprotocol-capabilities, "no-progress"; gitprotocol-v2, "fetch").
-pub(crate) fn table_by(wants_progress: bool) -> CommandTable
-    ensures { table_of result ≡ asked_table wants_progress }
+// git's table; where no progress is wanted, with `no-progress` after the rest.
+fn plain_table(wants_progress: bool) -> CommandTable
+    ensures { table_of result ≡ plain_table wants_progress }
 {
     if wants_progress {
         return CommandTable::git();
@@ -40,5 +86,39 @@ pub(crate) fn table_by(wants_progress: bool) -> CommandTable
         v1_fetch: &QUIET_V1_FETCH,
         fetch_arguments: &QUIET_ARGUMENTS,
         ..CommandTable::git()
+    }
+}
+
+// The lines that a fetch begins with which asks for URIs.
+fn uri_arguments(wants_progress: bool, protocols: UriProtocols) -> Lines
+    requires { protocols ≢ UriProtocols.Neither }
+    ensures { entries_of result.now ≡ (with_uris protocols (plain_table wants_progress)).fetch_arguments }
+{
+    match (protocols, wants_progress) {
+        (UriProtocols::Http, true) => &ARGUMENTS_HTTP,
+        (UriProtocols::Https, true) => &ARGUMENTS_HTTPS,
+        (UriProtocols::Both, true) => &ARGUMENTS_BOTH,
+        (UriProtocols::Http, false) => &QUIET_HTTP,
+        (UriProtocols::Https, false) => &QUIET_HTTPS,
+        (UriProtocols::Both, false) => &QUIET_BOTH,
+        (UriProtocols::Neither, _) => unreachable!(),
+    }
+}
+
+/// git's table; where no progress is wanted, with `no-progress` after the rest: a feature of versions 0 and 1 where the server offers
+/// it, and a line of version 2 (gitprotocol-capabilities, "no-progress"; gitprotocol-v2, "fetch"). Where URIs may stand for packs, a
+/// line `packfile-uris` names their protocols after that, under version 2 alone and where the server offers it.
+pub(crate) fn table_by(wants_progress: bool, protocols: UriProtocols) -> CommandTable
+    ensures { table_of result ≡ asked_table wants_progress protocols }
+{
+    let table = plain_table(wants_progress);
+    if protocols == UriProtocols::Neither {
+        return table;
+    }
+    CommandTable {
+        v2_fetch: &URI_FEATURES,
+        fetch_arguments: uri_arguments(wants_progress, protocols),
+        fetch_prefixes: &URI_PREFIXES,
+        ..table
     }
 }

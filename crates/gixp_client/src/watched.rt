@@ -1,5 +1,5 @@
 //! A negotiation that looks at what the server says of the shallow boundary.
-ghost use Rattle.std.specs.Prelude.{◌≡◌, None, IfOk};
+ghost use Rattle.std.specs.Prelude.{◌≡◌, None, IfOk, true, false};
 ghost use Rattle.std.specs.Option.{option_copied};
 ghost use Rattle.std.specs.BTreeSet.{contains};
 ghost use Rattle.gixp_hash.specs.ObjectId.{id_cmp};
@@ -19,12 +19,13 @@ use std::alloc::Global;
 use std::collections::BTreeSet;
 
 /// A negotiation that notes which id the answers take out of the shallow boundary though it isn't in it, as no server may
-/// (gitprotocol-pack, "Packfile Negotiation").
+/// (gitprotocol-pack, "Packfile Negotiation"), and whether a round was negotiated, before which nothing is sent.
 #[derive(Drop)]
 pub struct Watched<'a, N> {
     negotiation: N,
     boundary: &'a BTreeSet<ObjectId>,
     unknown: Option<ObjectId>,
+    negotiated: bool,
 }
 
 // The id that an update takes out of the boundary, where it isn't in it.
@@ -61,11 +62,13 @@ impl<'a, N> Watched<'a, N> {
         ensures negotiation { result.negotiation ≡ negotiation }
         ensures boundary { result.boundary.now ≡ boundary.now }
         ensures unknown { result.unknown ≡ None }
+        ensures negotiated { result.negotiated ≡ false }
     {
         Watched {
             negotiation,
             boundary,
             unknown: None,
+            negotiated: false,
         }
     }
 
@@ -76,12 +79,20 @@ impl<'a, N> Watched<'a, N> {
         self.unknown
     }
 
+    /// Whether a round was negotiated.
+    pub fn is_negotiated(&self) -> bool
+        ensures { result ≡ self.now.negotiated }
+    {
+        self.negotiated
+    }
+
     // Looks at an answer.
     fn look(&mut self, answer: Option<&Response>)
         ensures negotiation { self.new.negotiation ≡ self.old.negotiation }
         ensures boundary { self.new.boundary ≡ self.old.boundary }
         ensures unknown { self.new.unknown
             ≡ noted (contains id_cmp self.old.boundary.now) self.old.unknown (option_copied answer.entry) }
+        ensures negotiated { self.new.negotiated ≡ self.old.negotiated }
     {
         if self.unknown.is_some() {
             return;
@@ -97,14 +108,15 @@ impl<N: Negotiate> Negotiate for Watched<'_, N> {
 
     ghost calls = { record {
       count = λ w. N.calls.count w.negotiation;
-      marks = λ w action v. N.calls.marks w.negotiation action v.negotiation × (v.boundary ≡ w.boundary) × (v.unknown ≡ w.unknown);
+      marks = λ w action v. N.calls.marks w.negotiation action v.negotiation × (v.boundary ≡ w.boundary) × (v.unknown ≡ w.unknown)
+          × (v.negotiated ≡ w.negotiated);
       adds = λ w known a any b v. N.calls.adds w.negotiation known a any b v.negotiation
-          × (v.boundary ≡ w.boundary) × (v.unknown ≡ w.unknown);
+          × (v.boundary ≡ w.boundary) × (v.unknown ≡ w.unknown) × (v.negotiated ≡ w.negotiated);
       goes = λ w s a p r last v t b. N.calls.goes w.negotiation s a p r last v.negotiation t b
-          × (v.boundary ≡ w.boundary) × (v.unknown ≡ noted (contains id_cmp w.boundary.now) w.unknown p);
-      marking_fails = λ w e v. N.calls.marking_fails w.negotiation e v.negotiation;
-      adding_fails = λ w known a e b v. N.calls.adding_fails w.negotiation known a e b v.negotiation;
-      round_fails = λ w s a p e v t b. N.calls.round_fails w.negotiation s a p e v.negotiation t b;
+          × (v.boundary ≡ w.boundary) × (v.unknown ≡ noted (contains id_cmp w.boundary.now) w.unknown p) × (v.negotiated ≡ true);
+      marking_fails = λ w e v. N.calls.marking_fails w.negotiation e v.negotiation × (v.negotiated ≡ w.negotiated);
+      adding_fails = λ w known a e b v. N.calls.adding_fails w.negotiation known a e b v.negotiation × (v.negotiated ≡ w.negotiated);
+      round_fails = λ w s a p e v t b. N.calls.round_fails w.negotiation s a p e v.negotiation t b × (v.negotiated ≡ w.negotiated);
     } };
 
     fn mark_complete_and_common_ref(
@@ -130,8 +142,16 @@ impl<N: Negotiate> Negotiate for Watched<'_, N> {
         previous_response: Option<&Response>,
     ) -> Result<(Round, bool), negotiate::Error<N::AlternatesError>> {
         self.look(previous_response);
-        self.negotiation
+        match self
+            .negotiation
             .one_round(state, arguments, previous_response)
+        {
+            Ok(went) => {
+                self.negotiated = true;
+                Ok(went)
+            }
+            Err(e) => Err(e),
+        }
     }
 
     ghost goes_on = { λ w s a p r v t b h o. N.goes_on w.negotiation s a p r v.negotiation t b h o.0 };

@@ -1,4 +1,5 @@
 pub mod Ids
+pub mod Lenient
 pub mod Recorder
 pub mod Repository
 pub mod Told

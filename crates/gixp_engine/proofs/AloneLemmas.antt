@@ -25,12 +25,12 @@ use Rattle.gixp_engine.specs.Alone.{engine_agent, engine_call, end_of_fetch, Car
 pub carries-call : {N I A S C P X : Type 0} (parties : Parties N I A S C P X) (first : World N I S C)
     (r : Result (Option Outcome) (FetchError A X)) (last : World N I S C) (progress : P) (h : Handshake) (shallow : ShallowValue)
     (table : TableValue) (agent : FeatureValue) → table ≡ git_table → agent ≡ engine_agent
-    → Fetches parties (call_of table h agent tags.None shallow false) first r last progress
+    → Fetches parties (call_of table h agent [] tags.None shallow false) first r last progress
     → CarriesCall parties (engine_call h shallow) first r last progress
 carries-call parties first r last progress h shallow table agent e f it = record {
   fetched =
-      subst (λ t. Fetches parties (call_of t h engine_agent tags.None shallow false) first r last progress) e
-      (subst (λ a. Fetches parties (call_of table h a tags.None shallow false) first r last progress) f it);
+      subst (λ t. Fetches parties (call_of t h engine_agent [] tags.None shallow false) first r last progress) e
+      (subst (λ a. Fetches parties (call_of table h a [] tags.None shallow false) first r last progress) f it);
 }
 
 module _ (Receives : RefMap → Handshake → Reading → Reading → Result (Option Outcome) (FetchError AllocError Left) → Type 0) where

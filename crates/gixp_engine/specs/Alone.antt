@@ -77,7 +77,7 @@ map_of_whole (Err e) false = Err (unmapped_of_cut e)
 
 -- what a fetch is handed in: no tags come but those that are mapped
 abbrev pub engine_call : Handshake → ShallowValue → FetchCall
-engine_call h shallow = call_of git_table h engine_agent tags.None shallow false
+engine_call h shallow = call_of git_table h engine_agent [] tags.None shallow false
 
 -- a negotiation over these objects and this ref map that offers these haves, in their order. It knows of no commits, no refs and no
 -- alternates

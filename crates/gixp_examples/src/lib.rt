@@ -18,7 +18,7 @@ mod whole_fetch;
 pub use clauses::{marked_complete, read_answer, read_pack, read_spec};
 pub use fetches::fetch_one;
 pub use first_fetch::branches;
-pub use local_refs::refs_to_write;
+pub use local_refs::{has_failed, refs_to_write};
 pub use maps::mapped_branches;
 pub use mirror::plan_mirror;
 pub use promised::promised_fetch;

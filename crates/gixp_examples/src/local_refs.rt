@@ -28,3 +28,9 @@ pub fn refs_to_write(
         &options,
     )
 }
+
+/// Whether `git fetch` would end with a status other than 0 for one of the updates.
+pub fn has_failed(map: &RefMap, updates: &[Update]) -> bool {
+    let mut pairs = updates.iter().zip(&map.mappings);
+    pairs.any(|(update, mapping)| update.fails(map, mapping, Tags::Included))
+}

@@ -2,7 +2,8 @@
 ghost use Rattle.std.specs.Prelude.{◌≡◌, ◌⊎◌, [], None, Ok, IfOk, codes};
 ghost use Rattle.gix_protocol.specs.Reading.{Reading};
 ghost use Rattle.gix_protocol.specs.Fetch.{parties_of};
-ghost use Rattle.gix_protocol.specs.ClientCalls.{client_feature, session_knowledge};
+ghost use Rattle.gix_protocol.specs.ClientCalls.{session_knowledge};
+ghost use Rattle.gix_protocol.specs.ClientNames.{client_feature};
 ghost use Rattle.gix_protocol.specs.ClientPromise.{IsOneRun};
 
 use gix_protocol::client::{
@@ -32,7 +33,7 @@ pub fn promised_fetch<'a, T: Transport + Drop, W: Write>(
         T.is_plain)
         ⟦<SessionNegotiation<'a, StoredObjects, StoredRefs, AnyNegotiator> as NegotiatesMap>⟧.map_of
         ⟦<SessionNegotiation<'a, StoredObjects, StoredRefs, AnyNegotiator> as NegotiatesMap>⟧.knows
-        (client_feature (codes "first/1.0")) request.now (T.reading transport) came.0
+        (client_feature (codes "first/1.0")) [] request.now (T.reading transport) came.0
         (session_knowledge request.now (⟦<StoredObjects as Find>⟧.contents repository.entry.objects.now)
         (⟦<StoredRefs as RefStore>⟧.refs repository.entry.refs.now))
         repository.entry.boundary.now pack.old (Ok came.1.outcome) end pack.new)) }

@@ -16,23 +16,25 @@ use Rattle.gixp_fetch.specs.FetchShallow.{ShallowValue, is_change}
 use Rattle.gixp_fetch.specs.Prepare.{features_of, Prepared, PrepareFails, LocksFirst, ReleasesIf, LockFails}
 use Rattle.gixp_fetch.specs.Fetch.{Wishes, World, Parties, SessionEnds}
 
--- what a fetch is handed in: what the client asks for by default, what the server said first, the client's name, which tags are to
--- come, and what is asked for
+-- what a fetch is handed in: what the client asks for by default, what the server said first, the client's name, what it says of itself
+-- beside, which tags are to come, and what is asked for
 pub record FetchCall : Type 0 where
   pub table : TableValue
   pub version : Protocol
   pub capabilities : List CapabilityValue
   pub agent : FeatureValue
+  pub more : List FeatureValue
   pub tags : Tags
   pub wishes : Wishes
 
 -- what these hand in
-abbrev pub call_of : TableValue → Handshake → FeatureValue → Tags → ShallowValue → Bool → FetchCall
-call_of table handshake agent tags shallow reject = record {
+abbrev pub call_of : TableValue → Handshake → FeatureValue → List FeatureValue → Tags → ShallowValue → Bool → FetchCall
+call_of table handshake agent more tags shallow reject = record {
   table = table;
   version = handshake.server_protocol_version;
   capabilities = handshake.capabilities;
   agent = agent;
+  more = more;
   tags = tags;
   wishes = record { shallow = shallow; told = update_items handshake.v1_shallow_updates; reject = reject };
 }
@@ -56,7 +58,7 @@ pub record IsNegotiated (outcome : Outcome) : Type 0 where
 
 -- the features of its requests
 abbrev pub features : FetchCall → List FeatureValue
-features call = features_of call.table call.version call.capabilities call.agent
+features call = features_of call.table call.version call.capabilities call.agent call.more
 
 module _ {N I A S C P X : Type 0} (parties : Parties N I A S C P X) (call : FetchCall) (old : World N I S C) where
   -- the first arguments are there, the lock is got where the boundary may change, the rest is met, and a lock that is had is released

@@ -359,7 +359,7 @@ module _ {N I A S C P X : Type 0} (parties : Parties N I A S C P X) (k : Knowled
 
 -- what a fetch is handed in of this handshake
 abbrev pub said_call : FetchCall → Handshake → FetchCall
-said_call call handshake = call_of call.table handshake call.agent call.tags call.wishes.shallow call.wishes.reject
+said_call call handshake = call_of call.table handshake call.agent call.more call.tags call.wishes.shallow call.wishes.reject
 
 module _ {N I A S C P X : Type 0} (parties : Parties N I A S C P X) (map_of : N → RefMap) (knows : N → Knowledge) where
   -- a handshake, the ref map that stands on it, and a fetch whose negotiation is over this map, each where the one before left the

@@ -1,11 +1,12 @@
 //! What both programs do over a client's session: how it is opened, what is mapped and fetched over it, and what is said where that
 //! fails.
-ghost use Rattle.std.specs.Prelude.{◌≡◌, ◌≤◌, ◌⊎◌, ⊤, true, [], List, length, Option, None, Ok, Result, IfOk, IfErr, IfSome, OnOk, string_bytes};
+ghost use Rattle.std.specs.Prelude.{◌≡◌, ◌≤◌, ◌⊎◌, ⊤, true, false, [], List, length, Option, None, Ok, Result, IfOk, IfErr, IfSome, OnOk, string_bytes};
 ghost use Rattle.std.specs.Option.{option_map};
 ghost use Rattle.bstr.specs.Owned.{bstring_bytes};
 ghost use Rattle.gix_protocol.specs.Boundaries.{IsLeftBoundary, IsBoundaryAfter};
-ghost use Rattle.gix_protocol.specs.ClientCalls.{client_feature, session_call, session_knowledge, OpensSession, GivesRefs, FetchesInSession};
+ghost use Rattle.gix_protocol.specs.ClientCalls.{session_call, session_knowledge, OpensSession, GivesRefs, FetchesInSession};
 ghost use Rattle.gix_protocol.specs.ClientError.{IsUnsent};
+ghost use Rattle.gix_protocol.specs.ClientNames.{named_by, id_features};
 ghost use Rattle.gix_protocol.specs.Connection.{connection_reading};
 ghost use Rattle.gix_protocol.specs.Fetch.{parties_of};
 ghost use Rattle.gix_protocol.specs.FetchOutcomeType.{Outcome as FetchOutcome};
@@ -14,7 +15,7 @@ ghost use Rattle.gix_protocol.specs.Filters.{offers_filter};
 ghost use Rattle.gix_protocol.specs.ObjectIdType.{ObjectId as Id};
 ghost use Rattle.gix_protocol.specs.ServiceType.TheVariants.{UploadPack};
 ghost use Rattle.gix_protocol.specs.SessionStateType.TheVariants.{AtStop};
-ghost use Rattle.gix_protocol.specs.SessionStates.{behind_fetch, IsRefusedFetch};
+ghost use Rattle.gix_protocol.specs.SessionStates.{behind_outcome, IsRefusedFetch};
 ghost use Rattle.gix_protocol.specs.ShakeProgress.{TellsShake};
 ghost use Rattle.gix_protocol.specs.Unshallowed.{KnowsAll};
 ghost use Rattle.gixp_fetch_session.specs.Asked.{AreSpecsOf, SetsFilterIf};
@@ -201,7 +202,8 @@ pub fn open<T: Transport + Drop, L: Listener + Drop, S: NestedProgress + Drop>(
     shown: S,
 ) -> Result<Session<T, L, S>, Failure>
     ensures opened { IfOk result (λ s. OpensSession [] T.is_plain (T.reading transport) (T.reading s.transport.inner) s.shaken) }
-    ensures named { IfOk result (λ s. string_bytes s.agent ≡ agent.now) }
+    ensures named { IfOk result (λ s. string_bytes s.name.agent ≡ agent.now) }
+    ensures nameless { IfOk result (λ s. s.name.session_id ≡ None) }
     ensures state { IfOk result (λ s. s.state ≡ AtStop) }
     ensures told { IfOk result (λ s. TellsShake S.told UploadPack [] (T.reading transport) shown (Ok s.shaken) s.progress) }
     ensures refused { IfErr result (FailsWithin Step.Handshake (λ _. ⊤)) }
@@ -225,7 +227,7 @@ pub fn refs<T: Transport + Drop, L: Listener + Drop, S: NestedProgress + Drop>(
     alloc: Global,
     session: &mut Session<T, L, S>,
 ) -> Result<&[Ref], Failure>
-    ensures given { IfOk result (λ refs. GivesRefs (client_feature (string_bytes session.old.agent)) session.old.shaken T.is_plain
+    ensures given { IfOk result (λ refs. GivesRefs (named_by session.old.name) session.old.shaken T.is_plain
         (T.reading session.old.transport.inner) session.old.shaken.refs refs.now) }
     ensures refused { IfErr result (FailsWithin Step.Listing (IsUnlisted session.old.shaken.capabilities)) }
 {
@@ -243,9 +245,9 @@ fn list_for<T: Transport + Drop, L: Listener + Drop, S: NestedProgress + Drop>(
 ) -> Result<(), Failure>
     ensures few { count ≤ MOST_PREFIXED → (result ≡ Ok tt) × (session.new ≡ session.old) }
     ensures listed { OnOk result (ListsIf (lists_all MOST_PREFIXED count session.old.shaken)
-        (client_feature (string_bytes session.old.agent)) session.old.shaken T.is_plain (T.reading session.old.transport.inner)
+        (named_by session.old.name) session.old.shaken T.is_plain (T.reading session.old.transport.inner)
         (T.reading session.new.transport.inner) session.new.shaken) }
-    ensures agent { session.new.agent ≡ session.old.agent }
+    ensures name { session.new.name ≡ session.old.name }
     ensures refused { IfErr result (FailsWithin Step.Listing (IsUnlisted session.old.shaken.capabilities)) }
 {
     if count <= MOST_PREFIXED {
@@ -265,7 +267,7 @@ pub fn map<T: Transport + Drop, L: Listener + Drop, S: NestedProgress + Drop>(
     request: &Request,
 ) -> Result<RefMap, Failure>
     ensures mapped { IfOk result (λ m. MapsListed (lists_all MOST_PREFIXED (length request.now.refspecs.items) session.old.shaken)
-        request.now (client_feature (string_bytes session.old.agent)) session.old.shaken T.is_plain
+        request.now (named_by session.old.name) session.old.shaken T.is_plain
         (T.reading session.old.transport.inner) (T.reading session.new.transport.inner) (Ok m)) }
     ensures refused { IfErr result (FailsWithin Step.Listing (IsUnmapped session.old.shaken.capabilities)) }
 {
@@ -305,29 +307,32 @@ where
         ⟦<PackReceiver<P> as ConsumePack<S>>⟧.consumes T.is_plain)
         ⟦<SessionNegotiation<'a, StoredObjects, StoredRefs, N> as NegotiatesMap>⟧.map_of
         ⟦<SessionNegotiation<'a, StoredObjects, StoredRefs, N> as NegotiatesMap>⟧.knows
-        (session_call session.old.shaken (client_feature (string_bytes session.old.agent)) asked.entry.request.now)
+        (session_call session.old.shaken (named_by session.old.name)
+        (id_features session.old.shaken.capabilities session.old.name.session_id) asked.entry.request.now)
         asked.entry.map.now
         (session_knowledge asked.entry.request.now (⟦<StoredObjects as Find>⟧.contents repository.old.objects)
         (⟦<StoredRefs as RefStore>⟧.refs repository.old.refs))
         before after (T.reading session.old.transport.inner) pack.old (Ok f.outcome) (T.reading session.new.transport.inner) pack.new
         × IsBoundaryAfter (is_change (shallow_value asked.entry.request.now.shallow)) before after f.boundary))
         repository.old.boundary.items) }
-    ensures stands { IfOk result (λ f. session.new.state ≡ behind_fetch session.old.shaken.server_protocol_version (Ok f.outcome)) }
+    ensures stands { IfOk result (λ f. session.new.state ≡ behind_outcome session.old.shaken.server_protocol_version f.outcome) }
     ensures known { IfOk result (λ f. KnowsAll repository.old.boundary.items f.outcome) }
     ensures refused { IfErr result (FailsWithin Step.Fetch (λ e. OfBoundary (λ before. (IsUnsent e × (session.new ≡ session.old)
         × (pack.new ≡ pack.old))
-        ⊎ ((told : Result (Option FetchOutcome) Error) × (after : List Id) × FetchesInSession
+        ⊎ ((told : Result (Option FetchOutcome) Error) × (after : List Id) × (f : FetchesInSession
         (parties_of ⟦<SessionNegotiation<'a, StoredObjects, StoredRefs, N> as Negotiate>⟧.calls
         ⟦<ShallowMemory as ShallowStore>⟧.calls ⟦<NeverInterrupt as Interrupt>⟧.says
         ⟦<PackReceiver<P> as ConsumePack<S>>⟧.consumes T.is_plain)
         ⟦<SessionNegotiation<'a, StoredObjects, StoredRefs, N> as NegotiatesMap>⟧.map_of
         ⟦<SessionNegotiation<'a, StoredObjects, StoredRefs, N> as NegotiatesMap>⟧.knows
-        (session_call session.old.shaken (client_feature (string_bytes session.old.agent)) asked.entry.request.now)
+        (session_call session.old.shaken (named_by session.old.name)
+        (id_features session.old.shaken.capabilities session.old.name.session_id) asked.entry.request.now)
         asked.entry.map.now
         (session_knowledge asked.entry.request.now (⟦<StoredObjects as Find>⟧.contents repository.old.objects)
         (⟦<StoredRefs as RefStore>⟧.refs repository.old.refs))
-        before after (T.reading session.old.transport.inner) pack.old told (T.reading session.new.transport.inner) pack.new
-        × IsRefusedFetch session.old.shaken.server_protocol_version told e session.new.state))
+        before after (T.reading session.old.transport.inner) pack.old told (T.reading session.new.transport.inner) pack.new)
+        × IsRefusedFetch f.fetches.last.negotiated session.old.shaken.server_protocol_version told e session.new.state
+        × (f.fetches.last.negotiated ≡ false → session.new.shaken ≡ session.old.shaken)))
         repository.old.boundary.items)) }
     ensures boundary { repository.new.boundary ≡ repository.old.boundary }
 {

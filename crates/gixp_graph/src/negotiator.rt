@@ -1,5 +1,5 @@
 //! What a negotiation asks of the one who chooses the haves.
-ghost use Rattle.std.specs.Prelude.{◌≡◌, ◌≤◌, ◌<◌, Some, None, IfOk, IfErr, OnOk, OnErr, IfSome, IfNone};
+ghost use Rattle.std.specs.Prelude.{◌≡◌, ◌≤◌, ◌<◌, Bool, true, false, Some, None, IfOk, IfErr, OnOk, OnErr, IfSome, IfNone};
 ghost use Rattle.gixp_hash.specs.declared.object_id.ObjectId.{ObjectId};
 ghost use Rattle.gixp_graph.specs.GraphData.{GraphData};
 ghost use Rattle.gixp_graph.specs.Negotiation.{IsRefusal, TellsCause, NegotiatorCalls};
@@ -58,14 +58,17 @@ impl From<ObjectError> for NegotiatorError {
 /// refused call leaves is a relation too, by its error; an implementation may leave all open there
 /// (`AnyCallLeft`, `AnyOfferLeft`). Contracts of the calls above say by it that nothing was done after a refusal.
 ///
-/// A look-up that the graph refuses is neither passed over nor put in other words: the call fails with that error.
-/// Only a negotiator that fails itself, and counts it, may say another.
+/// An implementation may pass over a look-up that the graph refused, as over a commit that isn't there. One that
+/// promises not to (`reports_refusals`) fails with that very error, unless it fails itself, and counts it.
 ///
 /// The law: there is a count of the haves that it may still offer, which each offer lowers, and which
 /// neither `in_common_with_remote` nor a `next_have` with no offer raises.
 pub trait Negotiator {
     /// What its calls do, what refused ones leave, how many haves it may still offer, and how many calls have failed.
     ghost calls: { NegotiatorCalls Self };
+
+    /// Whether it is promised that a call in which the graph refused a look-up fails with that error.
+    ghost reports_refusals: { Bool } = { false };
 
     /// Tells it of a commit that both sides have, before the first have.
     ///
@@ -84,9 +87,9 @@ pub trait Negotiator {
         ensures graph_failures { graph.old.failures ≤ graph.new.failures }
         ensures failed { IfErr result (IsRefusal (calls.failures self.old)
             (calls.failures self.new) graph.old.failures graph.new.failures) }
-        ensures unrefused { OnOk result (graph.new.refusals ≡ graph.old.refusals) }
-        ensures cause { IfErr result (λ e. TellsCause (calls.failures self.old) (calls.failures self.new)
-            e graph.old.refusals graph.new.refusals) };
+        ensures unrefused { reports_refusals ≡ true → OnOk result (graph.new.refusals ≡ graph.old.refusals) }
+        ensures cause { reports_refusals ≡ true → IfErr result (λ e. TellsCause (calls.failures self.old)
+            (calls.failures self.new) e graph.old.refusals graph.new.refusals) };
 
     /// Adds a commit to begin from.
     ///
@@ -105,9 +108,9 @@ pub trait Negotiator {
         ensures graph_failures { graph.old.failures ≤ graph.new.failures }
         ensures failed { IfErr result (IsRefusal (calls.failures self.old)
             (calls.failures self.new) graph.old.failures graph.new.failures) }
-        ensures unrefused { OnOk result (graph.new.refusals ≡ graph.old.refusals) }
-        ensures cause { IfErr result (λ e. TellsCause (calls.failures self.old) (calls.failures self.new)
-            e graph.old.refusals graph.new.refusals) };
+        ensures unrefused { reports_refusals ≡ true → OnOk result (graph.new.refusals ≡ graph.old.refusals) }
+        ensures cause { reports_refusals ≡ true → IfErr result (λ e. TellsCause (calls.failures self.old)
+            (calls.failures self.new) e graph.old.refusals graph.new.refusals) };
 
     /// Tells it of a have that the server has too.
     ///
@@ -127,9 +130,9 @@ pub trait Negotiator {
         ensures graph_failures { graph.old.failures ≤ graph.new.failures }
         ensures failed { IfErr result (IsRefusal (calls.failures self.old)
             (calls.failures self.new) graph.old.failures graph.new.failures) }
-        ensures unrefused { OnOk result (graph.new.refusals ≡ graph.old.refusals) }
-        ensures cause { IfErr result (λ e. TellsCause (calls.failures self.old) (calls.failures self.new)
-            e graph.old.refusals graph.new.refusals) };
+        ensures unrefused { reports_refusals ≡ true → OnOk result (graph.new.refusals ≡ graph.old.refusals) }
+        ensures cause { reports_refusals ≡ true → IfErr result (λ e. TellsCause (calls.failures self.old)
+            (calls.failures self.new) e graph.old.refusals graph.new.refusals) };
 
     /// The next commit to offer, none where it has no more.
     ///
@@ -149,10 +152,10 @@ pub trait Negotiator {
         ensures graph_failures { graph.old.failures ≤ graph.new.failures }
         ensures failed { IfSome result (λ have. IfErr have
             (IsRefusal (calls.failures self.old) (calls.failures self.new) graph.old.failures graph.new.failures)) }
-        ensures unrefused { IfSome result (λ have. OnOk have (graph.new.refusals ≡ graph.old.refusals)) }
-        ensures unrefused_none { IfNone result (graph.new.refusals ≡ graph.old.refusals) }
-        ensures cause { IfSome result (λ have. IfErr have (λ e. TellsCause (calls.failures self.old) (calls.failures self.new)
-            e graph.old.refusals graph.new.refusals)) };
+        ensures unrefused { reports_refusals ≡ true → IfSome result (λ have. OnOk have (graph.new.refusals ≡ graph.old.refusals)) }
+        ensures unrefused_none { reports_refusals ≡ true → IfNone result (graph.new.refusals ≡ graph.old.refusals) }
+        ensures cause { reports_refusals ≡ true → IfSome result (λ have. IfErr have (λ e. TellsCause
+            (calls.failures self.old) (calls.failures self.new) e graph.old.refusals graph.new.refusals)) };
 
     /// Each offer lowers the count.
     ghost offer_lowers: { (n : Self) (g : GraphData) (id : ObjectId) (m : Self) (h : GraphData) → calls.offers n g (Some id) m h

@@ -1,5 +1,5 @@
 //! A negotiator by its name.
-ghost use Rattle.std.specs.Prelude.{IfSome, IfNone};
+ghost use Rattle.std.specs.Prelude.{IfSome, IfNone, true};
 ghost use Rattle.gixp_negotiators.specs.Algorithm.{IsNameOf, IsNewOf};
 
 use crate::consecutive::Consecutive;
@@ -84,6 +84,8 @@ impl Negotiator for AnyNegotiator {
       learning_fails = AnyCallLeft;
       offering_fails = AnyOfferLeft;
     } };
+
+    ghost reports_refusals = { true };
 
     fn known_common<O: Objects>(
         &mut self,

@@ -560,6 +560,8 @@ impl Negotiator for Consecutive {
       offering_fails = AnyOfferLeft;
     } };
 
+    ghost reports_refusals = { true };
+
     fn known_common<O: Objects>(
         &mut self,
         id: ObjectId,

@@ -45,11 +45,13 @@ impl HaveList {
 }
 
 impl Negotiator for HaveList {
-    ghost use Rattle.std.specs.Prelude.{length};
+    ghost use Rattle.std.specs.Prelude.{length, true};
     ghost use Rattle.gixp_negotiators.specs.HaveList.{list_calls};
     ghost use Rattle.std.proofs.Common.{arith, ap};
 
     ghost calls = { list_calls };
+
+    ghost reports_refusals = { true };
 
     fn known_common<O: Objects>(
         &mut self,

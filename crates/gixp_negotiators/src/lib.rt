@@ -4,6 +4,7 @@
 mod algorithm;
 mod consecutive;
 mod have_list;
+pub mod laws;
 mod marks;
 mod noop;
 mod queue;

@@ -596,6 +596,8 @@ impl Negotiator for Skipping {
       offering_fails = AnyOfferLeft;
     } };
 
+    ghost reports_refusals = { true };
+
     fn known_common<O: Objects>(
         &mut self,
         id: ObjectId,

@@ -108,10 +108,10 @@ module _ {N A : Type 0} (negotiation_calls : NegotiationCalls N A) (basis : N �
 
 -- what the planner asks for at first, and whether all is banded then
 abbrev pub first_asks : Protocol → List CapabilityValue → ArgumentsValue
-first_asks v caps = asks_nothing git_table v (features_of git_table v caps planner_agent)
+first_asks v caps = asks_nothing git_table v (features_of git_table v caps planner_agent [])
 
 abbrev pub bands : Protocol → List CapabilityValue → Bool
-bands v caps = has_feature (codes "sideband-all") (features_of git_table v caps planner_agent)
+bands v caps = has_feature (codes "sideband-all") (features_of git_table v caps planner_agent [])
 
 -- where rounds begin
 abbrev pub start_of : {N I : Type 0} → N → ArgumentsValue → Reading → I → At N I
@@ -208,7 +208,7 @@ module _ {N I A S C P X : Type 0} (parties : Parties N I A S C P X) (basis : N �
 
   module _ (IsOver : N → Type 0) (h : Handshake) (old new : Reading) where
     prepared-first : (asked : ArgumentsValue) (banded : Bool) → Prepared git_table h.server_protocol_version
-        (features_of git_table h.server_protocol_version h.capabilities planner_agent) tags.None asked banded
+        (features_of git_table h.server_protocol_version h.capabilities planner_agent []) tags.None asked banded
         → (asked ≡ first_asks h.server_protocol_version h.capabilities) × (banded ≡ bands h.server_protocol_version h.capabilities)
     prepared-first asked banded p = (sym (same-ok _ (first_asks h.server_protocol_version h.capabilities) asked refl p.asks), p.bands)
 

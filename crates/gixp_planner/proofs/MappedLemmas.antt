@@ -635,8 +635,8 @@ ended-whole failures (Ok pack) ended h k = by_count (failures == 0) refl
     by_count true e =
         let same : ended ≡ Ok pack = rw e at h in
         record { uncounted = grind (arith, nat_tests); same = same; whole = subst (λ (r : Result Bool PlanRefusal). IsOk r) same k }
-    by_count false e = let refused : ended ≡ Err (refusal (codes "fetch") (codes "Io")) = rw e at h in
-        absurd (not-ok (refusal (codes "fetch") (codes "Io")) (subst (λ (r : Result Bool PlanRefusal). IsOk r) refused k))
+    by_count false e = let refused : ended ≡ Err (refusal (codes "fetch") (codes "FetchResponse")) = rw e at h in
+        absurd (not-ok (refusal (codes "fetch") (codes "FetchResponse")) (subst (λ (r : Result Bool PlanRefusal). IsOk r) refused k))
 
 -- the step of a session that was refused before its fetch
 pub step-before : (failures : ℕ) (ran ended : Result Bool PlanRefusal) (e : PlanRefusal) {why : PlanRefusal}

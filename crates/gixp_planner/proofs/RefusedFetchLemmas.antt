@@ -114,10 +114,10 @@ names-of (f ∷ fs) = ap (λ ns. f.0.now ∷ ns) (names-of fs)
 
 -- the feature that the planner's fetch lacks, if it lacks one
 abbrev lacking : Protocol → List CapabilityValue → Option (List ℕ)
-lacking v caps = missing_name v (map (λ (f : FeatureValue). f.name) (features_of git_table v caps planner_agent))
+lacking v caps = missing_name v (map (λ (f : FeatureValue). f.name) (features_of git_table v caps planner_agent []))
 
 lacking-so : (v : Protocol) (caps : List CapabilityValue) (raw : List Feature)
-    → feature_values raw ≡ features_of git_table v caps planner_agent → missing_feature v raw ≡ lacking v caps
+    → feature_values raw ≡ features_of git_table v caps planner_agent [] → missing_feature v raw ≡ lacking v caps
 lacking-so v caps raw e = ap (missing_name v) (names-of raw ∙ ap (map (λ (f : FeatureValue). f.name)) e)
 
 abbrev ok_asked : ArgumentsValue → Result ArgumentsValue (List ℕ)

@@ -93,9 +93,9 @@ same-refused e f h = cc
 
 -- a session whose fetch came to its end is refused, if at all, as a fetch
 counted-step : (uncounted pack : Bool) (e : PlanRefusal) → ends_refused e
-    ≡ (if uncounted then ends_in pack else ends_refused (refusal (codes "fetch") (codes "Io"))) → e.step ≡ codes "fetch"
+    ≡ (if uncounted then ends_in pack else ends_refused (refusal (codes "fetch") (codes "FetchResponse"))) → e.step ≡ codes "fetch"
 counted-step true pack e h = absurd (refused-or-in e pack h)
-counted-step false pack e h = ap (λ (r : PlanRefusal). r.step) (same-refused e (refusal (codes "fetch") (codes "Io")) h)
+counted-step false pack e h = ap (λ (r : PlanRefusal). r.step) (same-refused e (refusal (codes "fetch") (codes "FetchResponse")) h)
 
 fetch-step : {A X : Type 0} (failures : ℕ) (r : Result (Option Outcome) (FetchError A X)) (ended : Result Bool PlanRefusal)
     (e : PlanRefusal) {ran : Result Bool PlanRefusal} → ended ≡ end_counted failures ran → ended ≡ Err e → ran ≡ end_of r

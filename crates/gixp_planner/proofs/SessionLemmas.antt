@@ -56,6 +56,7 @@ call_of table agent shallow h = record {
   version = h.server_protocol_version;
   capabilities = h.capabilities;
   agent = agent;
+  more = [];
   tags = tags.None;
   wishes = record { shallow = shallow; told = update_items h.v1_shallow_updates; reject = false };
 }

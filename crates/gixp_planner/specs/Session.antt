@@ -59,6 +59,7 @@ planner_call h = record {
   version = h.server_protocol_version;
   capabilities = h.capabilities;
   agent = planner_agent;
+  more = [];
   tags = tags.None;
   wishes = record { shallow = no_change; told = update_items h.v1_shallow_updates; reject = false };
 }
@@ -118,7 +119,7 @@ end_of (Err e) = Err (refusal (codes "fetch") (fetch_name e))
 
 -- how a session ended, by how often its transport failed: after a failure an answer may have been cut short, so it didn't come to its end
 abbrev pub end_counted : ℕ → Result Bool PlanRefusal → Result Bool PlanRefusal
-end_counted failures (Ok pack) = if failures == 0 then Ok pack else Err (refusal (codes "fetch") (codes "Io"))
+end_counted failures (Ok pack) = if failures == 0 then Ok pack else Err (refusal (codes "fetch") (codes "FetchResponse"))
 end_counted failures (Err e) = Err e
 
 module _ {A X : Type 0} (Receives : RefMap → Handshake → Reading → Reading → Result (Option Outcome) (FetchError A X) → Type 0)

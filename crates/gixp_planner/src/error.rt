@@ -12,7 +12,7 @@ use thiserror::Error as DeriveError;
 pub struct PlanError {
     /// `file`, `have`, `spec`, `handshake`, `refs` or `fetch`.
     pub step: &'static str,
-    /// The name of the variant. `fetch Io` is a fetch that came to its end after a failure that its transport counted.
+    /// The name of the variant of that step's error.
     pub variant: &'static str,
 }
 

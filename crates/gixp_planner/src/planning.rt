@@ -41,7 +41,7 @@ fn counted(failures: u64, ended: Result<bool, PlanError>) -> Result<bool, PlanEr
             if failures == 0 {
                 Ok(pack)
             } else {
-                Err(PlanError::new("fetch", "Io"))
+                Err(PlanError::new("fetch", "FetchResponse"))
             }
         }
         Err(e) => Err(e),
@@ -72,8 +72,8 @@ fn counted(failures: u64, ended: Result<bool, PlanError>) -> Result<bool, PlanEr
 ///
 /// `spec` with the variant of a refspec's error, and `file Memory` where no transport can be made: nothing is written then.
 /// `handshake`, `refs` and `fetch` with the outermost variant of that step's error: the requests and mappings so far are
-/// written. `fetch Io` where the fetch came to its end, but the transport has counted a failure: a read that failed may have
-/// cut an answer short, so all is written but for whether a pack came. `file Io` where a write or the flush failed, and
+/// written. `fetch FetchResponse` also where the fetch came to its end, but the transport has counted a failure: a read that
+/// failed may have cut an answer short, so all is written but for whether a pack came. `file Io` where a write or the flush failed, and
 /// `file Memory` where an allocation for what is written did, or a write failed by an allocation failure: a beginning of the text is
 /// written.
 pub fn plan<'a, O: Objects, G: Objects, N: Negotiator, W: Write>(

@@ -18,3 +18,4 @@ pub mod Bounds
 pub mod Conversation
 pub mod Unpacking
 pub mod Plain
+pub mod Uris

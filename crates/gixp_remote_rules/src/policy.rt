@@ -85,8 +85,8 @@ fn pieces_of(alloc: Global, list: &[u8]) -> Result<Vec<BStr<'_>>, AllocError>
     list.split(|b| *b == b':').map(BStr::new).collect(alloc)
 }
 
-// Whether one of some words is this one.
-fn has_word(words: &[BStr<'_>], word: &[u8]) -> bool
+/// Whether one of some words is this one.
+pub(crate) fn has_word(words: &[BStr<'_>], word: &[u8]) -> bool
     ensures { result ≡ list_any (λ part. bytes_eq part word.now) (map bstr_bytes words.now) }
 {
     'words: for part in words {

@@ -8,63 +8,6 @@ use Rattle.gixp_remote_session.specs.declared.trouble.Trouble.{Trouble}
 use Rattle.gixp_remote_session.specs.declared.trouble.Trouble.TheVariants.{Fetch, Url, Io, Command, Other, Fatal, Told, NoRefs, Word, Variable, Password, Ssh, Memory}
 use Rattle.gixp_remote_session.specs.WebServer.{reply_in, has_replied, have_replied, behind_option, behind_options, is_limited, IsUnheard, WebOutcome, ends, list_outcome, by_reply, web_outcome, ComesTo, TellsOutcome, option_asked, family_line, options_asked, connect_asked, WasAsked}
 
--- the reply to the second option stands behind that to the first
-pub both_replied : (q : Bool) (y : Family) (said mid : Option (List ℕ)) → IfSome said (λ bytes. has_replied q bytes ≡ true)
-    → IfSome said (λ bytes. mid ≡ Some (behind_option q bytes)) → IfSome mid (λ bytes. has_replied (is_limited y) bytes ≡ true)
-    → IfSome said (λ bytes. have_replied q y bytes ≡ true)
-both_replied q y None mid h r s = tt
-both_replied q y (Some bytes) mid h r s =
-    let s' : has_replied (is_limited y) (behind_option q bytes) ≡ true =
-    subst (λ (v : Option (List ℕ)). IfSome v (λ t. has_replied (is_limited y) t ≡ true)) r s
-    in
-    ap (λ v. v && has_replied (is_limited y) (behind_option q bytes)) h ∙ s'
-
-pub behind_both : (q : Bool) (y : Family) (said mid new : Option (List ℕ)) → IfSome said (λ bytes. mid ≡ Some (behind_option q bytes))
-    → IfSome mid (λ bytes. new ≡ Some (behind_option (is_limited y) bytes))
-    → IfSome said (λ bytes. new ≡ Some (behind_options q y bytes))
-behind_both q y None mid new r s = tt
-behind_both q y (Some bytes) mid new r s =
-    subst (λ (v : Option (List ℕ)). IfSome v (λ t. new ≡ Some (behind_option (is_limited y) t))) r s
-
-pub unheard_first : (q : Bool) (y : Family) (said : Option (List ℕ)) (e : Trouble) → IsUnheard (has_replied q) said e
-    → IsUnheard (have_replied q y) said e
-unheard_first q y said (Fetch failure) u = u
-unheard_first q y said (Url error) u = u
-unheard_first q y said (Io kind) u = u
-unheard_first q y said (Command text) u = u
-unheard_first q y said (Other why) u = u
-unheard_first q y said (Fatal why) u = u
-unheard_first q y None Told u = tt
-unheard_first q y (Some bytes) Told u = ap (λ v. v && has_replied (is_limited y) (behind_option q bytes)) u
-unheard_first q y said NoRefs u = u
-unheard_first q y said (Word why word) u = u
-unheard_first q y said (Variable name value) u = u
-unheard_first q y said (Password url) u = u
-unheard_first q y said (Ssh error) u = u
-unheard_first q y said Memory u = u
-
-pub unheard_second : (q : Bool) (y : Family) (said mid : Option (List ℕ)) (e : Trouble) → IfSome said (λ bytes. has_replied q bytes ≡ true)
-    → IfSome said (λ bytes. mid ≡ Some (behind_option q bytes)) → IsUnheard (has_replied (is_limited y)) mid e
-    → IsUnheard (have_replied q y) said e
-unheard_second q y said mid (Fetch failure) h r u = u
-unheard_second q y said mid (Url error) h r u = u
-unheard_second q y said mid (Io kind) h r u = u
-unheard_second q y said mid (Command text) h r u = u
-unheard_second q y said mid (Other why) h r u = u
-unheard_second q y said mid (Fatal why) h r u = u
-unheard_second q y None mid Told h r u = tt
-unheard_second q y (Some bytes) mid Told h r u =
-    let u' : has_replied (is_limited y) (behind_option q bytes) ≡ false =
-    subst (λ (v : Option (List ℕ)). IfSome v (λ t. has_replied (is_limited y) t ≡ false)) r u
-    in
-    ap (λ v. v && has_replied (is_limited y) (behind_option q bytes)) h ∙ u'
-unheard_second q y said mid NoRefs h r u = u
-unheard_second q y said mid (Word why word) h r u = u
-unheard_second q y said mid (Variable name value) h r u = u
-unheard_second q y said mid (Password url) h r u = u
-unheard_second q y said mid (Ssh error) h r u = u
-unheard_second q y said mid Memory h r u = u
-
 by_list_then : (has : Bool) (reply : Option (List ℕ)) (rest : List ℕ) (b : ℕ) (line : List ℕ) (x : WebOutcome)
     → has ≡ true → reply ≡ Some (b ∷ line) → list_outcome rest ≡ x → (if has then by_reply reply rest else ends) ≡ x
 by_list_then has reply rest b line x h r l =

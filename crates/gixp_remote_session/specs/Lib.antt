@@ -3,6 +3,7 @@ pub mod RefLines
 pub mod Version
 pub mod Troubles
 pub mod Noted
+pub mod Downloads
 pub mod History
 pub mod UserChoices
 pub mod Packs

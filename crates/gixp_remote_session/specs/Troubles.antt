@@ -6,7 +6,7 @@ use Rattle.bstr.specs.Owned.{bstring_bytes}
 use Rattle.gixp_fetch_session.specs.Failures.{is_said_by_git}
 use Rattle.gixp_fetch_session.specs.declared.failure.Failure.TheVariants.{HungUp}
 use Rattle.gixp_remote_session.specs.declared.trouble.Trouble.{Trouble}
-use Rattle.gixp_remote_session.specs.declared.trouble.Trouble.TheVariants.{Fetch, Url, Io, Other, Fatal, NoRefs, Word, Variable, Password, Ssh, Memory}
+use Rattle.gixp_remote_session.specs.declared.trouble.Trouble.TheVariants.{Fetch, Url, Io, Other, Fatal, NoRefs, Word, Variable, Mismatch, Password, Ssh, Memory}
 use Rattle.gixp_remote_rules.specs.declared.policy.Permission.{Permission}
 use Rattle.gixp_remote_rules.specs.declared.policy.Permission.TheVariants.{Allowed, Forbidden, NoPolicy, NoBoolean}
 use Rattle.gixp_remote_rules.specs.declared.policy.PasswordPolicy.{PasswordPolicy}
@@ -79,6 +79,7 @@ speaker_of (Fatal why) = codes "fatal"
 speaker_of NoRefs = codes "fatal"
 speaker_of (Word why word) = codes "fatal"
 speaker_of (Variable name value) = codes "fatal"
+speaker_of (Mismatch uri name) = codes "fatal"
 speaker_of (Password url) = codes "fatal"
 speaker_of (Ssh e) = codes "fatal"
 speaker_of _ = codes "git-remote-gixp"

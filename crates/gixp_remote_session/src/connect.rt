@@ -12,15 +12,18 @@ use crate::readiness::Readiness;
 use crate::setup::{bytes_of, variable, version_word};
 use crate::shell::{NOTHING, Shell, owned};
 use crate::trouble::Trouble;
+use crate::uris::{Noted, Uris, protocols_of};
 use crate::web::connect_stateless;
-use crate::wire::{Says, Shown, Talk, Wire};
+use crate::wire::{Heard, Says, Shown, Talk, Wire};
 use bstr::BString;
+use gix_protocol::client::UriProtocols;
 use gix_protocol::transport::{Connection, Discard, Opening, Protocol};
 use gixp_fetch_session::session::open;
 use gixp_remote_rules::{
-    Choices, Family, Program, Request, Settings, SshCall, Start, Task, Variant, here_words,
+    Choices, Family, Program, Request, Settings, SshCall, Start, Task, UriSetting, Variant, here_words,
     probe_words, proxy_for, server_variables, server_words, web_words,
 };
+use gixp_packfile_uris::PackfileUris;
 use gixp_stateless::Answers;
 use gixp_url::{Address, Transport};
 use std::alloc::AllocError;
@@ -37,6 +40,8 @@ pub(crate) struct Reach<'a> {
     pub(crate) address: &'a Address,
     pub(crate) settings: &'a Settings,
     pub(crate) version: Protocol,
+    /// The id of this session, where the user has it sent.
+    pub(crate) session_id: Option<&'a str>,
     /// Whether standard error is a terminal in which the rest of a line can be erased.
     pub(crate) erases: bool,
     /// Whether the server reported an error beside its answers.
@@ -45,6 +50,10 @@ pub(crate) struct Reach<'a> {
     pub(crate) bounds: &'a RefCell<Bounds>,
     /// Whether the server is ready to send the pack.
     pub(crate) readiness: &'a Cell<Readiness>,
+    /// What the server said of packs that it names by URIs.
+    pub(crate) uris: &'a RefCell<Uris>,
+    /// The protocols of URIs that the user allows.
+    pub(crate) uri_setting: UriSetting,
 }
 
 // Refuses a transport that the user doesn't allow.
@@ -254,6 +263,19 @@ fn says_of(
     Ok(Says::Answers(Answers::new(from)))
 }
 
+// What a server says, without the section `packfile-uris` where the server may send one.
+fn heard_by<'a>(reach: Reach<'a>, says: Says) -> Result<Heard<'a>, AllocError> {
+    if protocols_of(reach.uri_setting) == UriProtocols::Neither {
+        return Ok(Heard::Whole(says));
+    }
+    let alloc = reach.rt.alloc();
+    let noted = Noted {
+        alloc,
+        uris: reach.uris,
+    };
+    Ok(Heard::WithoutUris(PackfileUris::new(alloc, says, noted)?, reach.uris))
+}
+
 // The transport over the two pipes.
 fn open_wire<'a>(reach: Reach<'a>, choices: &Choices) -> Result<Wire<'a>, Trouble> {
     let alloc = reach.rt.alloc();
@@ -264,7 +286,7 @@ fn open_wire<'a>(reach: Reach<'a>, choices: &Choices) -> Result<Wire<'a>, Troubl
     let url = reach.address.path.clone()?;
     let connection = Connection::new(
         alloc,
-        says,
+        heard_by(reach, says)?,
         to,
         url,
         reach.version,
@@ -295,7 +317,12 @@ pub(crate) fn shake_hands<'a>(reach: Reach<'a>, choices: &Choices) -> Result<Tal
     forget(reach.bounds);
     let wire = open_wire(reach, choices)?;
     let shown = Shown::new(reach.rt, reach.erases, reach.has_failed)?;
-    Ok(open(reach.rt.alloc(), wire, "gixp", shown, Discard)?)
+    let mut session = open(reach.rt.alloc(), wire, "gixp", shown, Discard)?;
+    if let Some(id) = reach.session_id {
+        // One that a variable spoils isn't sent.
+        let _ = session.set_session_id(id)?;
+    }
+    Ok(session)
 }
 
 /// Ends a session over which all went well. git's program for a web server saves cookies as it ends by itself, so it is waited for

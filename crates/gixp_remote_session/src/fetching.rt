@@ -14,12 +14,13 @@ use crate::local::Places;
 use crate::order::{
     Order, begin, begin_borrowing, filter_of, haves_for, known, list_commits, map_of, request_of,
 };
-use crate::pack::{BAD_HEADER, Came, PackPlan, PackRules, PackState, QuarantinedPack};
+use crate::pack::{BAD_HEADER, Came, PackPlan, PackRules, PackState, QuarantinedPack, Said};
 use crate::place::{place, place_objects};
 use crate::readiness::Readiness;
 use crate::shell::Shell;
 use crate::trouble::Trouble;
 use crate::unpacking::limit_of;
+use crate::uris::{download_all, expect_lines, forget_uris};
 use crate::wire::Talk;
 use bstr::BString;
 use gix_protocol::client;
@@ -113,6 +114,22 @@ fn trouble_of(pack: PackState, e: Failure) -> Trouble
     }
 }
 
+// What came with the server's pack, and with the packs that it named by URIs.
+fn came(
+    order: Order<'_, '_>,
+    shell: &mut Shell,
+    plan: &PackPlan,
+    boundary: Vec<ObjectId>,
+) -> Result<Came, Trouble> {
+    let pack = shell.pack;
+    let packs = download_all(order, shell, plan, pack)?;
+    Ok(Came {
+        pack,
+        boundary,
+        packs,
+    })
+}
+
 // A fetch over one session, and what became of the pack.
 fn fetch_by(
     plan: Plan<'_, '_, '_>,
@@ -123,7 +140,7 @@ fn fetch_by(
 ) -> Result<Came, Trouble> {
     let order = plan.order;
     let rt = order.reach.rt;
-    let mut request = request_of(rt.alloc(), order.choices, plan.shallow)?;
+    let mut request = request_of(rt.alloc(), order, plan.shallow)?;
     ask_filter(rt, session, &mut request, plan.filter)?;
     let map = map_of(rt.alloc(), order.ids)?;
     let asked = Asked {
@@ -136,15 +153,18 @@ fn fetch_by(
     if session.version() == Protocol::V2 {
         forget(order.reach.bounds);
     }
+    forget_uris(order.reach.uris);
     order.reach.readiness.set(Readiness::Unready);
-    let place = QuarantinedPack::new(rt.clone()?, shell, pack, order.reach.bounds);
+    let said = Said {
+        bounds: order.reach.bounds,
+        uris: order.reach.uris,
+    };
+    let place = QuarantinedPack::new(rt.clone()?, shell, pack, said);
     let fetched = fetch_over(order.reach, session, asked, repository, commits, place);
     order.reach.readiness.get().expect_pack()?;
+    expect_lines(order.reach.uris)?;
     match fetched {
-        Ok(boundary) => Ok(Came {
-            pack: shell.pack,
-            boundary,
-        }),
+        Ok(boundary) => came(order, shell, plan.pack, boundary),
         Err(e) => Err(trouble_of(shell.pack, e)),
     }
 }
@@ -213,15 +233,19 @@ pub(crate) struct Fetched {
     pub(crate) pack: PackPlan,
 }
 
-// Puts what came where git finds it. Returns the lock of a pack.
+// Puts what came where git finds it, the server's own pack last. Returns the lock of that. The locks of others are the helper's, which
+// takes them away as it ends: git's language of helpers has one lock.
 fn put(
     rt: &HostRuntime,
     shell: &mut Shell,
     places: &Places,
     plan: &PackPlan,
-    pack: PackState,
+    came: &Came,
 ) -> Result<Option<BString>, Trouble> {
-    match pack {
+    for pack in &came.packs {
+        let _ = place(rt, shell, places, plan, pack)?;
+    }
+    match came.pack {
         PackState::Kept(kept) => place(rt, shell, places, plan, &kept.hash),
         PackState::Unpacked(_) => {
             place_objects(rt, places, plan)?;
@@ -259,13 +283,13 @@ fn finish(
         prepare_boundary(order, shell, places, plan.pack, old, new)?;
     }
     expect_whole(order, shell, plan.pack, came, old, new.as_deref())?;
-    let lock = put(rt, shell, places, plan.pack, came.pack)?;
+    let lock = put(rt, shell, places, plan.pack, came)?;
     match &new {
         Some(new) => replace_boundary(rt, shell, places, new)?,
         None => leave_boundary(order.choices, shell, places)?,
     }
     let is_closed = match came.pack {
-        PackState::Kept(kept) => {
+        PackState::Kept(kept) if came.packs.is_empty() => {
             tells_closed(order.choices, kept.is_bounded, was_here, kept.status)
         }
         _ => false,

@@ -16,10 +16,12 @@ mod pipes;
 mod place;
 mod readiness;
 mod remote;
+mod session_id;
 mod setup;
 mod shell;
 mod trouble;
 mod unpacking;
+mod uris;
 mod web;
 mod wire;
 

@@ -6,6 +6,7 @@ ghost use Rattle.gixp_shallow.specs.Shallow.{shallow_value};
 ghost use Rattle.gix_protocol.specs.TagsType.TheVariants.{Included, None};
 ghost use Rattle.gix_protocol.specs.AlgorithmType.TheVariants.{Noop};
 ghost use Rattle.gixp_fetch_local.specs.declared.options.Haves.TheVariants.{By};
+ghost use Rattle.gixp_remote_session.specs.Downloads.{protocols_of};
 ghost use Rattle.gixp_remote_session.specs.Wanted.{wanted};
 
 use crate::connect::Reach;
@@ -14,6 +15,7 @@ use crate::pipes::COMMITS;
 use crate::setup::{bytes_of, haves_of, variable};
 use crate::shell::{NOTHING, Shell};
 use crate::trouble::Trouble;
+use crate::uris::protocols_of;
 use bstr::ByteSlice;
 use gix_protocol::client::Request as Asking;
 use gix_protocol::fetch::negotiate::Algorithm;
@@ -75,19 +77,23 @@ fn tags_of(choices: &Choices) -> Tags
 /// fetch goes on.
 pub(crate) fn request_of(
     alloc: Global,
-    choices: &Choices,
+    order: Order<'_, '_>,
     shallow: &Shallow,
 ) -> Result<Asking, AllocError>
     ensures shallow { IfOk result (λ request. shallow_value request.shallow ≡ shallow_value shallow.now) }
-    ensures rejects { IfOk result (λ request. request.rejects_shallow ≡ choices.now.rejects_shallow) }
-    ensures progress { IfOk result (λ request. request.wants_progress ≡ (choices.now.shows_progress && not choices.now.is_quiet)) }
+    ensures rejects { IfOk result (λ request. request.rejects_shallow ≡ order.entry.choices.now.rejects_shallow) }
+    ensures progress { IfOk result (λ request. request.wants_progress ≡ (order.entry.choices.now.shows_progress && not order.entry.choices.now.is_quiet)) }
+    ensures uris { IfOk result (λ request. request.uri_protocols
+        ≡ protocols_of order.entry.reach.uri_setting.http order.entry.reach.uri_setting.https) }
 {
+    let choices = order.choices;
     let mut request = Asking::new(alloc);
     request.tags = tags_of(choices);
     request.shallow = shallow.clone()?;
     request.rejects_shallow = choices.rejects_shallow;
     request.goes_on = true;
     request.wants_progress = choices.tells_progress();
+    request.uri_protocols = protocols_of(order.reach.uri_setting);
     Ok(request)
 }
 

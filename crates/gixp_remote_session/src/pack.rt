@@ -1,5 +1,5 @@
 //! Where the pack goes: git indexes it, or unpacks it, in a folder for objects of its own.
-ghost use Rattle.std.specs.Prelude.{◌≡◌, ◌≤◌, ◌-◌, ◌&&◌, ⊤, ◌∷◌, [], ◌++◌, true, false, not, min, length, map, codes, IfOk, IfSome, OnOk, string_bytes};
+ghost use Rattle.std.specs.Prelude.{◌≡◌, ◌≤◌, ◌-◌, ◌&&◌, ⊤, ◌∷◌, [], ◌++◌, true, false, not, if◌then◌else◌, min, max, length, map, codes, IfOk, IfSome, OnOk, string_bytes};
 ghost use Rattle.bstr.specs.Owned.{bstring_bytes};
 ghost use Rattle.gixp_remote_rules.specs.Choosing.{chosen};
 ghost use Rattle.gixp_remote_session.specs.Packs.{pack_folder, IsPlan, SamePlan, has_objects, is_bounded, is_unpacked, unpacked_state, kept_state, IsStateAfter};
@@ -11,13 +11,14 @@ use crate::pipes::{BOUNDARY, IDS, KEPT, PACK};
 use crate::setup::{variable, within};
 use crate::shell::Shell;
 use crate::trouble::Trouble;
+use crate::uris::{Uris, are_named};
 use bstr::{BString, ByteSlice};
 use gix_protocol::fetch::shallow_text;
 use gix_protocol::transport::ObjectId;
 use gixp_fetch_local::PackPlace;
 use gixp_remote_rules::{
     Choices, Program, Request, Start, Task, index_words, kept_pack, object_variables, pack_count,
-    pack_variables, unpack_words, unpacks,
+    pack_variables, part_words, tells_more, unpack_words, unpacks,
 };
 use std::alloc::{AllocError, Global};
 use std::cell::RefCell;
@@ -139,6 +140,14 @@ pub(crate) fn clear_folder(rt: &HostRuntime, plan: &PackPlan) -> Result<(), Trou
 }
 
 impl PackPlan {
+    /// The words of git that indexes a pack, by whether the server named a boundary.
+    pub(crate) fn words_for(&self, is_bounded: bool) -> &[BString]
+        ensures bounded { is_bounded ≡ true → result.now ≡ self.now.bounded_words.items }
+        ensures unbounded { is_bounded ≡ false → result.now ≡ self.now.words.items }
+    {
+        words_by(&self.words, &self.bounded_words, is_bounded)
+    }
+
     /// The same once more.
     pub(crate) fn copy(&self, alloc: Global) -> Result<PackPlan, Trouble>
         ensures { IfOk result (SamePlan self.now) }
@@ -271,6 +280,8 @@ pub(crate) struct Came {
     pub(crate) pack: PackState,
     /// The boundary as the server makes it.
     pub(crate) boundary: Vec<ObjectId>,
+    /// The packs that the server named by URIs.
+    pub(crate) packs: Vec<ObjectId>,
 }
 
 impl Came {
@@ -322,6 +333,13 @@ fn is_unpacked(limit: Option<u32>, count: u32) -> bool
     }
 }
 
+// How many objects count: of a pack beside others one at least, so that it is kept.
+fn count_kept(count: u32, has_uris: bool) -> u32
+    ensures { result ≡ (if has_uris then max count 1 else count) }
+{
+    if has_uris { count.max(1) } else { count }
+}
+
 // What is done with a pack: git takes it into the folder of its plan.
 #[derive(Drop)]
 struct Job<'a> {
@@ -329,6 +347,10 @@ struct Job<'a> {
     shell: &'a mut Shell,
     plan: PackPlan,
     bounds: &'a RefCell<Bounds>,
+    // What the server says of URIs, which comes before the pack.
+    uris: &'a RefCell<Uris>,
+    // Whether the server named other packs by URIs. Then this one is kept, though it has no objects.
+    has_uris: bool,
     // What git says of the pack, once it is started.
     told: Option<File>,
     // Whether the server named a boundary before it.
@@ -358,6 +380,7 @@ impl Job<'_> {
     fn prepare(&mut self) -> Result<(), Trouble> {
         make_folder(&self.rt, self.shell, &self.plan)?;
         self.is_bounded = self.write_boundary()?;
+        self.has_uris = are_named(self.uris);
         self.shell.pack = PackState::Begun;
         Ok(())
     }
@@ -387,7 +410,11 @@ impl Job<'_> {
     // Starts git that indexes the pack.
     fn start_indexing(&mut self) -> Result<(), Trouble> {
         let variables = self.variables()?;
-        let words = words_by(&self.plan.words, &self.plan.bounded_words, self.is_bounded);
+        let words = self.plan.words_for(self.is_bounded);
+        if self.has_uris {
+            let words = part_words(self.rt.alloc(), words)?;
+            return start_git(self.shell, &variables, &words);
+        }
         start_git(self.shell, &variables, words)
     }
 
@@ -397,8 +424,8 @@ impl Job<'_> {
             self.shell.pack = PackState::Unreadable;
             return Err(Trouble::Fatal(BAD_HEADER));
         };
-        self.count = count;
-        self.is_unpacked = is_unpacked(self.plan.limit, count);
+        self.count = count_kept(count, self.has_uris);
+        self.is_unpacked = !self.has_uris && is_unpacked(self.plan.limit, count);
         if self.is_unpacked {
             self.start_unpacking()?;
         } else {
@@ -421,6 +448,9 @@ impl Job<'_> {
             told.read_to_end(&mut text)?;
         }
         let status = self.shell.settle()?;
+        if tells_more(&text) {
+            self.shell.tells_more = true;
+        }
         match self.outcome(&text, status) {
             Some(state) => Ok(state),
             None => Err(Trouble::Other("git refused the pack")),
@@ -564,6 +594,15 @@ impl Write for PackWriter<'_> {
     }
 }
 
+/// What the server says before a pack.
+#[derive(Clone, Copy)]
+pub(crate) struct Said<'a> {
+    /// Of the shallow boundary.
+    pub(crate) bounds: &'a RefCell<Bounds>,
+    /// Of packs that it names by URIs.
+    pub(crate) uris: &'a RefCell<Uris>,
+}
+
 /// A pack that git takes into a folder of its own as it comes.
 #[derive(Drop)]
 pub(crate) struct QuarantinedPack<'a> {
@@ -577,17 +616,20 @@ impl<'a> QuarantinedPack<'a> {
         rt: HostRuntime,
         shell: &'a mut Shell,
         plan: PackPlan,
-        bounds: &'a RefCell<Bounds>,
+        said: Said<'a>,
     ) -> QuarantinedPack<'a>
         ensures plan { IfSome result.job (λ job. job.plan ≡ plan) }
     {
         shell.pack = PackState::Unbegun;
+        shell.tells_more = false;
         QuarantinedPack {
             job: Some(Job {
                 rt,
                 shell,
                 plan,
-                bounds,
+                bounds: said.bounds,
+                uris: said.uris,
+                has_uris: false,
                 told: None,
                 is_bounded: false,
                 count: 0,

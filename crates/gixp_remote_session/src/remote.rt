@@ -7,12 +7,14 @@ use crate::listing::{RefsTold, refs_told};
 use crate::order::Order;
 use crate::pack::clear_folder;
 use crate::readiness::Readiness;
+use crate::session_id::session_id;
 use crate::setup::{Given, read_given, read_settings, variable, version_of, within};
 use crate::shell::Shell;
 use crate::trouble::{Trouble, show};
+use crate::uris::Uris;
 use bstr::{BString, ByteSlice};
 use gixp_fetch_session::session::refs;
-use gixp_remote_rules::{Conversation, Settings, Step, Within, batch_told};
+use gixp_remote_rules::{Conversation, Settings, Step, Within, batch_told, uri_setting};
 use gixp_url::Address;
 use std::cell::{Cell, RefCell};
 use std::io;
@@ -172,12 +174,15 @@ struct Begun {
     given: Given,
     address: Address,
     settings: Settings,
+    session_id: Option<String>,
     // Whether the server reported an error beside its answers.
     has_failed: Cell<bool>,
     // What the server said of the shallow boundary.
     bounds: RefCell<Bounds>,
     // Whether the server is ready to send the pack.
     readiness: Cell<Readiness>,
+    // What the server said of packs that it names by URIs.
+    uris: RefCell<Uris>,
 }
 
 // Speaks with git from this step on.
@@ -196,10 +201,13 @@ fn serve<R: BufRead>(
             address: &begun.address,
             settings: &begun.settings,
             version: version_of(&begun.rt, &begun.settings),
+            session_id: begun.session_id.as_deref(),
             erases: begun.given.erases,
             has_failed: &begun.has_failed,
             bounds: &begun.bounds,
             readiness: &begun.readiness,
+            uris: &begun.uris,
+            uri_setting: uri_setting(alloc, begun.settings.value(b"fetch.uriprotocols"))?,
         },
         shell,
         open: None,
@@ -235,14 +243,17 @@ pub(crate) fn converse(rt: &HostRuntime) -> Result<(), Trouble> {
     if let Some(warning) = check_password(alloc, &given.url, setting)? {
         show(rt, "warning", &warning);
     }
+    let session_id = session_id(rt, &settings)?;
     let begun = Begun {
         rt: rt.clone()?,
         given,
         address,
         settings,
+        session_id,
         has_failed: Cell::new(false),
         bounds: RefCell::new(Bounds::new(alloc)),
         readiness: Cell::new(Readiness::Unready),
+        uris: RefCell::new(Uris::new(alloc)),
     };
     serve(&begun, shell, talk, first, &mut lines)
 }

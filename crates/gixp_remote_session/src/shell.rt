@@ -31,6 +31,8 @@ pub(crate) struct Shell {
     asks_places: bool,
     /// What became of the pack that git was given last.
     pub(crate) pack: PackState,
+    /// Whether git told of a `.gitmodules` whose contents aren't in the pack that it looked at.
+    pub(crate) tells_more: bool,
 }
 
 /// What a program said, and its status.
@@ -54,6 +56,7 @@ impl Shell {
             watcher: OpenOptions::new().write(true).open(rt, WATCHER)?,
             asks_places: false,
             pack: PackState::Unbegun,
+            tells_more: false,
         })
     }
 

@@ -37,6 +37,8 @@ pub(crate) enum Trouble {
     Word(&'static str, BString),
     /// A variable whose value is no boolean of git's.
     Variable(&'static str, BString),
+    /// A pack from a URI isn't the one that the server named: the URI, and the name.
+    Mismatch(BString, BString),
     /// A URL with a password, which is shown without it.
     Password(BString),
     /// A kind of ssh.
@@ -132,6 +134,7 @@ impl Trouble {
             Trouble::Fetch(e) if e.is_said_by_git() => "fatal",
             Trouble::Word(_, _) | Trouble::Url(_) | Trouble::Fatal(_) | Trouble::NoRefs => "fatal",
             Trouble::Variable(_, _) | Trouble::Password(_) | Trouble::Ssh(_) => "fatal",
+            Trouble::Mismatch(_, _) => "fatal",
             _ => "git-remote-gixp",
         }
     }
@@ -151,6 +154,10 @@ impl Display for Trouble {
             Trouble::Variable(name, value) => {
                 write!(f, "bad boolean environment value '{value}' for '{name}'")
             }
+            Trouble::Mismatch(uri, name) => write!(
+                f,
+                "fetch-pack: pack downloaded from {uri} does not match expected hash {name}",
+            ),
             Trouble::Password(url) => write!(f, "URL '{url}' uses plaintext credentials"),
             Trouble::Ssh(e) => write!(f, "{e}"),
             Trouble::Memory => write!(f, "out of memory"),

@@ -2,17 +2,19 @@
 ghost use Rattle.std.specs.Prelude.{◌≡◌, ◌++◌, ◌∷◌, [], codes, IfSome};
 
 use crate::bounded::Bounded;
+use crate::uris::{Noted, Uris, note_refusal};
 use bstr::BStr;
 use gix_protocol::client::{Listener, RemoteLines, Session};
 use gix_protocol::transport::{Connection, Discard};
+use gixp_packfile_uris::PackfileUris;
 use gixp_stateless::Answers;
-use std::cell::Cell;
+use std::cell::{Cell, RefCell};
 use std::fs::File;
 use std::io;
-use std::io::{BufReader, BufWriter, Read, Write};
+use std::io::{BufReader, BufWriter, ErrorKind, Read, Write};
 
 /// The transport over the two pipes of a server, of whose lines is noted what they say of the boundary.
-pub(crate) type Wire<'a> = Bounded<'a, Connection<Says, BufWriter<File>>>;
+pub(crate) type Wire<'a> = Bounded<'a, Connection<Heard<'a>, BufWriter<File>>>;
 
 /// A session over them, in which the server's words are shown as they come.
 pub(crate) type Talk<'a> = Session<Wire<'a>, Shown<'a>, Discard>;
@@ -31,6 +33,32 @@ impl Read for Says {
         match self {
             Says::Stream(file) => file.read(buf),
             Says::Answers(answers) => answers.read(buf),
+        }
+    }
+}
+
+/// What is heard of it.
+#[derive(Drop)]
+pub(crate) enum Heard<'a> {
+    /// All that it says.
+    Whole(Says),
+    /// All but the sections `packfile-uris`; and where a line that is refused is noted.
+    WithoutUris(PackfileUris<Says, Noted<'a>>, &'a RefCell<Uris>),
+}
+
+impl Read for Heard<'_> {
+    fn read(&mut self, buf: &mut [u8]) -> io::Result<usize> {
+        match self {
+            Heard::Whole(says) => says.read(buf),
+            Heard::WithoutUris(reader, uris) => match reader.read(buf) {
+                Ok(count) => Ok(count),
+                Err(e) => {
+                    if e.kind() == ErrorKind::InvalidData {
+                        note_refusal(*uris);
+                    }
+                    Err(e)
+                }
+            },
         }
     }
 }

@@ -7,6 +7,8 @@ mod fetches;
 #[cfg(test)]
 mod growth;
 #[cfg(test)]
+mod lenient;
+#[cfg(test)]
 mod lines;
 #[cfg(test)]
 mod listeners;

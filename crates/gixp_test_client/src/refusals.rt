@@ -2,8 +2,8 @@
 use crate::fetches::{branches, fetch, fetch_into, unless_memory};
 use crate::lines::lines;
 use crate::servers::{
-    DENIED, EMPTY, GREETING, OLD, OLD_PACK, OLDER, PACK, REFS, REPORTED, SHA256, UNENDED, UNPACKED,
-    server,
+    DENIED, EMPTY, GREETING, OLD, OLD_PACK, OLD_SHALLOW, OLDER, PACK, REFS, REPORTED, SHA256,
+    UNENDED, UNPACKED, server,
 };
 use crate::unreadable::Unreadable;
 use gixp_client::{Error, Session, Silent, State, over_streams};
@@ -209,18 +209,39 @@ fn refs_that_cannot_be_read_send_nothing(rt: HostRuntime) -> Result<(), Error> {
     Ok(())
 }
 
+// Objects of which a commit is there that can't be read.
+fn unreadable(alloc: Global) -> Result<Unreadable, AllocError> {
+    let mut objects = StoredObjects::new(alloc);
+    if let Ok(id) = ObjectId::from_hex(b"7257effbd41e1233eaae5744e614c5c728e3c979") {
+        objects.add(id, ObjectKind::Commit)?;
+    }
+    Ok(Unreadable { objects })
+}
+
+#[test]
+fn objects_that_cannot_be_read_leave_what_the_server_said(rt: HostRuntime) -> Result<(), Error> {
+    let alloc = rt.alloc();
+    let transport = server(alloc, &[OLD_SHALLOW, OLD_PACK])?;
+    let mut session = Session::open(alloc, transport, "first/1.0", Silent)?;
+    let mut request = branches(alloc)?;
+    request.rejects_shallow = true;
+    let objects = unreadable(alloc)?;
+    let mut refs = StoredRefs::new(alloc);
+    let came = unless_memory(fetch_into(alloc, &mut session, &request, &objects, &mut refs))?;
+    assert!(rt; matches!(came, Err(Error::Objects(_))));
+    assert!(rt; session.state() == State::AtStop);
+    let came = unless_memory(fetch(alloc, &mut session, &request))?;
+    assert!(rt; matches!(came, Err(Error::ShallowServer)));
+    Ok(())
+}
+
 #[test]
 fn objects_that_cannot_be_read_leave_a_stop(rt: HostRuntime) -> Result<(), Error> {
     let alloc = rt.alloc();
     let transport = server(alloc, &[GREETING, REFS, REFS, PACK])?;
     let mut session = Session::open(alloc, transport, "first/1.0", Silent)?;
     let request = branches(alloc)?;
-    let mut objects = StoredObjects::new(alloc);
-    let id = ObjectId::from_hex(b"7257effbd41e1233eaae5744e614c5c728e3c979");
-    if let Ok(id) = id {
-        objects.add(id, ObjectKind::Commit)?;
-    }
-    let objects = Unreadable { objects };
+    let objects = unreadable(alloc)?;
     let mut refs = StoredRefs::new(alloc);
     let came = unless_memory(fetch_into(alloc, &mut session, &request, &objects, &mut refs))?;
     assert!(rt; matches!(came, Err(Error::Objects(_))));

@@ -70,6 +70,13 @@ pub(crate) const OLDER: &[&[u8]] = &[
     b"",
 ];
 
+/// The same of one whose repository is shallow.
+pub(crate) const OLD_SHALLOW: &[&[u8]] = &[
+    b"7257effbd41e1233eaae5744e614c5c728e3c979 refs/heads/main\0multi_ack_detailed side-band-64k include-tag shallow\n",
+    b"shallow 7257effbd41e1233eaae5744e614c5c728e3c979\n",
+    b"",
+];
+
 /// The pack of a server of version 0.
 pub(crate) const OLD_PACK: &[&[u8]] = &[b"NAK\n", b"\x01PACK", b""];
 

@@ -1,7 +1,7 @@
 //! What the negotiators offer.
 use crate::history::{add, haves, id, line};
-use gixp_doubles::MemoryObjects;
-use gixp_graph::{Graph, Negotiator};
+use gixp_doubles::{Lenient, MemoryObjects};
+use gixp_graph::{Graph, Negotiator, NegotiatorError, ObjectError};
 use gixp_negotiators::{Algorithm, Consecutive, Skipping};
 use std::test::Fail;
 
@@ -81,5 +81,22 @@ fn is_of_the_kind_that_was_named(rt: HostRuntime) -> Result<(), Fail> {
     negotiator.in_common_with_remote(id(3), &mut graph)?;
     let more = haves(alloc, &mut negotiator, &mut graph, 9)?;
     assert!(rt; offered.as_slice() == [1, 3].as_slice() && more.is_empty());
+    Ok(())
+}
+
+#[test]
+fn only_a_lenient_one_passes_over_what_cannot_be_read(rt: HostRuntime) -> Result<(), Fail> {
+    let alloc = rt.alloc();
+    let mut objects = line(alloc, 2)?;
+    objects.corrupt.insert(id(2))?;
+    let mut graph = Graph::new(alloc, objects);
+    let mut strict = Consecutive::new(alloc);
+    let corrupt = NegotiatorError::Lookup(ObjectError::Corrupt);
+    assert!(rt; strict.add_tip(id(2), &mut graph) == Err(corrupt));
+    let mut lenient = Lenient::new(alloc);
+    lenient.add_tip(id(2), &mut graph)?;
+    lenient.add_tip(id(1), &mut graph)?;
+    let offered = haves(alloc, &mut lenient, &mut graph, 9)?;
+    assert!(rt; offered.as_slice() == [1].as_slice());
     Ok(())
 }

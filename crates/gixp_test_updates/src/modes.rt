@@ -121,3 +121,25 @@ fn leaves_unsafe_names_and_branches_of_work_trees(rt: HostRuntime) -> Result<(),
     assert_eq!(rt; left.mode, Mode::RejectedCurrentlyCheckedOut);
     Ok(())
 }
+
+// Whether an update of a ref that the server has at 3 and the repository at 1 fails, by the tags that were asked for.
+fn fails(alloc: Global, asked: &[u8], name: &[u8], tags: Tags) -> Result<bool, Fail> {
+    let map = map(alloc, asked, name, 3)?;
+    let update = first_update(alloc, &map, &refs(alloc, name, 1)?, &options(tags, &[]))?;
+    Ok(match map.mappings.first() {
+        Some(mapping) => update.fails(&map, mapping, tags),
+        None => false,
+    })
+}
+
+// As git 2.39.5 ends with status 0 or 1 where a tag moved on the server, and for a name that breaks the rules.
+#[test]
+fn fails_where_git_does(rt: HostRuntime) -> Result<(), Fail> {
+    let alloc = rt.alloc();
+    let branches = b"refs/heads/*:refs/remotes/o/*";
+    assert!(rt; !fails(alloc, branches, b"refs/tags/v1", Tags::Included)?);
+    assert!(rt; fails(alloc, branches, b"refs/tags/v1", Tags::All)?);
+    assert!(rt; fails(alloc, b"refs/tags/*:refs/tags/*", b"refs/tags/v1", Tags::Included)?);
+    assert!(rt; !fails(alloc, branches, b"refs/heads/a..b", Tags::Included)?);
+    Ok(())
+}

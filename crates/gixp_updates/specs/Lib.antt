@@ -2,6 +2,7 @@ pub mod Ancestors
 pub mod LocalSide
 pub mod LookUps
 pub mod Modes
+pub mod NamedEdits
 pub mod Search
 pub mod Pending
 pub mod Limits

@@ -159,6 +159,15 @@ is_rejected RejectedUnsafeName = true
 is_rejected RejectedNonCommit = true
 is_rejected _ = false
 
+-- those of them at which `git fetch` ends with another status than 0: a name that isn't safe is left out, and no failure
+abbrev pub is_failure : Mode → Bool
+is_failure RejectedUnsafeName = false
+is_failure mode = is_rejected mode
+
+-- the same of what a mapping asks for: where a tag is included because its object is there, `git fetch` passes over a tag that exists
+abbrev pub fails_as : Wanted → Mode → Bool
+fails_as w mode = is_failure mode && not w.is_implicit_tag
+
 -- what is written: the id, in place of what the ref holds
 abbrev pub edit_to : FinMap (slice_cmp nat_cmp) ObjectId → Option (List ℕ) → Option ObjectId → Option Edit
 edit_to refs (Some name) (Some new) = Some (record { previous = finite.get refs name; new = new })

@@ -8,5 +8,6 @@ mod named;
 pub mod unmatched;
 pub mod update;
 mod walk;
+mod written;
 
 pub use edit::{Edit, Update};

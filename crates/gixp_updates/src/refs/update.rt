@@ -2,7 +2,7 @@
 ghost use Rattle.std.specs.Prelude.{◌≡◌, IfOk};
 ghost use Rattle.std.specs.Option.{option_copied, option_map};
 ghost use Rattle.bstr.specs.Owned.{bstring_bytes};
-ghost use Rattle.gixp_updates.specs.Modes.{writes, is_rejected, AreUpdates};
+ghost use Rattle.gixp_updates.specs.Modes.{writes, is_rejected, is_failure, AreUpdates};
 ghost use Rattle.gixp_updates.specs.LocalSide.{local_with};
 ghost use Rattle.gixp_updates.specs.UpdateError.{Consults};
 ghost use Rattle.gixp_updates.specs.Limits.{KeepsLimitOfEach};
@@ -11,6 +11,7 @@ ghost use Rattle.gixp_graph.specs.Object.{commit_at};
 use crate::refs::edit::{Update, update_of, wanted_of};
 pub use crate::refs::error::Error;
 use crate::refs::mode::Local;
+pub use crate::refs::written::edits;
 use bstr::BString;
 use gixp_graph::{Graph, Objects, RefStore};
 use gixp_hash::ObjectId;
@@ -60,7 +61,8 @@ impl Mode {
         matches!(self, Mode::FastForward | Mode::Forced | Mode::New)
     }
 
-    /// Whether the ref stays though it was asked for: `git fetch` then ends with status 1.
+    /// Whether the ref stays though it was asked for. Whether a program fails for it, [`Update::fails`](crate::refs::Update::fails)
+    /// says: a tag that came along by `Tags::Included` is rejected where it moved, and `git fetch` ends with 0.
     pub fn is_rejected(&self) -> bool
         ensures { result ≡ is_rejected self.now }
     {
@@ -77,6 +79,16 @@ impl Mode {
             | Mode::RejectedCurrentlyCheckedOut
             | Mode::RejectedUnsafeName
             | Mode::RejectedNonCommit => true,
+        }
+    }
+
+    /// Whether the ref stays though it was asked for, and its name is safe: `git fetch` leaves out a name that isn't, with a message.
+    pub(crate) fn is_failure(&self) -> bool
+        ensures { result ≡ is_failure self.now }
+    {
+        match self {
+            Mode::RejectedUnsafeName => false,
+            other => other.is_rejected(),
         }
     }
 }

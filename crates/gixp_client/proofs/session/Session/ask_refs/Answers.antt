@@ -1,13 +1,12 @@
 -- All refs, as they are listed, or why they aren't.
-use Rattle.std.proofs.Common.{refl, ap, inr, ◌∙◌}
-use Rattle.gixp_requests.specs.Command.{agent_feature}
+use Rattle.std.proofs.Common.{refl, inr}
 use Rattle.gixp_client.proofs.MapLemmas.{as_lists, refused_by}
 use Rattle.gixp_client.proofs.session.Session.ask_refs.Goals as goal
 
 pub returns-in-Ok-clause-listed : goal.returns-in-Ok-clause-listed
 returns-in-Ok-clause-listed g c = (
   c.in-Ok.refs,
-  as_lists _ _ _ _ _ _ _ _ _ _ c.git-table.ensures (c.in_ok-name.ensures ∙ ap agent_feature c.as_str.ensures.value)
+  as_lists _ _ _ _ _ _ _ _ _ _ c.git-table.ensures c.in_ok-name.ensures
       c.in_ok-command.ensures c.in-Ok.ensures.listed.0 c.invoke_blocking-listed.ensures.lists,
   refl,
 )
@@ -15,7 +14,7 @@ returns-in-Ok-clause-listed g c = (
 pub returns-in-Err-clause-refused : goal.returns-in-Err-clause-refused
 returns-in-Err-clause-refused g c = inr (
   c.invoke_blocking-listed.result,
-  as_lists _ _ _ _ _ _ _ _ _ _ c.git-table.ensures (c.in_ok-name.ensures ∙ ap agent_feature c.as_str.ensures.value)
+  as_lists _ _ _ _ _ _ _ _ _ _ c.git-table.ensures c.in_ok-name.ensures
       c.in_ok-command.ensures refl c.invoke_blocking-listed.ensures.lists,
   refused_by _ _ _ _ c.in-Err.ensures.whole c.is_at_flush.ensures,
   c.behind_refusal-self.ensures,

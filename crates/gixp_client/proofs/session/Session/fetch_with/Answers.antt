@@ -7,18 +7,18 @@ use Rattle.gixp_client.proofs.session.Session.fetch_with.Goals as goal
 pub returns-in-Ok-clause-fetched : goal.returns-in-Ok-clause-fetched
 returns-in-Ok-clause-fetched g c = inr (
   c.ids-after.result.now,
-  in_session _ _ _ c.args.self.now.shaken c.args.request.now _ _ _ _ _ _ _ _ _ _ _ _ _ _ _ _
-      c.in_ok-store.ensures (sym c.ids-after.ensures) c.in_ok-agent.ensures
+  in_session _ _ _ c.args.self.now.shaken c.args.request.now _ _ _ _ _ _ _ _ _ _ _ _ _ _ _ _ _ _
+      c.in_ok-store.ensures (sym c.ids-after.ensures) c.in_ok-name.ensures.0 c.in_ok-name.ensures.1
       (came_of _ _ _ _ _ _ _ c.unless_reported-came.ensures.reported c.in-Ok.ensures.outcome)
       (ap g.T.ExtendedBufRead.reading (sym (c.unless_reported-came.ensures.transport ∙ c.take_kept-messages.ensures)))
       c.in_ok-known.ensures
-      c.carry_out-came.ensures.fetched,
+      c.carry_out-came.ensures.fetched.0,
   c.in-Ok.ensures.boundary,
 )
 
 pub returns-in-Ok-clause-stands : goal.returns-in-Ok-clause-stands
 returns-in-Ok-clause-stands g c =
-    stands_of _ _ _ _ _ _ _ _ c.unless_reported-came.ensures.reported c.in-Ok.ensures.outcome c.carry_out-came.ensures.state
+    stands_of _ _ _ _ _ _ _ _ _ c.unless_reported-came.ensures.reported c.in-Ok.ensures.outcome c.carry_out-came.ensures.fetched.1
 
 pub returns-in-Ok-clause-known : goal.returns-in-Ok-clause-known
 returns-in-Ok-clause-known g c =
@@ -29,10 +29,11 @@ pub returns-clause-refused : goal.returns-clause-refused
 returns-clause-refused g c = inr (
   c.carry_out-came.result,
   c.ids-after.result.now,
-  in_session _ _ _ c.args.self.now.shaken c.args.request.now _ _ _ _ _ _ _ _ _ _ _ _ _ _ _ _
-      c.in_ok-store.ensures (sym c.ids-after.ensures) c.in_ok-agent.ensures refl
+  in_session _ _ _ c.args.self.now.shaken c.args.request.now _ _ _ _ _ _ _ _ _ _ _ _ _ _ _ _ _ _
+      c.in_ok-store.ensures (sym c.ids-after.ensures) c.in_ok-name.ensures.0 c.in_ok-name.ensures.1 refl
       (ap g.T.ExtendedBufRead.reading (sym (c.unless_reported-came.ensures.transport ∙ c.take_kept-messages.ensures)))
       c.in_ok-known.ensures
-      c.carry_out-came.ensures.fetched,
-  refused_of _ _ _ _ _ _ _ _ c.unless_reported-came.ensures.reported c.in-Err.ensures.refused c.carry_out-came.ensures.state,
+      c.carry_out-came.ensures.fetched.0,
+  refused_of _ _ _ _ _ _ _ _ _ c.unless_reported-came.ensures.reported c.in-Err.ensures.refused c.carry_out-came.ensures.fetched.1,
+  λ unsent. ap (λ s. s.shaken) c.unless_reported-came.ensures.others ∙ c.carry_out-came.ensures.fetched.2 unsent,
 )

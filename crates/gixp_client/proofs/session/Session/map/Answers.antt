@@ -1,6 +1,5 @@
 -- A ref map of a session.
-use Rattle.std.proofs.Common.{inr, ap, refl, ◌∙◌}
-use Rattle.gixp_requests.specs.Command.{agent_feature}
+use Rattle.std.proofs.Common.{inr, refl}
 use Rattle.gixp_client.proofs.MapLemmas.{state_behind_map, unmapped_by, whole_by}
 use Rattle.gixp_client.proofs.RunLemmas.{as_obtained}
 use Rattle.gixp_client.proofs.session.Session.map.Goals as goal
@@ -9,7 +8,7 @@ pub returns-in-Ok-clause-mapped : goal.returns-in-Ok-clause-mapped
 returns-in-Ok-clause-mapped g c = record {
   context = c.in_ok-context.context;
   asked = c.in_ok-context.ensures;
-  obtains = as_obtained _ _ _ _ _ _ _ _ _ _ _ c.table.ensures (c.in_ok-name.ensures ∙ ap agent_feature c.as_str.ensures.value)
+  obtains = as_obtained _ _ _ _ _ _ _ _ _ _ _ c.table.ensures c.in_ok-name.ensures
       c.in-Ok.ensures.made.0 c.obtain-made.ensures.map;
 }
 
@@ -23,7 +22,7 @@ returns-in-Err-clause-refused g c = inr (
   record {
     context = c.in_ok-context.context;
     asked = c.in_ok-context.ensures;
-    obtains = as_obtained _ _ _ _ _ _ _ _ _ _ _ c.table.ensures (c.in_ok-name.ensures ∙ ap agent_feature c.as_str.ensures.value)
+    obtains = as_obtained _ _ _ _ _ _ _ _ _ _ _ c.table.ensures c.in_ok-name.ensures
         refl c.obtain-made.ensures.map;
   },
   unmapped_by _ _ _ _ _ _ c.in-Err.ensures.whole c.are_whole.ensures c.has_refs-is_here.ensures,

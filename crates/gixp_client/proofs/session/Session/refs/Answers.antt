@@ -1,11 +1,11 @@
 -- The refs that are lent.
-use Rattle.std.proofs.Common.{refl, ap, string_bytes}
-use Rattle.gixp_client.specs.ClientCalls.{client_feature}
+use Rattle.std.proofs.Common.{refl, ap}
+use Rattle.gixp_client.specs.ClientNames.{named_by}
 use Rattle.gixp_client.proofs.MapLemmas.{gives_by, some_is_not_none}
 use Rattle.gixp_client.proofs.session.Session.refs.Goals as goal
 
 pub returns-in-Some-clause-given : goal.returns-in-Some-clause-given
-returns-in-Some-clause-given g c = gives_by (client_feature (string_bytes c.args.self.now.agent)) c.args.self.now.shaken
+returns-in-Some-clause-given g c = gives_by (named_by c.args.self.now.name) c.args.self.now.shaken
     g.T.ExtendedBufRead.is_plain (g.T.ExtendedBufRead.reading c.args.self.now.transport.inner) _ _ c.in-Some.refs _ _ refl
     (λ v e. ap (λ s. s.shaken) (c.in_ok-list.ensures.here (some_is_not_none _ v e)).1)
     c.in_ok-list.ensures.listed c.in-Some.is c.deref.ensures.value

@@ -1,7 +1,7 @@
 -- A session of one fetch is one run of the law.
 use Rattle.std.proofs.Common.{[], inl, inr}
 use Rattle.gixp_client.proofs.PromiseLemmas.{named_run}
-use Rattle.gixp_client.proofs.once.fetch_once.Goals as goal
+use Rattle.gixp_client.proofs.once.fetch_once_with.Goals as goal
 
 pub returns : goal.returns
 returns g c = elim c.in_ok-fetched.ensures.fetched [
@@ -9,6 +9,6 @@ returns g c = elim c.in_ok-fetched.ensures.fetched [
   | inr f ↦ inr (
     _,
     named_run _ _ _ (c.sessions_are_runs.ensures _) [] _ _ _ c.args.request.now _ _ _ _ _ _ _ _ _ _ _ _ _ c.in_ok-session.ensures.named
-        c.in_ok-map.ensures.agent c.in_ok-session.ensures.opened c.in_ok-map.ensures.mapped c.in_ok-map.ensures.handshake f.1,
+        c.in_ok-session.ensures.nameless c.in_ok-map.ensures.name c.in_ok-session.ensures.opened c.in_ok-map.ensures.mapped c.in_ok-map.ensures.handshake f.1,
   )
 ]

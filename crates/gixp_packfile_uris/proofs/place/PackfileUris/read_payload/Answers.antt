@@ -1,0 +1,25 @@
+use Rattle.std.proofs.Common.{◌≡◌, ◌≤◌, ◌++◌, arith, length, take, drop, length-take, sym, ap, ◌∙◌}
+use Rattle.std.proofs.lemmas.List.{take-append-le, length-take-le}
+use Rattle.gixp_packfile_uris.proofs.PartsLemmas.{reads_payload, reads_no_line, no_range}
+use Rattle.gixp_packfile_uris.proofs.place.PackfileUris.read_payload.Goals as goal
+
+pub returns-clause-bytes : goal.returns-clause-bytes
+returns-clause-bytes g c =
+    let s = c.args.self.now in
+    let n = c.in_ok-count.count in
+    let fits : n ≤ length c.read.new.buf = c.in_ok-count.ensures.bound.0 in
+    let len = length-take c.min-most.result c.args.buf.now in
+    reads_payload (g.R.Read.remaining s.reader) (g.R.Read.remaining c.read.new.self) s.place s.next _ c.read.new.buf _ c.args.left n
+    c.requires.next (no_range s.room.items s.start s.end (omega arith)) fits (omega (arith, len)) (omega (arith, len))
+    c.in_ok-count.ensures.bytes.0 c.in_ok-count.ensures.bytes.1
+
+pub returns-clause-lines : goal.returns-clause-lines
+returns-clause-lines g c =
+    let s = c.args.self.now in
+    let n = c.in_ok-count.count in
+    let fits : n ≤ length c.read.new.buf = c.in_ok-count.ensures.bound.0 in
+    let len = length-take c.min-most.result c.args.buf.now in
+    reads_no_line (g.S.UriSink.lines s.sink) (g.R.Read.remaining s.reader) (g.R.Read.remaining c.read.new.self) s.place s.next _
+    (take n c.read.new.buf) c.args.left n
+    c.requires.next (no_range s.room.items s.start s.end (omega arith)) (length-take-le n c.read.new.buf fits) (omega (arith, len))
+    c.in_ok-count.ensures.bytes.0

@@ -1,0 +1,5 @@
+pub mod Line
+pub mod Order
+pub mod Parts
+pub mod Sink
+pub mod Uris

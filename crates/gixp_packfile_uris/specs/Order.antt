@@ -1,0 +1,46 @@
+-- The bytes that a reader holds.
+use Rattle.std.specs.Prelude.{◌≡◌, ℕ, Bool, true, false, ◌+◌, ◌-◌, ◌*◌, ◌<◌, ◌≤◌, nat_lt, if◌then◌else◌}
+use Rattle.gixp_packfile_uris.specs.declared.place.Place.{Place}
+use Rattle.gixp_packfile_uris.specs.declared.place.Place.TheVariants.{SectionStart, Section, Uris, Over}
+use Rattle.gixp_packfile_uris.specs.declared.place.Next.{Next}
+use Rattle.gixp_packfile_uris.specs.declared.place.Next.TheVariants.{Hold, Payload, Rest, Refused}
+
+abbrev pub is_holding : Next → Bool
+is_holding (Hold size) = true
+is_holding (Payload n) = false
+is_holding Rest = false
+is_holding Refused = false
+
+-- how many bytes of a line are to be held
+abbrev pub size_held : Next → ℕ
+size_held (Hold size) = size
+size_held (Payload n) = 0
+size_held Rest = 0
+size_held Refused = 0
+
+-- how many lines of the section came
+abbrev pub count_of : Place → ℕ
+count_of (Uris count) = count
+count_of SectionStart = 0
+count_of Section = 0
+count_of Over = 0
+
+-- a section has 1,000 lines at most; of a line that is held until it is whole some bytes are missing
+abbrev pub IsInOrder : (room start end : ℕ) → Place → Next → Type 0
+IsInOrder room start end place next =
+    (room ≡ 65520) × (start ≤ end) × (end ≤ 65520) × (count_of place ≤ 1000)
+    × (is_holding next ≡ true → (start ≡ 0) × (end < size_held next) × (4 ≤ size_held next) × (size_held next ≤ 65520))
+
+-- how many lines a reader can take at most before it passes something on
+abbrev pub lines_left : Place → ℕ
+lines_left SectionStart = 1002
+lines_left (Uris count) = 1001 - count
+lines_left Section = 0
+lines_left Over = 0
+
+-- how often it can go on at most before that, or before it finds the end: it reads a byte at least
+abbrev pub steps_left : Place → (start end : ℕ) → Next → ℕ
+steps_left place start end (Hold size) = lines_left place * 65521 + (65520 - end)
+steps_left place start end (Payload n) = if nat_lt start end then 0 else 1003 * 65521
+steps_left place start end Rest = 0
+steps_left place start end Refused = 0

@@ -1,0 +1,122 @@
+//! What a packet line of an answer is.
+ghost use Rattle.std.specs.Prelude.{◌≡◌, length};
+ghost use Rattle.std.specs.Char.{is_ascii_hexdigit};
+ghost use Rattle.std.specs.List.{list_all};
+ghost use Rattle.gixp_packfile_uris.specs.Line.{without_band, without_end, text_of, is_message, is_header, is_uri_byte, is_uri_line, start_fate, uri_fate, fate};
+
+use crate::place::{Fate, MOST_URIS, Place};
+
+// A line without band 1, where all lines are on bands.
+fn without_band(line: &[u8]) -> &[u8]
+    ensures { result.now ≡ without_band line.now }
+{
+    match line.strip_prefix(b"\x01") {
+        Some(text) => text,
+        None => line,
+    }
+}
+
+// A line without its line end.
+fn without_end(line: &[u8]) -> &[u8]
+    ensures { result.now ≡ without_end line.now }
+{
+    match line.strip_suffix(b"\n") {
+        Some(text) => text,
+        None => line,
+    }
+}
+
+/// The text of a line.
+pub(crate) fn text_of(line: &[u8]) -> &[u8]
+    ensures { result.now ≡ text_of line.now }
+{
+    without_end(without_band(line))
+}
+
+// Whether a line is a message on band 2 or 3.
+fn is_message(line: &[u8]) -> bool
+    ensures { result ≡ is_message line.now }
+{
+    match line.first() {
+        Some(band) => *band == 2 || *band == 3,
+        None => false,
+    }
+}
+
+// Whether the section begins with this line.
+fn is_header(line: &[u8]) -> bool
+    ensures { result ≡ is_header line.now }
+{
+    text_of(line) == b"packfile-uris".as_slice()
+}
+
+// Whether a byte may stand in a URI.
+fn is_uri_byte(byte: u8) -> bool
+    ensures { result ≡ is_uri_byte byte }
+{
+    byte > b' ' && byte != 127
+}
+
+// Whether all bytes are hexadecimal digits.
+fn are_digits(text: &[u8]) -> bool
+    ensures { result ≡ list_all is_ascii_hexdigit text.now }
+{
+    text.iter().all(|b| b.is_ascii_hexdigit())
+}
+
+// Whether all bytes may stand in a URI.
+fn are_uri_bytes(text: &[u8]) -> bool
+    ensures { result ≡ list_all is_uri_byte text.now }
+{
+    text.iter().all(|b| is_uri_byte(*b))
+}
+
+// Whether a text is the name of a pack, a space and a URI.
+fn is_uri_line(text: &[u8]) -> bool
+    ensures { result ≡ is_uri_line text.now }
+{
+    if text.len() < 42 {
+        return false;
+    }
+    let digits = &text[..40];
+    let gap = &text[40..41];
+    let uri = &text[41..];
+    are_digits(digits) && (gap == b" ".as_slice() && are_uri_bytes(uri))
+}
+
+// What becomes of a line at the start of a section.
+fn start_fate(line: &[u8]) -> Fate
+    ensures { result ≡ start_fate line.now }
+{
+    if is_header(line) {
+        Fate::Take(Place::Uris(0))
+    } else {
+        Fate::Pass(Place::Section)
+    }
+}
+
+// What becomes of a line in the section, after so many others.
+fn uri_fate(count: usize, line: &[u8]) -> Fate
+    ensures { result ≡ uri_fate count line.now }
+{
+    if count < MOST_URIS && is_uri_line(text_of(line)) {
+        Fate::Take(Place::Uris(count + 1))
+    } else {
+        Fate::Refuse
+    }
+}
+
+/// What becomes of a line.
+pub(crate) fn fate(place: Place, line: &[u8]) -> Fate
+    ensures { result ≡ fate place line.now }
+{
+    if is_message(line) {
+        return Fate::Pass(place);
+    }
+    match place {
+        Place::SectionStart => start_fate(line),
+        Place::Uris(count) => uri_fate(count, line),
+        Place::Section => Fate::Pass(Place::Section),
+        Place::Over => Fate::Pass(Place::Over),
+    }
+}

@@ -1,0 +1,370 @@
+//! A reader of packet lines that takes the section `packfile-uris` out.
+ghost use Rattle.std.specs.Prelude.{◌≡◌, if◌then◌else◌, [], ◌∷◌, ◌+◌, ◌<◌, ◌≤◌, length, take, false, vec_len, IfOk};
+ghost use Rattle.std.specs.Option.{option_map};
+ghost use Rattle.std.specs.Io.{ReadsAtMost};
+ghost use Rattle.std.specs.Io.KnownBytes.{Consumes, ReadConsumes};
+ghost use Rattle.gixp_packetline.specs.Frames.{size_of};
+ghost use Rattle.gixp_packfile_uris.specs.Parts.{in_uris, after_delimiter, delimiter_after, flush_after, line_after, digits_after, fate_after, takes_uri, parts_of, to_come, lines_of, passed_from, lines_from, steps_of, ReadsInto, ReadsHeld, GivesOrSteps};
+ghost use Rattle.gixp_packfile_uris.specs.Order.{is_holding};
+ghost use Rattle.gixp_packfile_uris.specs.Sink.{TakesLines, all_lines, SameLines};
+
+use crate::line::{fate, text_of};
+use crate::place::{After, Fate, Next, PackfileUris, Place, UriSink};
+use hex;
+use std::alloc::{AllocError, Global};
+use std::io;
+use std::io::{ErrorKind, Read};
+
+// How many bytes a packet line has at most.
+const MOST_BYTES: usize = 65520;
+
+// The number of four digits.
+fn size_of(digits: &[u8]) -> Option<usize>
+    requires { length digits.now ≡ 4 }
+    ensures { result ≡ size_of digits.now }
+{
+    let mut pair = [0; 2];
+    match hex::decode_to_slice(digits, &mut pair) {
+        Ok(()) => {
+            let [high, low] = pair;
+            Some(usize::from(high) * 256 + usize::from(low))
+        }
+        Err(_) => None,
+    }
+}
+
+// Whether this is in the section.
+fn in_uris(place: Place) -> bool
+    ensures { result ≡ in_uris place }
+{
+    match place {
+        Place::Uris(_) => true,
+        Place::SectionStart | Place::Section | Place::Over => false,
+    }
+}
+
+// Where a section begins after a delimiter packet.
+fn after_delimiter(place: Place) -> Place
+    ensures { result ≡ after_delimiter place }
+{
+    match place {
+        Place::SectionStart | Place::Section => Place::SectionStart,
+        Place::Uris(_) | Place::Over => Place::Over,
+    }
+}
+
+// What comes after a delimiter packet.
+fn delimiter_after(place: Place) -> After
+    ensures { result ≡ delimiter_after place }
+{
+    if in_uris(place) {
+        After {
+            place: Place::Over,
+            next: Next::Hold(4),
+            count: 0,
+        }
+    } else {
+        After {
+            place: after_delimiter(place),
+            next: Next::Payload(0),
+            count: 4,
+        }
+    }
+}
+
+// What comes after a flush packet.
+fn flush_after(place: Place) -> After
+    ensures { result ≡ flush_after place }
+{
+    if in_uris(place) {
+        After {
+            place,
+            next: Next::Refused,
+            count: 0,
+        }
+    } else {
+        After {
+            place: Place::SectionStart,
+            next: Next::Payload(0),
+            count: 4,
+        }
+    }
+}
+
+// What comes after the digits of a line of this size.
+fn line_after(place: Place, size: usize) -> After
+    ensures { result ≡ line_after place size }
+{
+    let next = match place {
+        Place::SectionStart | Place::Uris(_) => Next::Hold(size),
+        Place::Section | Place::Over => Next::Payload(size.saturating_sub(4)),
+    };
+    After {
+        place,
+        next,
+        count: 4,
+    }
+}
+
+// What comes after four digits.
+fn digits_after(place: Place, size: Option<usize>) -> After
+    ensures { result ≡ digits_after place size }
+{
+    match size {
+        Some(1) => delimiter_after(place),
+        Some(0 | 2) => flush_after(place),
+        Some(size) if size > 4 && size <= MOST_BYTES => line_after(place, size),
+        _ => After {
+            place,
+            next: Next::Rest,
+            count: 4,
+        },
+    }
+}
+
+// What comes after a whole line of so many bytes.
+fn fate_after(place: Place, fate: Fate, count: usize) -> After
+    ensures { result ≡ fate_after place fate count }
+{
+    match fate {
+        Fate::Pass(place) => After {
+            place,
+            next: Next::Payload(0),
+            count,
+        },
+        Fate::Take(place) => After {
+            place,
+            next: Next::Hold(4),
+            count: 0,
+        },
+        Fate::Refuse => After {
+            place,
+            next: Next::Refused,
+            count: 0,
+        },
+    }
+}
+
+// Whether the sink takes a line.
+fn takes_uri(place: Place, fate: Fate) -> bool
+    ensures { result ≡ takes_uri place fate }
+{
+    match fate {
+        Fate::Take(_) => in_uris(place),
+        Fate::Pass(_) | Fate::Refuse => false,
+    }
+}
+
+// Has the sink take a line, where it is one of the section.
+fn take_if<S: UriSink>(sink: &mut S, is_taken: bool, line: &[u8])
+    ensures { TakesLines (S.lines sink.old) (S.lines sink.new) (if is_taken then line.now ∷ [] else []) }
+{
+    if is_taken {
+        sink.take(line);
+    }
+}
+
+// Reads into the room between these places.
+fn read_into<R: Read>(
+    reader: &mut R,
+    room: &mut Vec<u8>,
+    end: usize,
+    size: usize,
+) -> io::Result<usize>
+    requires order { end < size }
+    requires there { size ≤ vec_len room.old }
+    ensures len { vec_len room.new ≡ vec_len room.old }
+    ensures front { take end room.new.items ≡ take end room.old.items }
+    ensures bytes { ReadsInto (R.remaining reader.old) (R.remaining reader.new) end size room.new.items result }
+{
+    reader.read(&mut room[end..size])
+}
+
+impl<R: Read + Drop, S: UriSink + Drop> PackfileUris<R, S> {
+    /// The packet lines of this reader, which is at the start of a capability advertisement or of an answer.
+    ///
+    /// # Errors
+    ///
+    /// An allocation failure alone.
+    pub fn new(alloc: Global, reader: R, sink: S) -> Result<PackfileUris<R, S>, AllocError>
+        ensures bytes { IfOk result (λ p. to_come R.remaining p ≡ option_map (λ bytes. (parts_of bytes).passed) (R.remaining reader)) }
+        ensures lines { IfOk result (λ p. lines_of R.remaining S.lines p
+            ≡ all_lines (S.lines sink) (option_map (λ bytes. (parts_of bytes).lines) (R.remaining reader))) }
+        ensures unread { IfOk result (λ p. p.reader ≡ reader) }
+    {
+        Ok(PackfileUris {
+            reader,
+            sink,
+            place: Place::SectionStart,
+            next: Next::Hold(4),
+            room: vec![in alloc; 0; MOST_BYTES]?,
+            start: 0,
+            end: 0,
+        })
+    }
+}
+
+impl<R: Read, S: UriSink> PackfileUris<R, S> {
+    // Gives bytes that are held.
+    fn give(&mut self, buf: &mut [u8]) -> usize
+        requires held { self.old.start < self.old.end }
+        requires known { is_holding self.old.next ≡ false }
+        requires room { 0 < length buf.old }
+        ensures some { 0 < result }
+        ensures bound { result ≤ length buf.new }
+        ensures given { Consumes (to_come R.remaining self.old) (to_come R.remaining self.new) (take result buf.new) }
+        ensures lines { SameLines (lines_of R.remaining S.lines self.old) (lines_of R.remaining S.lines self.new) }
+    {
+        let count = (self.end - self.start).min(buf.len());
+        let end = self.start + count;
+        buf[..count].copy_from_slice(&self.room[self.start..end]);
+        self.start = end;
+        count
+    }
+
+    // Goes on after the four digits of a packet line.
+    fn begin_line(&mut self)
+        requires { self.old.next ≡ Next.Hold 4 }
+        ensures bytes { to_come R.remaining self.new
+            ≡ passed_from self.old.place 4 (take 4 self.old.room.items) (R.remaining self.old.reader) }
+        ensures lines { SameLines (lines_from (S.lines self.old.sink) self.old.place 4 (take 4 self.old.room.items)
+            (R.remaining self.old.reader)) (lines_of R.remaining S.lines self.new) }
+        ensures fewer { steps_of self.new < steps_of self.old }
+    {
+        let after = digits_after(self.place, size_of(&self.room[..4]));
+        self.place = after.place;
+        self.next = after.next;
+        self.end = after.count;
+    }
+
+    // Goes on after a whole line of so many bytes.
+    fn end_line(&mut self, size: usize)
+        requires held { self.old.next ≡ Next.Hold size }
+        requires line { 4 < size }
+        ensures bytes { to_come R.remaining self.new
+            ≡ passed_from self.old.place size (take size self.old.room.items) (R.remaining self.old.reader) }
+        ensures lines { SameLines (lines_from (S.lines self.old.sink) self.old.place size (take size self.old.room.items)
+            (R.remaining self.old.reader)) (lines_of R.remaining S.lines self.new) }
+        ensures fewer { steps_of self.new < steps_of self.old }
+    {
+        let line = &self.room[4..size];
+        let fate = fate(self.place, line);
+        take_if(&mut self.sink, takes_uri(self.place, fate), text_of(line));
+        let after = fate_after(self.place, fate, size);
+        self.place = after.place;
+        self.next = after.next;
+        self.end = after.count;
+    }
+
+    // Goes on where so many bytes of a line are held.
+    fn take_bytes(&mut self, size: usize, end: usize)
+        requires held { self.old.next ≡ Next.Hold size }
+        requires more { self.old.end < end }
+        requires bound { end ≤ size }
+        ensures bytes { to_come R.remaining self.new
+            ≡ passed_from self.old.place size (take end self.old.room.items) (R.remaining self.old.reader) }
+        ensures lines { SameLines (lines_from (S.lines self.old.sink) self.old.place size (take end self.old.room.items)
+            (R.remaining self.old.reader)) (lines_of R.remaining S.lines self.new) }
+        ensures fewer { steps_of self.new < steps_of self.old }
+    {
+        if end < size {
+            self.end = end;
+        } else if size == 4 {
+            self.begin_line();
+        } else {
+            self.end_line(size);
+        }
+    }
+
+    // Reads more of a line. Returns whether nothing more is passed on, since the reader is at its end.
+    fn read_held(&mut self, size: usize) -> io::Result<bool>
+        requires { self.old.next ≡ Next.Hold size }
+        ensures bytes { ReadsHeld (to_come R.remaining self.old) (to_come R.remaining self.new) (steps_of self.old) (steps_of self.new)
+            result }
+        ensures lines { SameLines (lines_of R.remaining S.lines self.old) (lines_of R.remaining S.lines self.new) }
+    {
+        let count = read_into(&mut self.reader, &mut self.room, self.end, size)?;
+        if count > 0 {
+            self.take_bytes(size, self.end + count);
+            return Ok(false);
+        }
+        if self.end == 0 {
+            return Ok(true);
+        }
+        self.next = Next::Rest;
+        Ok(false)
+    }
+
+    // Reads of a payload.
+    fn read_payload(&mut self, left: usize, buf: &mut [u8]) -> io::Result<usize>
+        requires some { 0 < left }
+        requires next { self.old.next ≡ Next.Payload left }
+        requires all_given { self.old.start ≡ self.old.end }
+        requires room { 0 < length buf.old }
+        ensures bound { ReadsAtMost result buf.new }
+        ensures bytes { ReadConsumes (to_come R.remaining self.old) (to_come R.remaining self.new) result buf.new }
+        ensures lines { SameLines (lines_of R.remaining S.lines self.old) (lines_of R.remaining S.lines self.new) }
+    {
+        let most = left.min(buf.len());
+        let count = self.reader.read(&mut buf[..most])?;
+        self.next = Next::Payload(left - count);
+        Ok(count)
+    }
+
+    // Gives what it can, or takes a step without it.
+    fn step(&mut self, buf: &mut [u8]) -> io::Result<Option<usize>>
+        requires { 0 < length buf.old }
+        ensures bytes { GivesOrSteps (to_come R.remaining self.old) (to_come R.remaining self.new) (steps_of self.old) (steps_of self.new)
+            buf.new result }
+        ensures lines { SameLines (lines_of R.remaining S.lines self.old) (lines_of R.remaining S.lines self.new) }
+    {
+        if let Next::Hold(size) = self.next {
+            if self.read_held(size)? {
+                return Ok(Some(0));
+            }
+            return Ok(None);
+        }
+        if self.start < self.end {
+            return Ok(Some(self.give(buf)));
+        }
+        match self.next {
+            Next::Payload(0) => {
+                self.start = 0;
+                self.end = 0;
+                self.next = Next::Hold(4);
+                Ok(None)
+            }
+            Next::Payload(left) => Ok(Some(self.read_payload(left, buf)?)),
+            Next::Rest => Ok(Some(self.reader.read(buf)?)),
+            Next::Refused | Next::Hold(_) => Err(io::Error::from(ErrorKind::InvalidData)),
+        }
+    }
+
+    /// Reads as `Read::read` does, which calls this.
+    ///
+    /// # Errors
+    ///
+    /// Those of the reader inside, and `InvalidData` from a line on that is refused.
+    pub fn read_passing(&mut self, buf: &mut [u8]) -> io::Result<usize>
+        ensures bound { ReadsAtMost result buf.new }
+        ensures bytes { ReadConsumes (to_come R.remaining self.old) (to_come R.remaining self.new) result buf.new }
+        ensures lines { SameLines (lines_of R.remaining S.lines self.old) (lines_of R.remaining S.lines self.new) }
+    {
+        if buf.is_empty() {
+            return Ok(0);
+        }
+        loop {
+            if let Some(count) = self.step(buf)? {
+                return Ok(count);
+            }
+        }
+    }
+}
+
+impl<R: Read, S: UriSink> Read for PackfileUris<R, S> {
+    ghost remaining = { to_come R.remaining };
+
+    fn read(&mut self, buf: &mut [u8]) -> io::Result<usize> {
+        self.read_passing(buf)
+    }
+}

@@ -1,0 +1,61 @@
+//! The session id that a server may log, in git's form (git-config, "transfer.advertiseSID").
+use crate::setup::variable;
+use crate::trouble::Trouble;
+use gixp_remote_rules::{Settings, is_true};
+use jiff::Timestamp;
+use sha1::Sha1;
+use std::alloc::Global;
+use std::{fs, process};
+
+// The file of the host's name, with an LF behind it.
+const HOST_NAME: &str = "/proc/sys/kernel/hostname";
+
+// The host, by the first digits of the SHA-1 of its name.
+fn host_part(rt: &HostRuntime) -> Result<String, Trouble> {
+    let alloc = rt.alloc();
+    let Ok(line) = fs::read(rt, HOST_NAME) else {
+        return Ok(String::from_str(alloc, "Localhost")?);
+    };
+    let name = line.strip_suffix(b"\n").unwrap_or(&line);
+    let [a, b, c, d, ..] = Sha1::digest(name);
+    Ok(format!(in alloc; "H{a:02x}{b:02x}{c:02x}{d:02x}")?)
+}
+
+// The time in UTC to the microsecond, the host, and the number of this process.
+fn own_part(rt: &HostRuntime) -> Result<String, Trouble> {
+    let alloc = rt.alloc();
+    let unread = Trouble::Other("the clock can't be read");
+    let Ok(now) = Timestamp::now(rt) else {
+        return Err(unread);
+    };
+    let Ok(time) = now.strftime(alloc, "%Y%m%dT%H%M%S.%6fZ") else {
+        return Err(unread);
+    };
+    let host = host_part(rt)?;
+    let number = process::id(rt.process());
+    Ok(format!(in alloc; "{time}-{host}-P{number:08x}")?)
+}
+
+// Whether the user has it sent.
+fn is_wanted(alloc: Global, settings: &Settings) -> Result<bool, Trouble> {
+    let Some(chosen) = settings.last(b"transfer.advertisesid") else {
+        return Ok(false);
+    };
+    match is_true(chosen) {
+        Some(is_wanted) => Ok(is_wanted),
+        None => Err(Trouble::of_word(alloc, "bad boolean value of", chosen.name.as_bytes())),
+    }
+}
+
+/// The id of this session where the user has it sent: behind that of the git which started this helper, where that has one.
+pub(crate) fn session_id(rt: &HostRuntime, settings: &Settings) -> Result<Option<String>, Trouble> {
+    let alloc = rt.alloc();
+    if !is_wanted(alloc, settings)? {
+        return Ok(None);
+    }
+    let own = own_part(rt)?;
+    match variable(rt, "GIT_TRACE2_PARENT_SID") {
+        Some(parent) if !parent.is_empty() => Ok(Some(format!(in alloc; "{parent}/{own}")?)),
+        _ => Ok(Some(own)),
+    }
+}

@@ -1,0 +1,88 @@
+//! A fetch by a negotiator that passes over what it can't read.
+ghost use Rattle.std.specs.Prelude.{◌≡◌, ◌⊎◌, [], None, Ok, IfOk, codes};
+ghost use Rattle.gixp_packetline.specs.Reading.{Reading};
+ghost use Rattle.gixp_fetch.specs.Fetch.{parties_of};
+ghost use Rattle.gixp_client.specs.ClientCalls.{session_knowledge};
+ghost use Rattle.gixp_client.specs.ClientNames.{client_feature};
+ghost use Rattle.gixp_client.specs.ClientPromise.{IsOneRun};
+
+use crate::fetches::branches;
+use crate::servers::{GREETING, PACK, REFS, server};
+use gixp_client::{
+    Error, Fetched, Repository, Request, SessionNegotiation, Silent, fetch_once_with,
+};
+use gixp_doubles::Lenient;
+use gixp_fetch::consume::{ConsumePack, CopyPack};
+use gixp_fetch::mapped::NegotiatesMap;
+use gixp_graph::{Find, RefStore};
+use gixp_memory::{StoredObjects, StoredRefs};
+use gixp_negotiate::negotiate::Negotiate;
+use gixp_progress::Discard;
+use gixp_refmap::RefMap;
+use gixp_shallow::{ShallowMemory, ShallowStore};
+use gixp_sidebands::{Interrupt, NeverInterrupt};
+use gixp_wire::Transport;
+use std::alloc::Global;
+use std::io::Write;
+
+// One fetch by it, which is one run of the law.
+fn fetch_leniently<'a, T: Transport + Drop, W: Write>(
+    alloc: Global,
+    transport: T,
+    request: &'a Request,
+    repository: Repository<'a, StoredObjects, StoredRefs>,
+    negotiator: &'a mut Lenient,
+    pack: &mut CopyPack<W>,
+) -> Result<(RefMap, Fetched), Error>
+    ensures { IfOk result (λ came. ((came.0.mappings.items ≡ []) × (came.1.outcome ≡ None) × (pack.new ≡ pack.old))
+        ⊎ ((end : Reading) × IsOneRun
+        (parties_of ⟦<SessionNegotiation<'a, StoredObjects, StoredRefs, Lenient> as Negotiate>⟧.calls
+        ⟦<ShallowMemory as ShallowStore>⟧.calls ⟦<NeverInterrupt as Interrupt>⟧.says ⟦<CopyPack<W> as ConsumePack<Discard>>⟧.consumes
+        T.is_plain)
+        ⟦<SessionNegotiation<'a, StoredObjects, StoredRefs, Lenient> as NegotiatesMap>⟧.map_of
+        ⟦<SessionNegotiation<'a, StoredObjects, StoredRefs, Lenient> as NegotiatesMap>⟧.knows
+        (client_feature (codes "first/1.0")) [] request.now (T.reading transport) came.0
+        (session_knowledge request.now (⟦<StoredObjects as Find>⟧.contents repository.entry.objects.now)
+        (⟦<StoredRefs as RefStore>⟧.refs repository.entry.refs.now))
+        repository.entry.boundary.now pack.old (Ok came.1.outcome) end pack.new)) }
+{
+    fetch_once_with(
+        alloc,
+        transport,
+        "first/1.0",
+        Silent,
+        request,
+        repository,
+        negotiator,
+        pack,
+    )
+}
+
+#[test]
+fn a_lenient_negotiator_comes_to_its_pack(rt: HostRuntime) -> Result<(), Error> {
+    let alloc = rt.alloc();
+    let transport = server(alloc, &[GREETING, REFS, PACK])?;
+    let request = branches(alloc)?;
+    let objects = StoredObjects::new(alloc);
+    let mut refs = StoredRefs::new(alloc);
+    let repository = Repository {
+        objects: &objects,
+        refs: &mut refs,
+        boundary: &[],
+    };
+    let mut negotiator = Lenient::new(alloc);
+    let mut pack = CopyPack {
+        writer: Vec::new(alloc),
+    };
+    let (_map, fetched) = fetch_leniently(
+        alloc,
+        transport,
+        &request,
+        repository,
+        &mut negotiator,
+        &mut pack,
+    )?;
+    assert!(rt; fetched.has_pack());
+    assert!(rt; pack.writer.as_slice() == b"PACK".as_slice());
+    Ok(())
+}

@@ -1,0 +1,24 @@
+//! A client with traits of its own: a repository in sorted lists, a listener that counts, and a consumer with a limit.
+#![tactic(auto)]
+
+mod listener;
+mod objects;
+mod pack;
+mod promised;
+mod refs;
+mod rows;
+mod status;
+#[cfg(test)]
+mod tests;
+mod watch;
+mod words;
+
+pub use listener::Counted;
+pub use objects::SortedObjects;
+pub use pack::{LimitedPack, PackTooLarge};
+pub use promised::promised_fetch;
+pub use refs::SortedRefs;
+pub use rows::{ObjectRow, RefRow};
+pub use status::exit_status;
+pub use watch::{Fetches, fetch_twice};
+pub use words::ReadError;

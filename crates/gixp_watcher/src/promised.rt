@@ -1,0 +1,51 @@
+//! A fetch with all that the law `headline` promises of it, over the types of this crate.
+ghost use Rattle.std.specs.Prelude.{◌≡◌, ◌⊎◌, [], None, Ok, IfOk, codes};
+ghost use Rattle.gix_protocol.specs.Reading.{Reading};
+ghost use Rattle.gix_protocol.specs.Fetch.{parties_of};
+ghost use Rattle.gix_protocol.specs.ClientCalls.{session_knowledge};
+ghost use Rattle.gix_protocol.specs.ClientNames.{client_feature};
+ghost use Rattle.gix_protocol.specs.ClientPromise.{IsOneRun};
+
+use crate::objects::SortedObjects;
+use crate::pack::LimitedPack;
+use crate::refs::SortedRefs;
+use gix_protocol::client::{
+    Error, Fetched, Repository, Request, SessionNegotiation, Silent, fetch_once,
+};
+use gix_protocol::fetch::negotiate::{AnyNegotiator, Find, Negotiate, NegotiatesMap, RefStore};
+use gix_protocol::fetch::{ConsumePack, RefMap, ShallowMemory, ShallowStore};
+use gix_protocol::transport::{Discard, Interrupt, NeverInterrupt, Transport};
+use std::alloc::Global;
+use std::io::Write;
+
+/// Fetches what a request asks for. Unless nothing is mapped it is one run of the law: its refs, its mappings, its requests and how
+/// many they are, and the bytes of its pack are those that `IsOneRun` says (`promise`).
+pub fn promised_fetch<'a, T: Transport + Drop, W: Write>(
+    alloc: Global,
+    transport: T,
+    request: &'a Request,
+    repository: Repository<'a, SortedObjects, SortedRefs>,
+    pack: &mut LimitedPack<W>,
+) -> Result<(RefMap, Fetched), Error>
+    ensures { IfOk result (λ came. ((came.0.mappings.items ≡ []) × (came.1.outcome ≡ None) × (pack.new ≡ pack.old))
+        ⊎ ((end : Reading) × IsOneRun
+        (parties_of ⟦<SessionNegotiation<'a, SortedObjects, SortedRefs, AnyNegotiator> as Negotiate>⟧.calls
+        ⟦<ShallowMemory as ShallowStore>⟧.calls ⟦<NeverInterrupt as Interrupt>⟧.says ⟦<LimitedPack<W> as ConsumePack<Discard>>⟧.consumes
+        T.is_plain)
+        ⟦<SessionNegotiation<'a, SortedObjects, SortedRefs, AnyNegotiator> as NegotiatesMap>⟧.map_of
+        ⟦<SessionNegotiation<'a, SortedObjects, SortedRefs, AnyNegotiator> as NegotiatesMap>⟧.knows
+        (client_feature (codes "watcher/1.0")) [] request.now (T.reading transport) came.0
+        (session_knowledge request.now (⟦<SortedObjects as Find>⟧.contents repository.entry.objects.now)
+        (⟦<SortedRefs as RefStore>⟧.refs repository.entry.refs.now))
+        repository.entry.boundary.now pack.old (Ok came.1.outcome) end pack.new)) }
+{
+    fetch_once(
+        alloc,
+        transport,
+        "watcher/1.0",
+        Silent,
+        request,
+        repository,
+        pack,
+    )
+}
