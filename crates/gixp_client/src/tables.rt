@@ -22,11 +22,17 @@ pub enum UriProtocols {
 type Lines = &'static [(&'static str, Option<&'static str>)];
 
 const THIN: (&str, Option<&str>) = ("thin-pack", None);
+
 const OFFSETS: (&str, Option<&str>) = ("ofs-delta", None);
+
 const BANDS: (&str, Option<&str>) = ("sideband-all", Some("sideband-all"));
+
 const QUIET: (&str, Option<&str>) = ("no-progress", None);
+
 const HTTP: (&str, Option<&str>) = ("packfile-uris http", Some("packfile-uris"));
+
 const HTTPS: (&str, Option<&str>) = ("packfile-uris https", Some("packfile-uris"));
+
 const BOTH: (&str, Option<&str>) = ("packfile-uris http,https", Some("packfile-uris"));
 
 static QUIET_V1_FETCH: [(&str, Option<&str>); 13] = [
@@ -48,13 +54,24 @@ static QUIET_V1_FETCH: [(&str, Option<&str>); 13] = [
 static QUIET_ARGUMENTS: [(&str, Option<&str>); 4] = [THIN, OFFSETS, BANDS, QUIET];
 
 static ARGUMENTS_HTTP: [(&str, Option<&str>); 4] = [THIN, OFFSETS, BANDS, HTTP];
+
 static ARGUMENTS_HTTPS: [(&str, Option<&str>); 4] = [THIN, OFFSETS, BANDS, HTTPS];
+
 static ARGUMENTS_BOTH: [(&str, Option<&str>); 4] = [THIN, OFFSETS, BANDS, BOTH];
+
 static QUIET_HTTP: [(&str, Option<&str>); 5] = [THIN, OFFSETS, BANDS, QUIET, HTTP];
+
 static QUIET_HTTPS: [(&str, Option<&str>); 5] = [THIN, OFFSETS, BANDS, QUIET, HTTPS];
+
 static QUIET_BOTH: [(&str, Option<&str>); 5] = [THIN, OFFSETS, BANDS, QUIET, BOTH];
 
-static URI_FEATURES: [&str; 5] = ["shallow", "filter", "ref-in-want", "sideband-all", "packfile-uris"];
+static URI_FEATURES: [&str; 5] = [
+    "shallow",
+    "filter",
+    "ref-in-want",
+    "sideband-all",
+    "packfile-uris",
+];
 
 static URI_PREFIXES: [&str; 16] = [
     "want ",

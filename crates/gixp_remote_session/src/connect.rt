@@ -19,11 +19,11 @@ use bstr::BString;
 use gix_protocol::client::UriProtocols;
 use gix_protocol::transport::{Connection, Discard, Opening, Protocol};
 use gixp_fetch_session::session::open;
-use gixp_remote_rules::{
-    Choices, Family, Program, Request, Settings, SshCall, Start, Task, UriSetting, Variant, here_words,
-    probe_words, proxy_for, server_variables, server_words, web_words,
-};
 use gixp_packfile_uris::PackfileUris;
+use gixp_remote_rules::{
+    Choices, Family, Program, Request, Settings, SshCall, Start, Task, UriSetting, Variant,
+    here_words, probe_words, proxy_for, server_variables, server_words, web_words,
+};
 use gixp_stateless::Answers;
 use gixp_url::{Address, Transport};
 use std::alloc::AllocError;
