@@ -47,8 +47,8 @@ pub use ssh::{
 pub use told::{batch_told, capabilities, tells_closed};
 pub use unpacking::{limit_by, limit_in, may_unpack, pack_count, unpack_words, unpacks};
 pub use uris::{
-    DownloadError, UriSetting, check_words, download_words, downloaded, is_named, part_words, tells_more,
-    uri_setting,
+    DownloadError, UriSetting, check_words, download_words, downloaded, is_named, part_words,
+    tells_more, uri_setting,
 };
 pub use words::{
     checks_closed, here_words, index_words, joined, object_check, object_variables,

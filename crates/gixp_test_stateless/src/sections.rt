@@ -114,7 +114,12 @@ fn expect<R: Abort + AllocGlobal>(rt: &R, case: Case<'_>) -> Result<(), Fail> {
 fn takes_the_section_out(rt: HostRuntime) -> Result<(), Fail> {
     let cases: [Case<'_>; 5] = [
         // no section
-        (b"000cpackfile0005x0000", b"000cpackfile0005x0000", b"", false),
+        (
+            b"000cpackfile0005x0000",
+            b"000cpackfile0005x0000",
+            b"",
+            false,
+        ),
         // one before the pack, with line ends and without them
         (
             b"0012packfile-uris\n00370123456789012345678901234567890123456789 http://a/b0001000dpackfile\n0005x0000",
@@ -170,7 +175,12 @@ fn leaves_other_sections(rt: HostRuntime) -> Result<(), Fail> {
         // less than a packet line
         (b"0011packfile-ur", b"0011packfile-ur", b"", false),
         // what counts no packet line
-        (b"zzzz0011packfile-uris0001", b"zzzz0011packfile-uris0001", b"", false),
+        (
+            b"zzzz0011packfile-uris0001",
+            b"zzzz0011packfile-uris0001",
+            b"",
+            false,
+        ),
     ];
     for case in cases {
         expect(&rt, case)?;
@@ -182,7 +192,12 @@ fn leaves_other_sections(rt: HostRuntime) -> Result<(), Fail> {
 fn refuses_other_lines(rt: HostRuntime) -> Result<(), Fail> {
     let cases: [Case<'_>; 6] = [
         // no URI
-        (b"0005x00010011packfile-uris0005y0001", b"0005x0001", b"", true),
+        (
+            b"0005x00010011packfile-uris0005y0001",
+            b"0005x0001",
+            b"",
+            true,
+        ),
         // a digit too few, and one that is none
         (
             b"0011packfile-uris0036123456789012345678901234567890123456789 http://a/b0001",
