@@ -1,5 +1,5 @@
 -- What a session hands to the calls below.
-use Rattle.std.proofs.Common.{◌≡◌, Bool, List, [], ◌∷◌, Option, Some, None, Result, Ok, Err, Vec, inl, refl, subst, sym, ap, ◌∙◌}
+use Rattle.std.proofs.Common.{◌≡◌, Bool, true, false, List, [], ◌∷◌, Option, Some, None, Result, Ok, Err, Vec, inl, refl, subst, sym, ap, ◌∙◌}
 use Rattle.std.specs.declared.alloc.Global.{Global}
 use Rattle.gixp_response.specs.Answer.{update_items}
 use Rattle.std.specs.Prelude.{if◌then◌else◌}
@@ -34,7 +34,10 @@ use Rattle.gixp_client.specs.Boundaries.{has_id}
 use Rattle.gixp_client.specs.Unshallowed.{unknown_id, unknown_unshallow, unless_taken, known_alone}
 use Rattle.gixp_client.specs.ClientCalls.{session_call, TellsKnown, CarriesFetch, HoldsFetch, FetchesMap, FetchesInSession}
 use Rattle.gixp_client.specs.declared.request.Request.{Request}
+use Rattle.gixp_client.specs.SessionStates.{behind_fetch, IsRefusedFetch}
+use Rattle.gixp_client.specs.declared.state.State.{State}
 use Rattle.gixp_client.specs.declared.watched.Watched.{Watched}
+use Rattle.gixp_packetline.specs.declared.protocol.Protocol.{Protocol}
 
 -- a fetch with these parts is one with those of the session
 pub as_session : {N I S A C P X : Type 0} (parties : Parties N I A S C P X) (table : TableValue) (agent agent' : FeatureValue)
@@ -146,23 +149,27 @@ in_session parties map_of knows shaken request made known is_in boundary boundar
       };
     }
 
--- the same with what is so by whether a round was negotiated
-pub so_in_session : {N I A C P X : Type 0} (parties : Parties (Watched N) I A ShallowMemory C P X) (map_of : Watched N → RefMap)
+-- the same of one that was refused, and where the session stands after it
+pub refused_in_session : {N I A C P X : Type 0} (parties : Parties (Watched N) I A ShallowMemory C P X) (map_of : Watched N → RefMap)
     (knows : Watched N → Knowledge) (shaken : Handshake) (request : Request) (made : RefMap) (known : Knowledge)
     (is_in : ObjectId → Bool) (boundary boundary' : List ObjectId) (old : Reading) (consumer : C)
-    (told told' : Result (Option Outcome) Error) (new new' : Reading) (consumer' : C) (store store' : ShallowMemory)
-    (agent agent' : FeatureValue) (more more' : List FeatureValue) (IsSo : Bool → Type 0) → store.ids.items ≡ boundary → store'.ids.items ≡ boundary'
-    → agent ≡ agent' → more ≡ more' → told ≡ told' → new ≡ new'
+    (told : Result (Option Outcome) Error) (new new' : Reading) (consumer' : C) (store store' : ShallowMemory)
+    (agent agent' : FeatureValue) (more more' : List FeatureValue) (version : Protocol)
+    (e : Error) (state : State) (held kept : Handshake) → store.ids.items ≡ boundary → store'.ids.items ≡ boundary'
+    → agent ≡ agent' → more ≡ more' → new ≡ new'
     → ((id : ObjectId) → is_in id ≡ has_id boundary id)
     → (f : FetchesMap parties map_of knows (session_call shaken agent more request) made known is_in old store consumer told new store'
-    consumer') → IsSo f.last.negotiated
+    consumer') → IsRefusedFetch f.last.negotiated version told e state → (f.last.negotiated ≡ false → kept ≡ held)
     → (s : FetchesInSession parties map_of knows (session_call shaken agent' more' request) made known boundary boundary' old
-    consumer told' new' consumer') × IsSo s.fetches.last.negotiated
-so_in_session parties map_of knows shaken request made known is_in boundary boundary' old consumer told told' new new' consumer' store
-    store' agent agent' more more' IsSo before after named said tells stands same f h = (
-      in_session parties map_of knows shaken request made known is_in boundary boundary' old consumer told told' new new' consumer'
-          store store' agent agent' more more' before after named said tells stands same f,
+    consumer told new' consumer') × IsRefusedFetch s.fetches.last.negotiated version told e state
+    × (s.fetches.last.negotiated ≡ false → kept ≡ held)
+unfolding in_session
+refused_in_session parties map_of knows shaken request made known is_in boundary boundary' old consumer told new new' consumer' store
+    store' agent agent' more more' version e state held kept before after named said stands same f h k = (
+      in_session parties map_of knows shaken request made known is_in boundary boundary' old consumer told told new new' consumer'
+          store store' agent agent' more more' before after named said refl stands same f,
       h,
+      k,
     )
 
 -- the call of a session by a copy of the changes of the boundary that came with the handshake
@@ -173,14 +180,27 @@ same_call shaken told agent more request e =
     ap (λ (x : List ShallowUpdate). let call = session_call shaken agent more request in
     record call { wishes = record call.wishes { told = x } }) e
 
--- a fetch by the same call, and what is so by whether a round was negotiated
+-- a fetch by the same call, and where the session stands after it
 pub carried_by : {N I S A C P X : Type 0} (parties : Parties (Watched N) I A S C P X) (map_of : Watched N → RefMap)
     (knows : Watched N → Knowledge) (made : RefMap) (known : Knowledge) (is_in : ObjectId → Bool) (old : Reading) (store : S)
     (consumer : C) (told : Result (Option Outcome) Error) (new : Reading) (store' : S) (consumer' : C) (call call' : FetchCall)
-    (is_negotiated : Bool) (IsSo : Bool → Type 0) → call ≡ call'
+    (is_negotiated : Bool) (version : Protocol) (state : State) (shaken kept : Handshake) → call ≡ call'
     → ((f : FetchesMap parties map_of knows call made known is_in old store consumer told new store' consumer')
-    × (f.last.negotiated ≡ is_negotiated)) → IsSo is_negotiated
-    → (f : FetchesMap parties map_of knows call' made known is_in old store consumer told new store' consumer') × IsSo f.last.negotiated
-carried_by parties map_of knows made known is_in old store consumer told new store' consumer' call call' is_negotiated IsSo e f h =
+    × (f.last.negotiated ≡ is_negotiated)) → state ≡ behind_fetch is_negotiated version told
+    → (is_negotiated ≡ false → kept ≡ shaken)
+    → (f : FetchesMap parties map_of knows call' made known is_in old store consumer told new store' consumer')
+    × (state ≡ behind_fetch f.last.negotiated version told) × (f.last.negotiated ≡ false → kept ≡ shaken)
+carried_by parties map_of knows made known is_in old store consumer told new store' consumer' call call' is_negotiated version state
+    shaken kept e f s k =
     subst (λ (x : FetchCall). (f : FetchesMap parties map_of knows x made known is_in old store consumer told new store' consumer')
-    × IsSo f.last.negotiated) e (f.0, subst IsSo (sym f.1) h)
+    × (state ≡ behind_fetch f.last.negotiated version told) × (f.last.negotiated ≡ false → kept ≡ shaken)) e
+    (f.0, s ∙ ap (λ (b : Bool). behind_fetch b version told) (sym f.1), λ h. k (sym f.1 ∙ h))
+
+-- where no round was negotiated, the handshake is what it was
+pub kept_whole : (shaken now : Handshake) (told first left : Option (Vec ShallowUpdate Global)) (is_negotiated : Bool)
+    → now ≡ record shaken { v1_shallow_updates = told } → first ≡ shaken.v1_shallow_updates
+    → left ≡ (if is_negotiated then None else first) → is_negotiated ≡ false → record now { v1_shallow_updates = left } ≡ shaken
+kept_whole shaken now told first left is_negotiated n f l e =
+    ap (λ (x : Handshake). record x { v1_shallow_updates = left }) n
+    ∙ ap (λ (x : Option (Vec ShallowUpdate Global)). record shaken { v1_shallow_updates = x })
+    (l ∙ ap (λ (b : Bool). let o : Option (Vec ShallowUpdate Global) = if b then None else first in o) e ∙ f)

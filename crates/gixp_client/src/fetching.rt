@@ -23,7 +23,9 @@ use crate::repository::Repository;
 use crate::request::Request;
 use crate::run::{Peer, SessionNegotiation, Wanted, fetch_mapped};
 use crate::session::Session;
-use crate::settle::{copied_updates, expect_filter, is_reported, reported, settled, store_of};
+use crate::settle::{
+    copied_updates, expect_filter, is_reported, reported, settled, store_of, untaken,
+};
 use crate::state::{State, behind_fetch};
 use gixp_fetch::consume::ConsumePack;
 use gixp_fetch::mapped::NegotiatesMap;
@@ -78,9 +80,7 @@ where
             progress: &mut self.progress,
         };
         let (came, is_negotiated) = fetch_mapped(alloc, wanted, name, peer, store, pack);
-        if !is_negotiated {
-            self.shaken.v1_shallow_updates = first;
-        }
+        self.shaken.v1_shallow_updates = untaken(first, is_negotiated);
         self.state = behind_fetch(is_negotiated, version, &came);
         came
     }

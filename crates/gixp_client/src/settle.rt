@@ -1,5 +1,5 @@
 //! What stands before a fetch of a session, and what is made of it after.
-ghost use Rattle.std.specs.Prelude.{◌≡◌, ◌⊎◌, IfOk, IfErr, Ok, Err};
+ghost use Rattle.std.specs.Prelude.{◌≡◌, ◌⊎◌, if◌then◌else◌, None, IfOk, IfErr, Ok, Err};
 ghost use Rattle.gixp_response.specs.Answer.{update_items};
 ghost use Rattle.gixp_fetch.specs.FetchShallow.{shallow_value, is_change};
 ghost use Rattle.gixp_client.specs.ClientError.{IsUnsent};
@@ -41,6 +41,16 @@ pub(crate) fn copied_updates(
         Some(updates) => Ok(Some(Vec::from_slice(alloc, updates)?)),
         None => Ok(None),
     }
+}
+
+/// The changes of the boundary that came with the handshake, where no round was negotiated that took them.
+pub(crate) fn untaken(
+    updates: Option<Vec<ShallowUpdate>>,
+    is_negotiated: bool,
+) -> Option<Vec<ShallowUpdate>>
+    ensures { result ≡ (if is_negotiated then None else updates) }
+{
+    if is_negotiated { None } else { updates }
 }
 
 /// Whether the server can leave out objects by a filter.

@@ -99,7 +99,12 @@ fn command(alloc: Global, change: &LocalChange) -> Result<String, AllocError> {
 }
 
 // Keeps what came: the pack, then the boundary.
-fn keep(rt: &HostRuntime, folder: &str, has_pack: bool, boundary: &Boundary) -> Result<(), Failure> {
+fn keep(
+    rt: &HostRuntime,
+    folder: &str,
+    has_pack: bool,
+    boundary: &Boundary,
+) -> Result<(), Failure> {
     let alloc = rt.alloc();
     let incoming = format!(in alloc; "{folder}/incoming")?;
     if has_pack {
@@ -110,8 +115,9 @@ fn keep(rt: &HostRuntime, folder: &str, has_pack: bool, boundary: &Boundary) -> 
     }
     let shallow = format!(in alloc; "{folder}/shallow")?;
     if !boundary.ids.is_empty() {
-        let text = shallow_text(alloc, &boundary.ids)?;
-        fs::write(rt, shallow.as_str(), text)?;
+        let lock = format!(in alloc; "{shallow}.lock")?;
+        fs::write(rt, lock.as_str(), shallow_text(alloc, &boundary.ids)?)?;
+        fs::rename(rt, lock.as_str(), shallow.as_str())?;
     } else if fs::exists(rt, shallow.as_str())? {
         fs::remove_file(rt, shallow.as_str())?;
     }

@@ -1,6 +1,6 @@
 -- A fetch of a session, and what is told of it.
 use Rattle.std.proofs.Common.{ap, sym, inr, refl, ◌∙◌}
-use Rattle.gixp_client.proofs.RunLemmas.{in_session, so_in_session}
+use Rattle.gixp_client.proofs.RunLemmas.{in_session, refused_in_session}
 use Rattle.gixp_client.proofs.SettleLemmas.{came_of, refused_of, stands_of, known_of}
 use Rattle.gixp_client.proofs.session.Session.fetch_with.Goals as goal
 
@@ -26,15 +26,17 @@ returns-in-Ok-clause-known g c =
     c.carry_out-came.ensures.known
 
 pub returns-clause-refused : goal.returns-clause-refused
-returns-clause-refused g c = inr (
-  c.carry_out-came.result,
-  c.ids-after.result.now,
-  so_in_session _ _ _ c.args.self.now.shaken c.args.request.now _ _ _ _ _ _ _ _ _ _ _ _ _ _ _ _ _ _ _
-      c.in_ok-store.ensures (sym c.ids-after.ensures) c.in_ok-name.ensures.0 c.in_ok-name.ensures.1 refl
-      (ap g.T.ExtendedBufRead.reading (sym (c.unless_reported-came.ensures.transport ∙ c.take_kept-messages.ensures)))
-      c.in_ok-known.ensures
-      c.carry_out-came.ensures.fetched.0 (
-        refused_of _ _ _ _ _ _ _ _ _ c.unless_reported-came.ensures.reported c.in-Err.ensures.refused c.carry_out-came.ensures.fetched.1,
-        λ unsent. ap (λ s. s.shaken) c.unless_reported-came.ensures.others ∙ c.carry_out-came.ensures.fetched.2 unsent,
-      ),
-)
+returns-clause-refused g c =
+    let s = refused_in_session _ _ _ c.args.self.now.shaken c.args.request.now _ _ _ _ _ _ _ _ _ _ _ _ _ _ _ _ _ _ _ _ _ _
+    c.in_ok-store.ensures (sym c.ids-after.ensures) c.in_ok-name.ensures.0 c.in_ok-name.ensures.1
+    (ap g.T.ExtendedBufRead.reading (sym (c.unless_reported-came.ensures.transport ∙ c.take_kept-messages.ensures)))
+    c.in_ok-known.ensures
+    c.carry_out-came.ensures.fetched.0
+    (refused_of _ _ _ _ _ _ _ _ _ c.unless_reported-came.ensures.reported c.in-Err.ensures.refused c.carry_out-came.ensures.fetched.1)
+    (λ unsent. ap (λ s. s.shaken) c.unless_reported-came.ensures.others ∙ c.carry_out-came.ensures.fetched.2 unsent) in inr (
+      c.carry_out-came.result,
+      c.ids-after.result.now,
+      s.0,
+      s.1,
+      s.2,
+    )
