@@ -23,7 +23,9 @@ use crate::repository::Repository;
 use crate::request::Request;
 use crate::run::{Peer, SessionNegotiation, Wanted, fetch_mapped};
 use crate::session::Session;
-use crate::settle::{copied_updates, expect_filter, is_reported, reported, settled, store_of, untaken};
+use crate::settle::{
+    copied_updates, expect_filter, is_reported, reported, settled, store_of, untaken,
+};
 use crate::state::{State, behind_fetch};
 use gixp_fetch::consume::ConsumePack;
 use gixp_fetch::mapped::NegotiatesMap;

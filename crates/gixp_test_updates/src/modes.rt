@@ -139,7 +139,14 @@ fn fails_where_git_does(rt: HostRuntime) -> Result<(), Fail> {
     let branches = b"refs/heads/*:refs/remotes/o/*";
     assert!(rt; !fails(alloc, branches, b"refs/tags/v1", Tags::Included)?);
     assert!(rt; fails(alloc, branches, b"refs/tags/v1", Tags::All)?);
-    assert!(rt; fails(alloc, b"refs/tags/*:refs/tags/*", b"refs/tags/v1", Tags::Included)?);
+    assert!(rt;
+        fails(
+            alloc,
+            b"refs/tags/*:refs/tags/*",
+            b"refs/tags/v1",
+            Tags::Included
+        )?
+    );
     assert!(rt; !fails(alloc, branches, b"refs/heads/a..b", Tags::Included)?);
     Ok(())
 }

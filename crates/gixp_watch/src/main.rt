@@ -99,7 +99,12 @@ fn command(alloc: Global, change: &LocalChange) -> Result<String, AllocError> {
 }
 
 // Keeps what came: the pack, then the boundary.
-fn keep(rt: &HostRuntime, folder: &str, has_pack: bool, boundary: &Boundary) -> Result<(), Failure> {
+fn keep(
+    rt: &HostRuntime,
+    folder: &str,
+    has_pack: bool,
+    boundary: &Boundary,
+) -> Result<(), Failure> {
     let alloc = rt.alloc();
     let incoming = format!(in alloc; "{folder}/incoming")?;
     if has_pack {

@@ -8,9 +8,9 @@ ghost use Rattle.gixp_watcher.specs.declared.rows.ObjectRow.{ObjectRow};
 ghost use Rattle.gixp_watcher.specs.Sorted.{Rises, IsAboveLast};
 
 use crate::rows::ObjectRow;
-use crate::words::{object_in, ReadError};
-use gix_protocol::fetch::negotiate::{CommitData, Find, ObjectError, ObjectKind};
+use crate::words::{ReadError, object_in};
 use gix_protocol::ObjectId;
+use gix_protocol::fetch::negotiate::{CommitData, Find, ObjectError, ObjectKind};
 use std::alloc::Global;
 use std::cmp::Ordering;
 
@@ -34,7 +34,9 @@ impl SortedObjects {
     ///
     /// The number of the first line that is of another form or out of order, or an allocation failure.
     pub fn read(alloc: Global, text: &[u8]) -> Result<SortedObjects, ReadError> {
-        let mut objects = SortedObjects { rows: Vec::new(alloc) };
+        let mut objects = SortedObjects {
+            rows: Vec::new(alloc),
+        };
         let mut number = 0usize;
         for line in text.split(|byte| *byte == b'\n') {
             number = number.saturating_add(1);

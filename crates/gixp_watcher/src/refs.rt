@@ -7,11 +7,11 @@ ghost use Rattle.gix_protocol.specs.Changes.{listed_value};
 ghost use Rattle.gixp_watcher.specs.Sorted.{Rises, IsAboveLast, name_of, name_and_id};
 
 use crate::rows::RefRow;
-use crate::words::{ref_in, ReadError};
+use crate::words::{ReadError, ref_in};
 use bstr::{BStr, BString};
+use gix_protocol::ObjectId;
 use gix_protocol::client::ListedRefs;
 use gix_protocol::fetch::negotiate::{RefStore, RefStoreError};
-use gix_protocol::ObjectId;
 use std::alloc::{AllocError, Global};
 use std::cmp::Ordering;
 
@@ -34,7 +34,9 @@ impl SortedRefs {
     ///
     /// The number of the first line that is of another form or out of order, or an allocation failure.
     pub fn read(alloc: Global, text: &[u8]) -> Result<SortedRefs, ReadError> {
-        let mut refs = SortedRefs { rows: Vec::new(alloc) };
+        let mut refs = SortedRefs {
+            rows: Vec::new(alloc),
+        };
         let mut number = 0usize;
         for line in text.split(|byte| *byte == b'\n') {
             number = number.saturating_add(1);

@@ -1,7 +1,7 @@
 //! The rows of a store.
 use bstr::BString;
-use gix_protocol::fetch::negotiate::{CommitData, ObjectKind};
 use gix_protocol::ObjectId;
+use gix_protocol::fetch::negotiate::{CommitData, ObjectKind};
 
 /// An object.
 #[derive(Debug, Drop)]

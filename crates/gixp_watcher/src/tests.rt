@@ -18,6 +18,7 @@ const TWICE: &[u8] =
 // Two objects and two refs, in order.
 const OBJECTS: &[u8] = b"1111111111111111111111111111111111111111 blob\n\
     2222222222222222222222222222222222222222 commit 1700000000 1111111111111111111111111111111111111111\n";
+
 const REFS: &[u8] =
     b"refs/remotes/o/gone 2222222222222222222222222222222222222222 2222222222222222222222222222222222222222\n\
     refs/remotes/o/main 2222222222222222222222222222222222222222 2222222222222222222222222222222222222222\n";
@@ -50,7 +51,12 @@ fn fetches_twice_over_a_session(rt: HostRuntime) -> Result<(), Fail> {
     assert!(rt; first.into_writer().as_slice() == b"PACK".as_slice());
     assert!(rt; second.into_writer().as_slice() == b"PACK".as_slice());
     let changes = local_changes(alloc, &done.first.0, &refs)?;
-    assert!(rt; matches!(changes.as_slice(), [LocalChange::Moved { .. }, LocalChange::Removed { .. }]));
+    assert!(rt;
+        matches!(
+            changes.as_slice(),
+            [LocalChange::Moved { .. }, LocalChange::Removed { .. }]
+        )
+    );
     Ok(())
 }
 
@@ -70,7 +76,10 @@ fn rejects_a_pack_that_is_too_large(rt: HostRuntime) -> Result<(), Fail> {
         Err(e) => {
             assert_eq!(rt; exit_status(&e), 1);
             let text = format!(in alloc; "{e}")?;
-            assert_eq!(rt; text.as_str(), "the pack is refused: it has more bytes than the limit");
+            assert_eq!(rt;
+                text.as_str(),
+                "the pack is refused: it has more bytes than the limit"
+            );
         }
     }
     Ok(())
@@ -79,14 +88,16 @@ fn rejects_a_pack_that_is_too_large(rt: HostRuntime) -> Result<(), Fail> {
 #[test]
 fn rejects_lines_out_of_order(rt: HostRuntime) -> Result<(), Fail> {
     let alloc = rt.alloc();
-    let twice = b"1111111111111111111111111111111111111111 blob\n1111111111111111111111111111111111111111 blob\n";
+    let twice =
+        b"1111111111111111111111111111111111111111 blob\n1111111111111111111111111111111111111111 blob\n";
     let read = SortedObjects::read(alloc, twice);
     assert!(rt; matches!(read, Err(ReadError::Line(2))));
     Ok(())
 }
 
 // A server of version 2 with a branch and a tag.
-const TWO: &[u8] = b"000eversion 2\n0013ls-refs=unborn\n0012fetch=shallow\n0017object-format=sha1\n0000\
+const TWO: &[u8] =
+    b"000eversion 2\n0013ls-refs=unborn\n0012fetch=shallow\n0017object-format=sha1\n0000\
     003d7257effbd41e1233eaae5744e614c5c728e3c979 refs/heads/main\n\
     003a7257effbd41e1233eaae5744e614c5c728e3c979 refs/tags/v1\n0000";
 

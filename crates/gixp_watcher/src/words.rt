@@ -1,8 +1,8 @@
 //! The lines of a store's texts.
 use crate::rows::{ObjectRow, RefRow};
 use bstr::BString;
-use gix_protocol::fetch::negotiate::{CommitData, ObjectKind};
 use gix_protocol::ObjectId;
+use gix_protocol::fetch::negotiate::{CommitData, ObjectKind};
 use std::alloc::{AllocError, AllocFailed, Global};
 
 /// Why a text isn't read.
@@ -50,7 +50,11 @@ pub(crate) fn object_in(alloc: Global, line: &[u8]) -> Result<Option<ObjectRow>,
         return Ok(None);
     };
     let Some(time) = words.next() else {
-        return Ok(Some(ObjectRow { id, kind, commit: None }));
+        return Ok(Some(ObjectRow {
+            id,
+            kind,
+            commit: None,
+        }));
     };
     let Some(time) = seconds_in(time) else {
         return Ok(None);
@@ -73,9 +77,11 @@ fn id_in(word: Option<&[u8]>) -> Option<ObjectId> {
 /// The ref of a line.
 pub(crate) fn ref_in(alloc: Global, line: &[u8]) -> Result<Option<RefRow>, AllocError> {
     let mut words = line.split(|byte| *byte == b' ');
-    let (Some(name), Some(id), Some(peeled)) =
-        (words.next(), id_in(words.next()), id_in(words.next()))
-    else {
+    let (Some(name), Some(id), Some(peeled)) = (
+        words.next(),
+        id_in(words.next()),
+        id_in(words.next()),
+    ) else {
         return Ok(None);
     };
     let name = BString::from_slice(alloc, name)?;
