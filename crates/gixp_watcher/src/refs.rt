@@ -2,8 +2,9 @@
 ghost use Rattle.std.proofs.Props.{props};
 ghost use Rattle.std.specs.Ordering.{nat_cmp};
 ghost use Rattle.std.specs.Cmp.Lexicographic.{slice_cmp};
-ghost use Rattle.std.specs.Prelude.{◌≡◌, true};
-ghost use Rattle.gixp_watcher.specs.Sorted.{Rises, IsAboveLast, name_of};
+ghost use Rattle.std.specs.Prelude.{◌≡◌, true, IfOk};
+ghost use Rattle.gix_protocol.specs.Changes.{listed_value};
+ghost use Rattle.gixp_watcher.specs.Sorted.{Rises, IsAboveLast, name_of, name_and_id};
 
 use crate::rows::RefRow;
 use crate::words::{ReadError, ref_in};
@@ -85,6 +86,13 @@ fn follows(rows: &[RefRow], row: &RefRow) -> bool
     }
 }
 
+// A ref as it is listed.
+fn listed(alloc: Global, row: &RefRow) -> Result<(BString, ObjectId), AllocError>
+    ensures { IfOk result (λ e. listed_value e ≡ name_and_id row.now) }
+{
+    Ok((BString::from_slice(alloc, row.name.as_bytes())?, row.id))
+}
+
 impl RefStore for SortedRefs {
     ghost use Rattle.std.specs.Prelude.{map};
     ghost use Rattle.gixp_watcher.specs.Sorted.{refs_of, peeled_of};
@@ -112,8 +120,10 @@ impl ListedRefs for SortedRefs {
 
     fn list(&self, alloc: Global) -> Result<Vec<(BString, ObjectId)>, AllocError> {
         let mut refs = Vec::new(alloc);
-        for row in &self.rows {
-            refs.push((row.name.clone()?, row.id))?;
+        let mut rest = self.rows.as_slice();
+        while let Some((row, tail)) = rest.split_first() {
+            refs.push(listed(alloc, row)?)?;
+            rest = tail;
         }
         Ok(refs)
     }
