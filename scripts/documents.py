@@ -80,7 +80,8 @@ COUNTED = [
     ("docs/LANGUAGES.md", "`gixp.refs` over # refs", of("bench/README.md", "# refs from Python")),
     ("crates/gixp_packetline/README.md", "one buffer of # bytes", of("crates/gixp_packetline/src/packet.rt", "MAX_FRAME: usize = #")),
     ("crates/gixp_planner/README.md", "# mappings at a time", of("crates/gixp_planner/src/printed.rt", "PART: usize = #")),
-    ("crates/gixp_requests/README.md", "an id from # bytes", of("crates/gixp_requests/src/fetch/arguments/line.rt", "let mut line = [0; #]")),
+    ("crates/gixp_requests/README.md", "an id from # bytes",
+     of("crates/gixp_requests/src/fetch/arguments/line.rt", "let mut line = [0; #]")),
     ("crates/gixp_replay/README.md", "`x\\*65516;` is\n# times `x`", lambda: 65516),
     ("crates/gixp_test_updates/README.md", "what git # does", GIT),
 ]
@@ -95,8 +96,9 @@ UNCOUNTED = [
     ("crates/gixp_hash/README.md", "# digits of either case", "git's ids"),
     ("crates/gixp_remote/README.md", "needs bash # or later", "a condition"),
     ("crates/gixp_remote/README.md", "a line with a number, # where", "a status"),
-    ("crates/gixp_remote/README.md", "The pipes are # to the server and # from it, # from what is asked something, # from git that lists the refs and "
-     "# from git that lists commits, # to git that indexes a pack and # from it. By #", "files, by which dialogue.py speaks with the program"),
+    ("crates/gixp_remote/README.md", "The pipes are # to the server and # from it, # from what is asked something, # from git that lists "
+     "the refs and # from git that lists commits, # to git that indexes a pack and # from it. By #",
+     "files, by which dialogue.py speaks with the program"),
     ("crates/gixp_remote/README.md", "The first # bytes of a pack", "the format of packs"),
     ("crates/gixp_remote/README.md", "with a sentence and #", "a status"),
     ("crates/gixp_replay/README.md", "more than # equal ones", "how models/words.py shows bytes"),
@@ -171,7 +173,8 @@ def check_links(document, text, fault):
         elif name and name not in map(heading, re.findall(r"(?m)^#+ (.*)$", path.read_text())):
             fault(link.start(), f"no heading is {link[1]}")
     for file in FILE.finditer(text):
-        if not ((TOP / file[1]).exists() or (TOP / f"{file[1]}.antt").exists() or re.search(r"/out/|/build/|/[A-Z]+(?:/|$)", file[1] + "/")):
+        is_made = re.search(r"/out/|/build/|/[A-Z]+/", file[1] + "/")
+        if not (is_made or (TOP / file[1]).exists() or (TOP / f"{file[1]}.antt").exists()):
             fault(file.start(), f"there is no {file[1]}")
     return len(found)
 

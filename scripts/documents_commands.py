@@ -46,6 +46,7 @@ LEFT_OUT = {
     "gixp_fetch_pack --list [OPTION..] FROM TO": "scripts/live.py runs it in many ways",
     "mkfifo to from; GIT_PROTOCOL=version=2 git upload-pack REPO <to >from &": "one side of a conversation",
     "git fetch-pack --diag-url": "scripts/urls.py asks it for each URL",
+    "git http-fetch --packfile": "wants a pack's name and a server of it",
 }
 # What is run in place of a command: the program that the gate built, where proving it anew would take an hour; or the whole of a part.
 IN_PLACE = {
@@ -57,20 +58,22 @@ IN_PLACE = {
     "rt try --test": "cd crates/gixp_test_stateless; rt try --test",
     "rt try -- refs FILE": "cd crates/gixp_plan; cp ../../examples/tagged.ls .; rt try -- refs tagged.ls",
     "rt fmt": "cd crates/gixp_plan; rt fmt; git diff --exit-code .",
-    "rt try --data cases=data/cases -- --only requests_v2 cases": "cd crates/gixp_replay; rt try --data cases=data/cases -- --only requests_v2 cases",
+    "rt try --data cases=data/cases -- --only requests_v2 cases":
+        "cd crates/gixp_replay; rt try --data cases=data/cases -- --only requests_v2 cases",
     "git index-pack --stdin --fix-thin": "echo main | git pack-objects -q --revs --stdout | git index-pack --stdin --fix-thin",
     "git upload-pack --stateless-rpc": "printf 0000 | git upload-pack --stateless-rpc .",
     "git ls-remote --symref": "git ls-remote --symref .",
 }
 # What a reader puts in place of a word.
 WORDS = [
-    ("https://HOST/PATH FOLDER", "$WEB/small.git $(mktemp -d)/cloned"), ("http://127.0.0.1:8461", "$WEB"), ("git://HOST/PATH", "$DAEMON/small.git copy"),
-    ("REPOSITORY", "$SMALL"), ("REPO ", "$SMALL "), ("PACK", "pack"), ("REV", "HEAD"), ("ID..", "main"),
+    ("https://HOST/PATH FOLDER", "$WEB/small.git $(mktemp -d)/cloned"), ("http://127.0.0.1:8461", "$WEB"),
+    ("git://HOST/PATH", "$DAEMON/small.git copy"), ("REPOSITORY", "$SMALL"), ("REPO ", "$SMALL "), ("PACK", "pack"), ("REV", "HEAD"),
+    ("ID..", "main"),
 ]
 # What a command needs that the gate built, and where it is run if that isn't the top, the crate or where lines before it lead.
 NEEDS = [
-    (r"out/gixp_remote|gixp::", "crates/gixp_remote/out/gixp_remote"), (r"out/gixp_fetch_pack", "crates/gixp_fetch_pack/out/gixp_fetch_pack"),
-    (r"out/gixp_plan", "crates/gixp_plan/out/gixp_plan"), (r"cargo|clone\.py|-C cloned", "bindings/build/libgixp.a"),
+    (r"out/gixp_remote|gixp::", "crates/gixp_remote/out/gixp_remote"), (r"out/gixp_plan", "crates/gixp_plan/out/gixp_plan"),
+    (r"out/gixp_fetch_pack", "crates/gixp_fetch_pack/out/gixp_fetch_pack"), (r"cargo|clone\.py|-C cloned", "bindings/build/libgixp.a"),
 ]
 FOLDERS = [("docs/LANGUAGES.md", r"cargo|git .*small\.git", "bindings/rust"), ("", r"git [a-z-]+ [^`]*--", "$SMALL")]
 

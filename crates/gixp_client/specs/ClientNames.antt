@@ -35,5 +35,5 @@ abbrev pub named_by : ClientName → FeatureValue
 named_by name = client_feature (string_bytes name.agent)
 
 -- these are the texts of what it says of itself to a server with these capabilities
-abbrev pub Says : ClientName → List CapabilityValue → SentName → Type 0
-Says name caps sent = (agent_of sent.agent ≡ named_by name) × (own_features sent.session_id ≡ id_features caps name.session_id)
+abbrev pub SaysOfItself : ClientName → List CapabilityValue → SentName → Type 0
+SaysOfItself name caps sent = (agent_of sent.agent ≡ named_by name) × (own_features sent.session_id ≡ id_features caps name.session_id)

@@ -14,7 +14,7 @@ use crate::shell::{NOTHING, Shell, owned};
 use crate::trouble::Trouble;
 use crate::uris::{Noted, Uris, protocols_of};
 use crate::web::connect_stateless;
-use crate::wire::{Heard, Says, Shown, Talk, Wire};
+use crate::wire::{ReadSays, Says, Shown, Talk, Wire, WithoutUris};
 use bstr::BString;
 use gix_protocol::client::UriProtocols;
 use gix_protocol::transport::{Connection, Discard, Opening, Protocol};
@@ -264,16 +264,18 @@ fn says_of(
 }
 
 // What a server says, without the section `packfile-uris` where the server may send one.
-fn heard_by<'a>(reach: Reach<'a>, says: Says) -> Result<Heard<'a>, AllocError> {
+fn read_by<'a>(reach: Reach<'a>, says: Says) -> Result<ReadSays<'a>, AllocError> {
     if protocols_of(reach.uri_setting) == UriProtocols::Neither {
-        return Ok(Heard::Whole(says));
+        return Ok(ReadSays::Whole(says));
     }
     let alloc = reach.rt.alloc();
     let noted = Noted {
         alloc,
         uris: reach.uris,
     };
-    Ok(Heard::WithoutUris(PackfileUris::new(alloc, says, noted)?, reach.uris))
+    let reader = PackfileUris::new(alloc, says, noted)?;
+    let uris = reach.uris;
+    Ok(ReadSays::WithoutUris(WithoutUris { reader, uris }))
 }
 
 // The transport over the two pipes.
@@ -286,7 +288,7 @@ fn open_wire<'a>(reach: Reach<'a>, choices: &Choices) -> Result<Wire<'a>, Troubl
     let url = reach.address.path.clone()?;
     let connection = Connection::new(
         alloc,
-        heard_by(reach, says)?,
+        read_by(reach, says)?,
         to,
         url,
         reach.version,

@@ -14,7 +14,7 @@ use std::io;
 use std::io::{BufReader, BufWriter, ErrorKind, Read, Write};
 
 /// The transport over the two pipes of a server, of whose lines is noted what they say of the boundary.
-pub(crate) type Wire<'a> = Bounded<'a, Connection<Heard<'a>, BufWriter<File>>>;
+pub(crate) type Wire<'a> = Bounded<'a, Connection<ReadSays<'a>, BufWriter<File>>>;
 
 /// A session over them, in which the server's words are shown as they come.
 pub(crate) type Talk<'a> = Session<Wire<'a>, Shown<'a>, Discard>;
@@ -37,28 +37,43 @@ impl Read for Says {
     }
 }
 
-/// What is heard of it.
+/// All of it but the sections `packfile-uris`.
 #[derive(Drop)]
-pub(crate) enum Heard<'a> {
-    /// All that it says.
-    Whole(Says),
-    /// All but the sections `packfile-uris`; and where a line that is refused is noted.
-    WithoutUris(PackfileUris<Says, Noted<'a>>, &'a RefCell<Uris>),
+pub(crate) struct WithoutUris<'a> {
+    pub(crate) reader: PackfileUris<Says, Noted<'a>>,
+    /// Where a line that is refused is noted.
+    pub(crate) uris: &'a RefCell<Uris>,
 }
 
-impl Read for Heard<'_> {
+impl WithoutUris<'_> {
+    // Reads, and notes a refusal.
+    fn read_noting(&mut self, buf: &mut [u8]) -> io::Result<usize> {
+        match self.reader.read(buf) {
+            Ok(count) => Ok(count),
+            Err(e) => {
+                if e.kind() == ErrorKind::InvalidData {
+                    note_refusal(self.uris);
+                }
+                Err(e)
+            }
+        }
+    }
+}
+
+/// What is read of it.
+#[derive(Drop)]
+pub(crate) enum ReadSays<'a> {
+    /// All that it says.
+    Whole(Says),
+    /// All but some sections.
+    WithoutUris(WithoutUris<'a>),
+}
+
+impl Read for ReadSays<'_> {
     fn read(&mut self, buf: &mut [u8]) -> io::Result<usize> {
         match self {
-            Heard::Whole(says) => says.read(buf),
-            Heard::WithoutUris(reader, uris) => match reader.read(buf) {
-                Ok(count) => Ok(count),
-                Err(e) => {
-                    if e.kind() == ErrorKind::InvalidData {
-                        note_refusal(*uris);
-                    }
-                    Err(e)
-                }
-            },
+            ReadSays::Whole(says) => says.read(buf),
+            ReadSays::WithoutUris(without) => without.read_noting(buf),
         }
     }
 }
