@@ -5,7 +5,7 @@ use Rattle.std.specs.Io.BufRead.{drop_through, DropsThrough}
 use Rattle.std.specs.Io.KnownBytes.{Appends}
 use Rattle.gixp_remote_rules.specs.declared.dialogue.Family.{Family}
 use Rattle.gixp_remote_session.specs.declared.trouble.Trouble.{Trouble}
-use Rattle.gixp_remote_session.specs.declared.trouble.Trouble.TheVariants.{Fetch, Url, Io, Command, Other, Fatal, Told, NoRefs, Word, Variable, Password, Ssh, Memory}
+use Rattle.gixp_remote_session.specs.declared.trouble.Trouble.TheVariants.{Fetch, Url, Io, Command, Other, Fatal, Told, NoRefs, Word, Variable, Mismatch, Password, Ssh, Memory}
 use Rattle.gixp_remote_session.specs.WebServer.{reply_in, has_replied, have_replied, behind_option, behind_options, is_limited, IsUnheard, WebOutcome, ends, list_outcome, by_reply, web_outcome, ComesTo, TellsOutcome, option_asked, family_line, options_asked, connect_asked, WasAsked}
 
 by_list_then : (has : Bool) (reply : Option (List ℕ)) (rest : List ℕ) (b : ℕ) (line : List ℕ) (x : WebOutcome)
@@ -44,6 +44,7 @@ refused_by_list q y said behind rest line Told h r l d f o = comes_to q y said b
 refused_by_list q y said behind rest line NoRefs h r l d f o = comes_to q y said behind rest line _ h r l d f o
 refused_by_list q y said behind rest line (Word why word) h r l d f o = o
 refused_by_list q y said behind rest line (Variable name value) h r l d f o = o
+refused_by_list q y said behind rest line (Mismatch uri name) h r l d f o = o
 refused_by_list q y said behind rest line (Password url) h r l d f o = o
 refused_by_list q y said behind rest line (Ssh error) h r l d f o = o
 refused_by_list q y said behind rest line Memory h r l d f o = o
@@ -70,6 +71,7 @@ asked_list q y old first second new NoRefs a b o =
     appends_then old second new (connect_asked q y) (codes "list\n") (appends_then old first second (options_asked q y) _ a b) o
 asked_list q y old first second new (Word why word) a b o = tt
 asked_list q y old first second new (Variable name value) a b o = tt
+asked_list q y old first second new (Mismatch uri name) a b o = tt
 asked_list q y old first second new (Password url) a b o = tt
 asked_list q y old first second new (Ssh error) a b o = tt
 asked_list q y old first second new Memory a b o = tt

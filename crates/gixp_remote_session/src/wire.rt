@@ -1,5 +1,6 @@
 //! The connection with a server: two pipes, over which it says packet lines, or answers that each have an end of their own.
 ghost use Rattle.std.specs.Prelude.{◌≡◌, ◌++◌, ◌∷◌, [], codes, IfSome};
+ghost use Rattle.std.specs.Io.{ReadsAtMost};
 
 use crate::bounded::Bounded;
 use crate::uris::{Noted, Uris, note_refusal};
@@ -47,7 +48,9 @@ pub(crate) struct WithoutUris<'a> {
 
 impl WithoutUris<'_> {
     // Reads, and notes a refusal.
-    fn read_noting(&mut self, buf: &mut [u8]) -> io::Result<usize> {
+    fn read_noting(&mut self, buf: &mut [u8]) -> io::Result<usize>
+        ensures { ReadsAtMost result buf.new }
+    {
         match self.reader.read(buf) {
             Ok(count) => Ok(count),
             Err(e) => {
