@@ -5,7 +5,7 @@ use Rattle.std.proofs.lemmas.Option.{none-some, same_Some}
 use Rattle.gixp_remote_session.specs.ShownRefs.{shown_line, shown_lines, IsUnshown}
 use Rattle.gixp_remote_session.specs.declared.local.Shown.{Shown}
 use Rattle.gixp_remote_session.specs.declared.trouble.Trouble.{Trouble}
-use Rattle.gixp_remote_session.specs.declared.trouble.Trouble.TheVariants.{Fetch, Url, Io, Command, Other, Fatal, Told, NoRefs, Word, Variable, Password, Ssh, Memory}
+use Rattle.gixp_remote_session.specs.declared.trouble.Trouble.TheVariants.{Fetch, Url, Io, Command, Other, Fatal, Told, NoRefs, Word, Variable, Mismatch, Password, Ssh, Memory}
 
 -- these objects in front of those to come
 abbrev pub shown_in_front : List Shown → Option (List Shown) → Option (List Shown)
@@ -60,6 +60,7 @@ unshown-more all left rest line shown Told h a w = w
 unshown-more all left rest line shown NoRefs h a w = w
 unshown-more all left rest line shown (Word why word) h a w = w
 unshown-more all left rest line shown (Variable name value) h a w = w
+unshown-more all left rest line shown (Mismatch uri name) h a w = w
 unshown-more all left rest line shown (Password url) h a w = w
 unshown-more all left rest line shown (Ssh error) h a w = w
 unshown-more all left rest line shown Memory h a w = tt
