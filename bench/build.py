@@ -1,8 +1,8 @@
 """Builds the program of a benchmark over the crates of the repository, in a temporary folder.
 
-The source of a program ends in `.rt.in`, so that no check of the repository reads it. What it is over is what its `use` lines
-name: crates of crates.txt, with all that these depend on, and libraries of the toolchain. What checks kept in the crates' out/
-folders comes along. Needs `rt`, or what RT names.
+The source of a program ends in `.rt.in`, so that no check of the repository reads it. The program depends on the crates that its `use`
+lines name: crates of crates.txt with all their dependencies, and libraries of the toolchain. The copy includes what earlier checks left in
+the crates' out/ folders. Needs `rt`, or the command that RT names.
 """
 import os
 import re
@@ -19,13 +19,13 @@ NOT_LISTED = {"std", "crate", "self", "super"}
 
 
 def dependencies():
-    """What each crate of crates.txt depends on."""
+    """The dependencies of each crate of crates.txt."""
     lines = [line.partition(":") for line in (TOP / "crates.txt").read_text().splitlines() if not line.startswith("#")]
     return {name: rest.split() for name, _, rest in lines if name}
 
 
 def with_those_below(names):
-    """These crates of the repository and all that they depend on there, in the order of crates.txt."""
+    """These crates and their dependencies in the repository, in the order of crates.txt."""
     listed, found = dependencies(), set()
 
     def add(name):
@@ -41,7 +41,7 @@ def with_those_below(names):
 
 @contextmanager
 def built(folder, *words, modules=()):
-    """The program of `folder`, with its modules from other places, built by a first run on these words; it stands until the end."""
+    """Builds the program of `folder`, with modules from other places, by a first run on these words. It exists until the block ends."""
     with tempfile.TemporaryDirectory() as room:
         crates, name = Path(room) / "crates", f"{folder.name}_bench"
         source = crates / name / "src"

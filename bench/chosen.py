@@ -1,12 +1,11 @@
 #!/usr/bin/env python3
-"""Times `gixp_plan plan` over answers whose names a server chose against it, beside ordinary answers of their size.
+"""Times `gixp_plan plan` over responses whose names a hostile server chose, compared with ordinary responses of the same size.
 
 Usage: chosen.py PROGRAM [REFS] [RUNS]
 
-PROGRAM is the built gixp_plan (`rt run` in crates/gixp_plan leaves it in out/). Branches and tags are mapped to one place by
-two patterns. The ordinary answer of a case has as many refs in byte order, with names as long, each of another local name.
-Both are run RUNS times in turn, and the least processor time of each counts, user and system; where local names have two
-sources, the plan is refused.
+PROGRAM is the built gixp_plan (`rt run` in crates/gixp_plan leaves it in out/). Two patterns map branches and tags to one namespace. The
+ordinary response of a case has as many refs, in byte order, with names of the same length and a local name each. Both run RUNS times in
+turn. The least processor time of each counts, user and system. If local names have two sources, the plan is an error.
 """
 import os
 import random
@@ -26,12 +25,12 @@ def shuffled(items):
 
 
 def numbered(refs, fronts=("",)):
-    """A local name's end for each two refs; the fronts take turns."""
+    """The end of a local name for each two refs, with alternating beginnings."""
     return [f"{fronts[i % len(fronts)]}topic-{i:07}" for i in range(refs // 2)]
 
 
 def ordinary(refs, size):
-    """Names of that many bytes in all, in order."""
+    """Names with so many bytes in total, in order."""
     length = max(8, size // refs - len("refs/heads/"))
     branches = [f"refs/heads/{i:0{length}}" for i in range(refs // 2)]
     return branches + [f"refs/tags/{i:0{length + 1}}" for i in range(refs // 2, refs)]
@@ -43,8 +42,8 @@ def both(branches, tags):
 
 
 def cases(refs):
-    """Ordinary names in no order, and one of them again. Then all local names with two sources: in one order, in two, and
-    with names that begin alike, in a few bytes or many but for one name, or in one of 16 ways."""
+    """Ordinary names without an order, and with one repeated. Then all local names with two sources: in one order, in two orders, and
+    with names that share a beginning of a few bytes, share a long one except for one name, or have one of 16 beginnings."""
     names = shuffled(ordinary(refs, 29 * refs))
     yield "shuffled", names
     yield "repeated", [*names, names[0]]
@@ -67,7 +66,7 @@ def write_answer(path, names):
 
 
 def seconds(words):
-    """What a run takes of the processor, whether the plan is refused or not."""
+    """The processor time of a run, whether or not the plan is an error."""
     start = processor_seconds()
     subprocess.run(words, stdout=subprocess.DEVNULL, stderr=subprocess.DEVNULL)
     return processor_seconds() - start
@@ -89,7 +88,7 @@ def main():
             best = [float("inf")] * 2
             for _ in range(runs):
                 best = [min(had, seconds([program, "plan", folder, *SPECS])) for had, folder in zip(best, folders)]
-            print(f"{what:12} {best[1]:.3f} s of the processor, ordinary {best[0]:.3f} s, {best[1] / best[0]:.2f} times", flush=True)
+            print(f"{what:12} {best[1]:.3f} s of processor time, ordinary {best[0]:.3f} s, ratio {best[1] / best[0]:.2f}", flush=True)
 
 
 if __name__ == "__main__":

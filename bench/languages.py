@@ -1,11 +1,11 @@
 #!/usr/bin/env python3
-"""Times the bindings: the refs of an answer from Rust against a plain parser that makes the same values, and from Python; and what the
-repeated reading of a session costs.
+"""Times the bindings: the refs of a response from Rust, compared with a plain parser that makes the same values; the refs from Python;
+and the cost of reading a session again for each request.
 
 Usage: languages.py [REFS] [RUNS]
 
-`scripts/bindings.sh` has to have made bindings/build. The answer is that of refs.py. From Python the refs of a tenth of it are read, and by
-dulwich too where this Python has it, or Debian's (`python3-dulwich`).
+`scripts/bindings.sh` must have made bindings/build. The response is that of refs.py. Python reads a tenth of its refs, and dulwich too, if
+this Python has it, or Debian's (`python3-dulwich`).
 """
 import io
 import os
@@ -44,14 +44,14 @@ def by_python(path, runs):
             for text in Protocol(io.BytesIO(data).read, None).read_pkt_seq():
                 words = text.rstrip(b"\n").split(b" ")
                 refs[words[1]] = (words[0], words[2:])
-        line += ", %.2f of the time of dulwich's packet lines cut at blanks" % (ours / best(runs, dulwich))
+        line += ", %.2f of the time of dulwich's packet lines split at spaces" % (ours / best(runs, dulwich))
     except ImportError:
-        line += " (dulwich isn't installed)"
+        line += " (dulwich is not installed)"
     print(line)
 
 
 def with_dulwich():
-    """A Python that has dulwich, or else this one."""
+    """A Python with dulwich, else this one."""
     for python in (sys.executable, "/usr/bin/python3"):
         if os.path.exists(python) and subprocess.run([python, "-c", "import dulwich"], stderr=subprocess.DEVNULL).returncode == 0:
             return python

@@ -1,19 +1,19 @@
-"""What a run of a program takes, for the scripts beside this one."""
+"""The time and memory of a program, for the other scripts of this folder."""
 import resource
 import subprocess
 import tempfile
 
 
 def processor_seconds():
-    """What the processes that have ended so far have used, user and system."""
+    """The processor time of all ended child processes, user and system."""
     used = resource.getrusage(resource.RUSAGE_CHILDREN)
     return used.ru_utime + used.ru_stime
 
 
 def run(words, environment):
-    """Seconds of the processor, and the most memory in KiB by GNU time, of one run with what it prints thrown away.
+    """The processor time in seconds, and the peak memory in KiB by GNU time, of one run. The output is dropped.
 
-    The processes that a program starts and waits for count with it.
+    Processes that the program starts and waits for count with it.
     """
     with tempfile.NamedTemporaryFile("r") as memory:
         measured = ["time", "-o", memory.name, "-f", "%M", *words]

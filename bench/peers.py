@@ -1,14 +1,14 @@
 #!/usr/bin/env python3
-"""Times the listing of refs by `gixp_fetch_pack --list` against other git clients, on the same bytes of a server.
+"""Times the listing of refs by `gixp_fetch_pack --list`, compared with other git clients, on the same bytes of a server.
 
 Usage: peers.py [--refs N] [--runs N] PROGRAM [PEER ..]
 
-PROGRAM is the built gixp_fetch_pack (`rt run` in crates/gixp_fetch_pack leaves it in out/). A PEER is git, libgit2, dulwich
-or go-git; without any it is all of them, and one that isn't installed is left out (Debian: libgit2-dev and pkg-config,
-python3-dulwich, golang-github-go-git-go-git-dev and golang-go). Their programs are in peers/. The script serves N refs
-(200,000) behind a symbolic HEAD over git:// on loopback, the same bytes to all: under version 0, which all speak, and under
-version 2 for git and ours. Each prints ids and names; these must be ours, or what differs is told. Each is run RUNS times (3)
-in turn. The least processor time of the client alone counts, user and system, and GNU time measures its memory.
+PROGRAM is the built gixp_fetch_pack (`rt run` in crates/gixp_fetch_pack leaves it in out/). A PEER is git, libgit2, dulwich or go-git;
+without any all of them run. A client that isn't installed is left out (Debian: libgit2-dev and pkg-config, python3-dulwich,
+golang-github-go-git-go-git-dev and golang-go). Their programs are in peers/. The script serves N refs (default 200,000) and a symbolic HEAD
+over git:// on loopback, the same bytes to all: under version 0, which all speak, and under version 2 for git and gixp_fetch_pack. Each
+prints ids and names. These must be equal; the script prints a difference. Each runs RUNS times (default 3) in turn. The least processor
+time of the client alone counts, user and system. GNU time measures its memory.
 """
 import argparse
 import hashlib
@@ -40,7 +40,7 @@ def object_id(number):
 
 
 def refs(count):
-    """An id, a name and the peeled id of each ref."""
+    """The id, the name and the peeled id of each ref."""
     branches = count - count // 4
     yield object_id(0), "HEAD", None
     for number in range(branches):
@@ -50,7 +50,7 @@ def refs(count):
 
 
 def answers(count):
-    """What the server says under each version, in pieces: before each but the first it hears a request."""
+    """The output of the server under each version, in pieces. It reads a request before each piece but the first."""
     zero, two = [], []
     for object, name, peeled in refs(count):
         zero.append(packet(f"{object} {name}\0{FEATURES}" if name == "HEAD" else f"{object} {name}"))
@@ -64,7 +64,7 @@ def answers(count):
 
 
 class Server:
-    """Listens on loopback. The path of an opening line is the version that is spoken."""
+    """Listens on loopback. The path of the first request is the version to speak."""
 
     def __init__(self, said):
         self.said = said
@@ -78,7 +78,7 @@ class Server:
                 try:
                     self.answer(client, heard)
                 except (OSError, ValueError) as error:
-                    print(f"a client is gone: {error}", file=sys.stderr)
+                    print(f"a client disconnected: {error}", file=sys.stderr)
 
     def answer(self, client, heard):
         opening = heard.read(int(heard.read(4), 16) - 4)
@@ -94,8 +94,8 @@ class Server:
 
 
 class Listing:
-    """A client that lists the refs: its words, made of a version, a URL and a file for what ours lists, and the versions that it
-    speaks. Ours gets the connection as its standard streams."""
+    """A client that lists the refs: its command, made of a version, a URL and a file for the list of gixp_fetch_pack, and the versions
+    that it speaks. gixp_fetch_pack gets the connection as its standard streams."""
 
     def __init__(self, words, versions=("0",), is_connected=False):
         self.words, self.versions, self.is_connected = words, versions, is_connected
@@ -149,10 +149,10 @@ class Bench:
         self.environment = dict(os.environ, HOME=str(folder), GIT_CONFIG_NOSYSTEM="1", GIT_TRACE="0")
 
     def run(self, client, version, out):
-        """Seconds of the processor, and the most memory in KiB, of one run with its list written to OUT.
+        """The processor time in seconds, and the peak memory in KiB, of one run that writes its list to OUT.
 
-        What a child is said to have used most counts the pages of the script, which it was begun as; that of a child of the
-        small GNU time doesn't.
+        The peak memory of a child counts the pages of this script, since it begins as a copy of it. A child of the small GNU time
+        doesn't have these.
         """
         memory = self.folder / "memory"
         url = f"git://127.0.0.1:{self.server.port}/{version}"
@@ -170,7 +170,7 @@ class Bench:
         return used.ru_utime + used.ru_stime, int(memory.read_text())
 
     def listed(self, client, version):
-        """The ids and names that a client prints, in order."""
+        """The ids and names in the output of a client, in order."""
         out = self.folder / "listed"
         self.run(client, version, out)
         return sorted(line for line in out.read_text().splitlines() if not line.startswith("ref: "))
@@ -181,7 +181,7 @@ class Bench:
             theirs = self.listed(self.clients[name], version)
             if theirs != ours:
                 missing, added = sorted(set(ours) - set(theirs)), sorted(set(theirs) - set(ours))
-                print(f"{name} prints {len(theirs)} lines and ours {len(ours)}: not {missing[:1]}, but {added[:1]}")
+                print(f"{name} prints {len(theirs)} lines and gixp_fetch_pack {len(ours)}: not {missing[:1]}, but {added[:1]}")
 
     def compare(self, version, count):
         names = [name for name, client in self.clients.items() if version in client.versions]
@@ -196,7 +196,7 @@ class Bench:
         size = sum(map(len, self.server.said[version]))
         print(f"version {version}: {count} refs, {size} bytes, best of {self.runs} runs each, load {os.getloadavg()[0]:.1f}")
         for name, (seconds, memory) in best.items():
-            print(f"{name}: {seconds:.3f} s of the processor, {memory} KiB at most, {memory * 1024 / count:.0f} bytes a ref")
+            print(f"{name}: {seconds:.3f} s of processor time, at most {memory} KiB, {memory * 1024 / count:.0f} bytes a ref")
         seconds, memory = best[OURS]
         for name in names[1:]:
             print(f"{OURS} / {name}: {seconds / best[name][0]:.3f} of its time, {memory / best[name][1]:.3f} of its memory")
@@ -213,12 +213,12 @@ def main():
         clients = {OURS: by_us(os.path.abspath(wish.program))}
         for name in wish.peers or KINDS:
             if name not in KINDS:
-                parser.error(f"no peer is named {name}")
+                parser.error(f"there is no peer {name}")
             client = KINDS[name](folder)
             if client:
                 clients[name] = client
             else:
-                print(f"{name} isn't installed, and is left out")
+                print(f"{name} is not installed and is left out")
         bench = Bench(pathlib.Path(folder), Server(answers(wish.refs)), clients, wish.runs)
         for version in ("0", "2"):
             bench.compare(version, wish.refs + 1)

@@ -3,11 +3,10 @@
 
 Usage: plan.py PROGRAM [REFS] [RUNS]
 
-PROGRAM is the built gixp_plan (`rt run` in crates/gixp_plan leaves it in out/). The session is one of version 2: an
-`ls-refs` answer of REFS refs to the commits and the tag of a small repository, and a pack of all of it. git reads the
-same bodies from a script given as its --upload-pack, into an empty repository, with the same refspec
-`+refs/*:refs/mirror/*`. Each is run RUNS times in turn, and the least processor time of each counts, user and system,
-with that of the script in git's. GNU time measures the memory.
+PROGRAM is the built gixp_plan (`rt run` in crates/gixp_plan leaves it in out/). The session is one of version 2: an `ls-refs` response with
+REFS refs to the commits and the tag of a small repository, and a pack of all of it. git reads the same bodies from a script as its
+--upload-pack, into an empty repository, with the same refspec `+refs/*:refs/mirror/*`. Each runs RUNS times in turn. The least processor
+time of each counts, user and system; git's includes the script. GNU time measures the memory.
 """
 import os
 import subprocess
@@ -85,7 +84,7 @@ def main():
         size = os.path.getsize(os.path.join(folder, "1"))
     print(f"{refs} refs, a body of {size} bytes, best of {runs} runs each, load {os.getloadavg()[0]:.1f}")
     for name, (seconds, memory) in best.items():
-        print(f"{name}: {seconds:.3f} s of the processor, {memory} KiB at most, {memory * 1024 / refs:.0f} bytes a ref")
+        print(f"{name}: {seconds:.3f} s of processor time, at most {memory} KiB, {memory * 1024 / refs:.0f} bytes a ref")
     print(f"gixp_plan plan / git fetch --dry-run: {best['gixp_plan plan'][0] / best['git fetch --dry-run'][0]:.3f}")
 
 

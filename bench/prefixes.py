@@ -3,9 +3,9 @@
 
 Usage: prefixes.py PROGRAM [RUNS]
 
-PROGRAM is the built gixp_plan (`rt run` in crates/gixp_plan leaves it in out/). The prefixes of all refspecs go into the
-`ls-refs` request, each once. `full` are full names, of one prefix each; `short` are short names, of six; `repeated` is one
-short name over and over. The best of RUNS runs counts.
+PROGRAM is the built gixp_plan (`rt run` in crates/gixp_plan leaves it in out/). The `ls-refs` request has the prefixes of all refspecs,
+without repeats. `full` are full names with one prefix each; `short` are short names with six; `repeated` is one short name, repeated. The
+best of RUNS runs counts.
 """
 import os
 import subprocess
@@ -25,7 +25,7 @@ def seconds(program, words):
     done = subprocess.run([program, "plan", SESSION, *words], capture_output=True)
     taken = time.perf_counter() - start
     if done.returncode:
-        sys.exit(f"the plan was refused: {done.stderr.decode()}")
+        sys.exit(f"the plan failed: {done.stderr.decode()}")
     return taken, done.stdout.count(b"> ref-prefix ")
 
 

@@ -3,11 +3,10 @@
 
 Usage: refs.py PROGRAM [REFS] [RUNS]
 
-PROGRAM is the built gixp_plan (`rt run` in crates/gixp_plan leaves it in out/). The answer is a version 2
-`ls-refs` answer of REFS refs behind a symbolic HEAD. git reads it from a script given as its --upload-pack,
-which prints a version 2 advertisement and then the answer. The C program is built by `cc`, and left out where that
-isn't there. Each is run RUNS times in turn, and the least processor time of each counts, user and system, with that of
-the script in git's. GNU time measures the memory.
+PROGRAM is the built gixp_plan (`rt run` in crates/gixp_plan leaves it in out/). The input is a version 2 `ls-refs` response with REFS refs
+and a symbolic HEAD. git reads it from a script as its --upload-pack, which prints a version 2 advertisement and then the response. `cc`
+builds the C program, which is left out without `cc`. Each runs RUNS times in turn. The least processor time of each counts, user and
+system; git's includes the script. GNU time measures the memory.
 """
 import hashlib
 import os
@@ -79,7 +78,7 @@ def main():
     count = refs + 1
     print(f"{count} refs, {size} bytes, best of {runs} runs each")
     for name, (seconds, memory) in best.items():
-        print(f"{name}: {seconds:.3f} s of the processor, {size / seconds / 1e6:.0f} MB/s, {memory} KiB at most, {memory * 1024 / count:.0f} bytes a ref")
+        print(f"{name}: {seconds:.3f} s of processor time, {size / seconds / 1e6:.0f} MB/s, at most {memory} KiB, {memory * 1024 / count:.0f} bytes a ref")
     ours = best["gixp_plan refs"][0]
     for name in list(best)[1:]:
         print(f"gixp_plan refs / {name}: {ours / best[name][0]:.3f}")

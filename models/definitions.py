@@ -1,12 +1,14 @@
-"""A plain, slow model of the definitions in crates/*/specs, one function a definition, with worked rows as a self-test.
-Written from the definitions alone, never from the program. Run: python3 models/definitions.py
-Values: an id is 20 bytes; a refusal is raised as Refused(name, ...)."""
+"""Reference implementations of the definitions in crates/*/specs, one slow function a definition, with worked examples as a self-test.
+They are written from the definitions alone, never from the program. Run: python3 models/definitions.py
+An id is 20 bytes. An error is raised as Err(name, ...)."""
 
 import inspect
 import itertools
 
+from request_table import GIT
 
-class Refused(Exception):
+
+class Err(Exception):
     def __init__(self, name, *rest):
         super().__init__(name, *rest)
         self.name, self.rest = name, rest
@@ -18,7 +20,7 @@ WHITE = [chr(c).encode() for c in
 
 
 def trim(line):
-    """White space at the end, by characters; a non-UTF-8 tail is not white."""
+    """The line without white space at its end, by characters. A tail that is not UTF-8 is not white space."""
     while True:
         for w in WHITE:
             if line.endswith(w):
@@ -60,13 +62,13 @@ def frames_of(data):
 
 
 def items_of(data, version, banded=False):
-    """-> (items, refusal). Items: ('line', b), ('text', is_error, b), ('stop', kind)."""
+    """-> (items, error). Items: ('line', b), ('text', is_error, b), ('stop', kind)."""
     frames, end = frames_of(data)
     items = []
     for kind, payload in frames:
         if kind == "Data":
             if payload.startswith(b"ERR "):
-                return items, Refused("Server", without_lf(payload[4:]))
+                return items, Err("Server", without_lf(payload[4:]))
             if not banded:
                 items.append(("line", payload))
             elif payload[0] == 1:
@@ -76,31 +78,31 @@ def items_of(data, version, banded=False):
                 if without_lf(payload[1:]):
                     items.append(("text", payload[0] == 3, without_lf(payload[1:])))
             else:
-                return items, Refused("BadBand", payload[0])
+                return items, Err("BadBand", payload[0])
         elif kind == "Flush" or (kind == "Delimiter" and version == 2):
             items.append(("stop", kind))
         else:
-            return items, Refused("UnexpectedFrame")
-    return items, (Refused("Io", "UnexpectedEof") if end == ("Ended",) else Refused("Decode", end[1]))
+            return items, Err("UnexpectedFrame")
+    return items, (Err("Io", "UnexpectedEof") if end == ("Ended",) else Err("Decode", end[1]))
 
 
 def lines_of(data, version):
-    """The lines before the first stop; where no stop comes, the refusal."""
-    items, refusal = items_of(data, version)
+    """The lines before the first stop, or (lines, error) if no stop follows."""
+    items, error = items_of(data, version)
     out = []
     for it in items:
         if it[0] == "stop":
             return out
         if it[0] == "line":
             out.append(it[1])
-    return out, refusal
+    return out, error
 
 
 def id_of(text):
     if len(text) != 40:
-        raise Refused("Id", "InvalidLength", len(text))
+        raise Err("Id", "InvalidLength", len(text))
     if any(c not in b"0123456789abcdefABCDEF" for c in text):
-        raise Refused("Id", "InvalidDigit")
+        raise Err("Id", "InvalidDigit")
     return bytes.fromhex(text.decode())
 
 
@@ -108,7 +110,7 @@ def is_id(text):
     try:
         id_of(text)
         return True
-    except Refused:
+    except Err:
         return False
 
 
@@ -126,7 +128,7 @@ def acknowledgement(line):
     for tail, value in ((b"", "Common"), (b" common", "Common"), (b" ready", "Ready")):
         if t.startswith(b"ACK ") and len(t) == 44 + len(tail) and t.endswith(tail) and is_id(t[4:44]):
             return ("Common", id_of(t[4:44])) if value == "Common" else ("Ready",)
-    raise Refused("UnknownLineType", line)
+    raise Err("UnknownLineType", line)
 
 
 def shallow_update(line):
@@ -134,14 +136,14 @@ def shallow_update(line):
     for word, value in ((b"shallow ", "Shallow"), (b"unshallow ", "Unshallow")):
         if t.startswith(word) and is_id(t[len(word):]):
             return (value, id_of(t[len(word):]))
-    raise Refused("UnknownLineType", line)
+    raise Err("UnknownLineType", line)
 
 
 def wanted_ref(line):
     left, blank, path = trim(line).partition(BLANK)
     if blank and is_id(left):
         return (id_of(left), path)
-    raise Refused("UnknownLineType", line)
+    raise Err("UnknownLineType", line)
 
 
 # ---------------------------------------------------------------- refs of version 2
@@ -149,29 +151,29 @@ def v2_ref(line):
     t = trim(line)
     pieces = t.split(BLANK, 3)
     if len(pieces) < 2:
-        raise Refused("MalformedV2RefLine", t)
+        raise Err("MalformedV2RefLine", t)
     unborn = pieces[0] == b"unborn"
     ident = None if unborn else id_of(pieces[0])
     name = pieces[1]
     if not name:
-        raise Refused("MalformedV2RefLine", t)
+        raise Err("MalformedV2RefLine", t)
     target = peeled = None
     for p in pieces[2:]:
         attr, colon, value = p.partition(b":")
         if not colon or not value:
-            raise Refused("MalformedV2RefLine", t)
+            raise Err("MalformedV2RefLine", t)
         if attr == b"peeled":
             peeled = id_of(value)
         elif attr == b"symref-target":
             target = value
         else:
-            raise Refused("UnknownAttribute", attr, t)
+            raise Err("UnknownAttribute", attr, t)
     if unborn:
         if target == b"(null)":
-            raise Refused("InvariantViolation", "got 'unborn' while (null) was a symref target")
+            raise Err("InvariantViolation", "got 'unborn' while (null) was a symref target")
         if target is not None:
             return ("Unborn", name, target)
-        raise Refused("InvariantViolation", "got 'unborn' as tag target" if peeled is not None
+        raise Err("InvariantViolation", "got 'unborn' as tag target" if peeled is not None
                       else "got 'unborn' as object name of direct reference")
     if target in (None, b"(null)"):
         return ("Direct", name, ident) if peeled is None else ("Peeled", name, ident, peeled)
@@ -180,10 +182,10 @@ def v2_ref(line):
 
 def v2_ref_list(data):
     got = lines_of(data, 2)
-    lines, refusal = got if isinstance(got, tuple) else (got, None)
-    refs = [v2_ref(x) for x in lines]      # a line's refusal stands before that of the stream behind it
-    if refusal:
-        raise refusal
+    lines, error = got if isinstance(got, tuple) else (got, None)
+    refs = [v2_ref(x) for x in lines]      # an error of a line precedes an error of the stream after it
+    if error:
+        raise error
     return refs
 
 
@@ -194,7 +196,7 @@ def symref_table(caps):
         if name == b"symref" and value is not None:
             left, colon, right = value.partition(b":")
             if not colon or not left or not right:
-                raise Refused("MalformedSymref", value)
+                raise Err("MalformedSymref", value)
             out.append((left, None if right == b"(null)" else right))
     return out
 
@@ -217,7 +219,7 @@ def v1_class(line):
 
 
 def v1_grouping(kept, names):
-    """The list of groups of the whole, or None."""
+    """The groups of the whole list, or None."""
     if not kept:
         return []
     if kept[0][0] != "ref":
@@ -231,7 +233,7 @@ def v1_grouping(kept, names):
         rest = v1_grouping(kept[2:], names)
         if rest is not None:
             answers.append([(kept[0], kept[1])] + rest)
-    assert len(answers) <= 1          # at most one grouping: the definition gives a function
+    assert len(answers) <= 1          # the definition is a function: at most one grouping
     return answers[0] if answers else None
 
 
@@ -239,19 +241,19 @@ def v1_ref_list(lines, caps):
     table = symref_table(caps)
     names = [n for n, _ in table]
     classes = [v1_class(x) for x in lines]
-    for k in range(1, len(classes) + 1):         # the earliest line at which no grouping goes on
+    for k in range(1, len(classes) + 1):         # the earliest line with which no grouping continues
         kept = [c for c in classes[:k] if c[0] not in ("capabilities", "shallow")]
         if v1_grouping(kept, names) is None:
             c, before = classes[k - 1], v1_grouping(kept[:-1], names)
             if c[0] == "malformed":
-                raise Refused("MalformedV1RefLine", c[1])
+                raise Err("MalformedV1RefLine", c[1])
             if c[0] == "bad id":
                 id_of(c[1])
             if c[0] == "peeled":
                 if not before or before[-1][1] is not None or before[-1][0][2] in names:
-                    raise Refused("InvariantViolation", "Expecting peeled refs to be preceded by direct refs")
+                    raise Err("InvariantViolation", "Expecting peeled refs to be preceded by direct refs")
                 if before[-1][0][2] != c[2]:
-                    raise Refused("InvariantViolation", "Expecting peeled refs to have the same base path as the "
+                    raise Err("InvariantViolation", "Expecting peeled refs to have the same base path as the "
                                                         "previous, unpeeled one")
                 id_of(c[1])
     refs = []
@@ -275,7 +277,7 @@ def name_value(piece):
 def capabilities_of_bytes(data):
     at = data.find(b"\0")
     if at < 0:
-        raise Refused("MissingDelimitingNullByte")
+        raise Err("MissingDelimitingNullByte")
     return [name_value(p) for p in without_lf(data[at + 1:]).split(BLANK) if p], at
 
 
@@ -298,25 +300,25 @@ def capability_words(caps, name):
 
 def advertisement(data):
     """-> dict(version, caps, refs, updates, rest_items) by the first line."""
-    items, refusal = items_of(data, 0)
+    items, error = items_of(data, 0)
     if not items:
-        raise refusal
+        raise error
     if items[0][0] == "stop":
         return dict(version=0, caps=[], refs=[], updates=[])
     first = trim(items[0][1])
     if first == b"version 2":
-        items2, refusal = items_of(data, 2)
+        items2, error = items_of(data, 2)
         lines = []
         for it in items2[1:]:
             if it[0] == "stop":
                 return dict(version=2, caps=capabilities_of_lines(lines), refs=None, updates=None)
             lines.append(it[1])
-        raise refusal
+        raise error
     version, start = (1, 1) if first == b"version 1" else (0, 0)
     if version == 0 and items[0][1].startswith(b"version "):
-        raise Refused("UnsupportedProtocolVersion", first)
+        raise Err("UnsupportedProtocolVersion", first)
     if start == len(items):
-        raise refusal
+        raise error
     if items[start][0] == "stop":
         return dict(version=version, caps=[], refs=[], updates=[])
     caps, place = capabilities_of_bytes(items[start][1])
@@ -327,7 +329,7 @@ def advertisement(data):
             return dict(version=version, caps=caps, refs=refs, updates=updates)
         lines.append(it[1])
     v1_ref_list(lines, caps)
-    raise refusal
+    raise error
 
 
 # ---------------------------------------------------------------- answers to a fetch
@@ -339,33 +341,33 @@ def utf8(line):
     try:
         line.decode()
     except UnicodeDecodeError:
-        raise Refused("NotUtf8")
+        raise Err("NotUtf8")
     return line
 
 
-def v2_answer(items, refusal):
+def v2_answer(items, error):
     """-> (answer, number of items taken); items without texts."""
     items = [i for i in items if i[0] != "text"]
     answer = dict(acks=[], shallows=[], wanted=[], pack=False)
     at = 0
     while True:
         if at == len(items):
-            raise refusal
+            raise error
         if items[at][0] == "stop":
-            raise Refused("Io", "UnexpectedEof")
+            raise Err("Io", "UnexpectedEof")
         header = trim(utf8(items[at][1]))
         if header == b"packfile":
             answer["pack"] = True
             return answer, at + 1
         if header not in HEADERS:
-            raise Refused("UnknownSectionHeader", items[at][1])
+            raise Err("UnknownSectionHeader", items[at][1])
         key, read = HEADERS[header]
         at += 1
         while at < len(items) and items[at][0] == "line":
             answer[key].append(read(utf8(items[at][1])))
             at += 1
         if at == len(items):
-            raise refusal
+            raise error
         at += 1
         if items[at - 1][1] == "Flush":
             return answer, at
@@ -376,13 +378,13 @@ def kind_of_v1_line(line):
         utf8(line)
         try:
             return ("ack", acknowledgement(line))
-        except Refused:
+        except Err:
             return ("shallow", shallow_update(line))
-    except Refused:
+    except Err:
         return ("other", None)
 
 
-def v1_answer(items, refusal, expects_pack, negotiates):
+def v1_answer(items, error, expects_pack, negotiates):
     items = [i for i in items if i[0] != "text"]
     tagged = [("stop", None) if i[0] == "stop" else kind_of_v1_line(i[1]) for i in items]
     for n in range(len(items) + 1):                      # beginnings, shortest first
@@ -395,7 +397,7 @@ def v1_answer(items, refusal, expects_pack, negotiates):
             pack = False
         elif n < len(items) and tagged[n][0] == "other":
             pack = True
-        elif n == len(items) and refusal.name == "Io" and refusal.rest[0] == "UnexpectedEof" and not (begin and begin[-1][0] == "stop"):
+        elif n == len(items) and error.name == "Io" and error.rest[0] == "UnexpectedEof" and not (begin and begin[-1][0] == "stop"):
             pack = False
         if pack is not None:
             acks = []
@@ -403,14 +405,14 @@ def v1_answer(items, refusal, expects_pack, negotiates):
                 if k == "ack" and not (v[0] == "Common" and v in acks):
                     acks.append(v)
             return dict(acks=acks, shallows=[v for k, v in begin if k == "shallow"], wanted=[], pack=pack), n
-    raise refusal
+    raise error
 
 
 def response(version, data, expects_pack, negotiates, banded=False):
-    items, refusal = items_of(data, version, banded)
+    items, error = items_of(data, version, banded)
     if version == 2:
-        return v2_answer(items, refusal)
-    return v1_answer(items, refusal, expects_pack, negotiates)
+        return v2_answer(items, error)
+    return v1_answer(items, error, expects_pack, negotiates)
 
 
 # ---------------------------------------------------------------- lines of progress
@@ -440,9 +442,9 @@ def progress_parts(text):
 
 # ---------------------------------------------------------------- requests
 def frame(line):
-    """One text line as one Data frame that ends in LF."""
+    """One line of text as one data packet that ends in LF."""
     if len(line) > 65515:
-        raise Refused("LineTooLong")
+        raise Err("LineTooLong")
     return b"%04x" % (len(line) + 5) + line + LF
 
 
@@ -469,17 +471,6 @@ def fetch_request(version, features, lines, haves, done):
         + [frame(b"done") if done else b"0000"]
 
 
-GIT = dict(
-    v1_fetch=[(b"multi_ack", b"multi_ack_detailed"), (b"thin-pack", None), (b"side-band", b"side-band-64k"),
-              (b"side-band-64k", None), (b"ofs-delta", None), (b"shallow", None), (b"deepen-since", None),
-              (b"deepen-not", None), (b"deepen-relative", None), (b"include-tag", None),
-              (b"multi_ack_detailed", None), (b"filter", None)],
-    v2_fetch=[b"shallow", b"filter", b"ref-in-want", b"sideband-all"], v2_ls_refs=[],
-    fetch_arguments=[(b"thin-pack", None), (b"ofs-delta", None), (b"sideband-all", b"sideband-all")],
-    ls_refs_arguments=[b"symrefs", b"peel"],
-    ls_refs_prefixes=[b"symrefs", b"peel", b"ref-prefix ", b"unborn"])
-
-
 def default_features(table, command, version, caps):
     if version == 2:
         words = capability_words(caps, command)
@@ -491,7 +482,7 @@ def default_features(table, command, version, caps):
 
 
 class Arguments:
-    """The argument lines and what the first want will carry."""
+    """The argument lines, and the features of the first want."""
 
     def __init__(self, table, version, features):
         self.version, self.features = version, list(features)
@@ -551,29 +542,29 @@ def name_ok(n, stars=0):
 
 
 def refspec_of(text, one_sided=False):
-    """-> (sign, source, destination or None); one_sided: the changed profile."""
+    """-> (sign, source, destination or None); one_sided: a pattern needs no destination."""
     if text.startswith(b"^"):
         src = text[1:]
         if b":" in src:
-            raise Refused("NegativeWithDestination")
+            raise Err("NegativeWithDestination")
         if is_id(src):
-            raise Refused("NegativeObjectHash")
+            raise Err("NegativeObjectHash")
         if src.count(b"*") >= 2:
-            raise Refused("PatternUnsupported")
+            raise Err("PatternUnsupported")
         if not name_ok(src, 1):
-            raise Refused("InvalidName")
+            raise Err("InvalidName")
         if src != b"HEAD" and not src.startswith(b"refs/") and b"*" not in src:
-            raise Refused("NegativePartialName")
+            raise Err("NegativePartialName")
         return (b"^", src, None)
     sign = b"+" if text.startswith(b"+") else b""
     src, _, dst = text[len(sign):].partition(b":")
     src, dst = src or b"HEAD", dst or None
     if src.count(b"*") >= 2 or (dst or b"").count(b"*") >= 2:
-        raise Refused("PatternUnsupported")
+        raise Err("PatternUnsupported")
     if (b"*" in src) != (b"*" in (dst or b"")) and not (one_sided and dst is None):
-        raise Refused("PatternUnbalanced")
+        raise Err("PatternUnbalanced")
     if (not is_id(src) and not name_ok(src, 1)) or (dst is not None and not name_ok(dst, 1)):
-        raise Refused("InvalidName")
+        raise Err("InvalidName")
     return (sign, src, dst)
 
 
@@ -591,7 +582,7 @@ def candidates(n):
 
 
 def matched(src, name):
-    """None, or the middle (None for what is no pattern wrapped as b'')."""
+    """None, or the part of the name that the star matched, in a tuple (b'' without a star)."""
     kind = source_kind(src)
     if kind == "exact":
         return (b"",) if name == src else None
@@ -627,7 +618,7 @@ def all_prefixes(specs):
 
 
 def mappings_of(specs, names):
-    """-> list of (item or None, source, local, spec place)."""
+    """-> list of (item or None, source, local, index of the refspec)."""
     out = [(None, ("ObjectId", id_of(s[1])), local_name(s[2], b""), k) for k, s in enumerate(specs)
            if s[0] != b"^" and source_kind(s[1]) == "id"]
     shut = [n for n in names if any(s[0] == b"^" and matched(s[1], n) for s in specs)]
@@ -650,7 +641,7 @@ def validated(mappings, specs):
         if len({m[1] for m in of}) > 1:
             conflicts.append((local, [m[1] for m in of], [spec_text(specs[m[3]]) for m in of]))
     if conflicts:
-        raise Refused("MappingValidation", conflicts)
+        raise Err("MappingValidation", conflicts)
     bad = lambda m: m[2] is not None and m[2] != b"HEAD" and not m[2].startswith(b"refs/")
     return [m for m in mappings if not bad(m)], [(m[2], spec_text(specs[m[3]])) for m in mappings if bad(m)]
 
@@ -658,7 +649,7 @@ def validated(mappings, specs):
 def ref_map(refs, caps, specs):
     f = capability_value(caps, b"object-format")
     if f is not None and f != b"sha1":
-        raise Refused("UnknownObjectFormat", f)
+        raise Err("UnknownObjectFormat", f)
     return validated(mappings_of(specs, [r[1] for r in refs]), specs)
 
 
@@ -681,7 +672,7 @@ def cutoff_of(commits, advertised):
 
 
 def complete_set(commits, tips, cutoff):
-    """The least set: the intersection of all closed sets is computed as the union of finite chains."""
+    """The least closed set: the intersection of all closed sets, computed as the union of finite chains."""
     members = {t for t in tips if t in commits}
     while True:
         more = {p for m in members if cutoff is not None and commits[m][0] >= cutoff
@@ -709,7 +700,7 @@ def decision(mappings, ignored, local_refs, commits, existing, shallow):
 
 
 def add_wants(mappings, ignored, known, shallow, ref_in_want, tags, args):
-    """mappings: (as_id, name or None for an id source). Adds to args; True where a want was added."""
+    """mappings: (as_id, name or None for an id source). Adds to args. Returns true if it added a want."""
     any_want = False
     for k, (i, name) in enumerate(mappings):
         if k >= len(known) or ignored[k] or (shallow == ("NoChange",) and known[k]):
@@ -744,7 +735,7 @@ class State:
 
 
 def one_round(state, haves_left, previous):
-    """-> (haves as ids, round, done); haves_left: the list the negotiator will offer, in order."""
+    """-> (haves as ids, round, done); haves_left: the haves that the negotiator offers, in order."""
     common = [v[1] for v in previous["acks"] if v[0] == "Common"] if previous else []
     if state.stateless:
         for c in common:
@@ -778,13 +769,13 @@ def boundary_ids(text):
         lines.pop()
     for x in lines:
         if not is_id(x):
-            raise Refused("Decode", x)
+            raise Err("Decode", x)
     return sorted({id_of(x) for x in lines})
 
 
 # ---------------------------------------------------------------- rounds, and handshakes with an account
 def all_rounds(version, persists, haves, answers, args, interrupt=lambda: False, banded=False):
-    """answers: bytes per response over Bodies, one byte string over Connection.
+    """answers: a byte string for each response over Bodies, one byte string over Connection.
     -> (outcome, rounds, requests, responses); outcome is 'pack' or ('NegotiationFailed', k)."""
     stateless = not persists or version == 2
     state, previous, rounds, requests, responses = State(stateless), None, [], [], []
@@ -798,9 +789,9 @@ def all_rounds(version, persists, haves, answers, args, interrupt=lambda: False,
         rounds.append(rnd)
         requests.append(args.send(persists, done))
         if persists:
-            items, refusal = items_of(stream, version, banded)
-            previous, taken = (v2_answer(items, refusal) if version == 2
-                               else v1_answer(items, refusal, done, not done))
+            items, error = items_of(stream, version, banded)
+            previous, taken = (v2_answer(items, error) if version == 2
+                               else v1_answer(items, error, done, not done))
             assert not banded
             at = 0
             for it in items[:taken]:
@@ -826,7 +817,7 @@ def account_handshake(first, get=None, identity="taken", second=None, store="Ok"
         return "Credentials", ["Get"]
     if get is None:
         return "EmptyCredentials", ["Get"]
-    if identity == "refused":
+    if identity == "error":
         return "Transport", ["Get"]
     if second == "Ok":
         return ("go on" if store == "Ok" else "Credentials"), ["Get", "Store"]
@@ -835,21 +826,21 @@ def account_handshake(first, get=None, identity="taken", second=None, store="Ok"
     return "Transport", ["Get"]
 
 
-# ================================================================ the rows
+# ================================================================ worked examples
 A, B, C = b"0123456789" * 4, b"b" * 40, b"c" * 40
 IA, IB, IC = map(id_of, (A, B, C))
 RESULTS = []
 
 
-def row(ok):
-    """A worked row, by its line here."""
+def example(ok):
+    """A worked example, by its line in this file."""
     RESULTS.append((inspect.stack()[1].lineno, bool(ok)))
 
 
-def refused(name, f, *a, rest=None):
+def is_error(name, f, *a, rest=None):
     try:
         f(*a)
-    except Refused as e:
+    except Err as e:
         return e.name == name and (rest is None or e.rest == rest)
     return False
 
@@ -876,73 +867,73 @@ def ids(n):
 
 
 def lens_ok(*pairs):
-    """Each (stated digits, text without LF, with LF?) has that length."""
+    """Whether each (digits, text, whether an LF follows) has the length of its digits."""
     return all(int(d, 16) == 4 + len(t) + (1 if lf else 0) for d, t, lf in pairs)
 
 
-def rows_of_parts():
+def examples_of_parts():
     row1 = b"003d" + A + b" refs/heads/main\n0000"
-    row(printed(row1) == [A + b" refs/heads/main"] and printed(b"003D" + row1[4:]) == printed(row1))
-    row(printed(b"0000") == [])
-    row(v2_ref(b"unborn HEAD symref-target:refs/heads/main") == ("Unborn", b"HEAD", b"refs/heads/main")
-        and refused("InvariantViolation", v2_ref, b"unborn HEAD") and refused("MalformedV2RefLine", v2_ref, A)
-        and refused("UnknownAttribute", v2_ref, A + b" x foo:1"))
-    row(refused("Server", v2_ref_list, b"0011ERR no access", rest=(b"no access",))
+    example(printed(row1) == [A + b" refs/heads/main"] and printed(b"003D" + row1[4:]) == printed(row1))
+    example(printed(b"0000") == [])
+    example(v2_ref(b"unborn HEAD symref-target:refs/heads/main") == ("Unborn", b"HEAD", b"refs/heads/main")
+        and is_error("InvariantViolation", v2_ref, b"unborn HEAD") and is_error("MalformedV2RefLine", v2_ref, A)
+        and is_error("UnknownAttribute", v2_ref, A + b" x foo:1"))
+    example(is_error("Server", v2_ref_list, b"0011ERR no access", rest=(b"no access",))
         and lens_ok((b"0011", b"ERR no access", False)))
-    row(frames_of(b"0003")[1] == ("Bad", "InvalidLineLength") and frames_of(b"0004")[1] == ("Bad", "DataIsEmpty")
+    example(frames_of(b"0003")[1] == ("Bad", "InvalidLineLength") and frames_of(b"0004")[1] == ("Bad", "DataIsEmpty")
         and frames_of(b"fff0" + b"x" * 65516)[0] == [("Data", b"x" * 65516)]
         and frames_of(b"fff1")[1] == ("Bad", "DataLengthLimitExceeded") and frames_of(b"00g1")[1] == ("Bad", "HexDecode"))
-    row(all(refused("Io", v2_ref_list, row1[:n]) for n in (2, 4, len(row1) - 4)))
+    example(all(is_error("Io", v2_ref_list, row1[:n]) for n in (2, 4, len(row1) - 4)))
     caps, place = capabilities_of_bytes(b"\0unrelated symref=HEAD:refs/heads/main symref=ANOTHER:refs/heads/foo "
                                 b"symref=MISSING_NAMESPACE_TARGET:(null) agent=git/2.28.0")
-    row(place == 0 and symref_table(caps) == [(b"HEAD", b"refs/heads/main"), (b"ANOTHER", b"refs/heads/foo"),
-        (b"MISSING_NAMESPACE_TARGET", None)] and refused("MalformedSymref", symref_table, [(b"symref", b"HEAD:")]))
+    example(place == 0 and symref_table(caps) == [(b"HEAD", b"refs/heads/main"), (b"ANOTHER", b"refs/heads/foo"),
+        (b"MISSING_NAMESPACE_TARGET", None)] and is_error("MalformedSymref", symref_table, [(b"symref", b"HEAD:")]))
     caps = [(b"symref", b"HEAD:refs/heads/main"), (b"symref", b"X:refs/heads/y")]
     lines = [A + b" HEAD", A + b" refs/heads/main", B + b" refs/tags/v1", C + b" refs/tags/v1^{}", b"shallow " + C]
-    row(v1_ref_list(lines, caps) == ([("Symbolic", b"HEAD", b"refs/heads/main", None, IA),
+    example(v1_ref_list(lines, caps) == ([("Symbolic", b"HEAD", b"refs/heads/main", None, IA),
         ("Direct", b"refs/heads/main", IA), ("Peeled", b"refs/tags/v1", IB, IC)], [("Shallow", IC)])
-        and refused("InvariantViolation", v1_ref_list, [lines[0], A + b" HEAD^{}"] + lines[1:], caps))
-    row(acknowledgement(b"ACK " + A + b" ready") == ("Ready",) and acknowledgement(b"NAK whatever") == ("Nak",)
-        and refused("UnknownLineType", acknowledgement, b"ACK " + A + b" continue")
-        and refused("UnknownLineType", acknowledgement, b"ACK xyz ready"))
+        and is_error("InvariantViolation", v1_ref_list, [lines[0], A + b" HEAD^{}"] + lines[1:], caps))
+    example(acknowledgement(b"ACK " + A + b" ready") == ("Ready",) and acknowledgement(b"NAK whatever") == ("Nak",)
+        and is_error("UnknownLineType", acknowledgement, b"ACK " + A + b" continue")
+        and is_error("UnknownLineType", acknowledgement, b"ACK xyz ready"))
     nak = b"0008NAK\n"
     a, n = response(1, nak + b"0006\x01P", False, True)
     b, m = response(1, nak + b"0006\x01P", True, False)
-    row((a["acks"], a["pack"], n) == ([("Nak",)], False, 1) and (b["acks"], b["pack"], m) == ([("Nak",)], True, 1))
+    example((a["acks"], a["pack"], n) == ([("Nak",)], False, 1) and (b["acks"], b["pack"], m) == ([("Nak",)], True, 1))
     pack = b"0006\x01P0005\x010007\x02hi0006\x01A0000"
     whole = b"0014acknowledgments\n0031ACK " + A + b"\n000aready\n0001000dpackfile\n" + pack
     a, n = response(2, whole, True, False)
     its, _ = items_of(pack, 2, True)
-    row(a["acks"] == [("Common", IA), ("Ready",)] and a["pack"]
+    example(a["acks"] == [("Common", IA), ("Ready",)] and a["pack"]
         and b"".join(i[1] for i in its if i[0] == "line") == b"PA" and [i for i in its if i[0] == "text"] == [("text", False, b"hi")])
-    row(refused("UnknownSectionHeader", response, 2, b"0012packfile-uris\n", True, False, rest=(b"packfile-uris\n",)))
+    example(is_error("UnknownSectionHeader", response, 2, b"0012packfile-uris\n", True, False, rest=(b"packfile-uris\n",)))
     sh = b"0035shallow " + A + b"\n"
     one = (dict(acks=[], shallows=[("Shallow", IA)], wanted=[], pack=False))
-    row(response(1, sh, False, True) == (one, 1) and response(1, sh + b"00000000", False, True) == (one, 3)
-        and refused("Io", response, 1, sh + b"0000", False, True))
+    example(response(1, sh, False, True) == (one, 1) and response(1, sh + b"00000000", False, True) == (one, 3)
+        and is_error("Io", response, 1, sh + b"0000", False, True))
     fs = [(b"multi_ack_detailed", None), (b"side-band-64k", None), (b"shallow", None)]
     args = Arguments(GIT, 1, fs)
     args.word(b"shallow", A); args.word(b"deepen", b"1"); args.want(IB); args.want(IC)
     before = list(args.lines)
     sent14 = [b"want " + B + b" multi_ack_detailed side-band-64k shallow", b"deepen 1", b"shallow " + A, b"want " + C]
     first = args.send(False, True)
-    row(first == [frame(x) for x in sent14] + [b"0000", frame(b"done")])
+    example(first == [frame(x) for x in sent14] + [b"0000", frame(b"done")])
     none = Arguments(GIT, 1, []); none.want(IB)
-    row(none.send(False, True)[0] == b"0033want " + B + b" \n")
-    row(b"".join(first) == b"005bwant " + B + b" multi_ack_detailed side-band-64k shallow\n000ddeepen 1\n0035shallow "
+    example(none.send(False, True)[0] == b"0033want " + B + b" \n")
+    example(b"".join(first) == b"005bwant " + B + b" multi_ack_detailed side-band-64k shallow\n000ddeepen 1\n0035shallow "
         + A + b"\n0032want " + C + b"\n00000009done\n")
     args.have(IA)
     over_bodies = args.send(False, False)
     other = Arguments(GIT, 1, fs); other.lines = list(before); other.wanted = True
     other.send(True, True); other.have(IA)
-    row(args.lines == before and over_bodies == [frame(x) for x in sent14] + [b"0000", b"0032have " + A + b"\n", b"0000"]
+    example(args.lines == before and over_bodies == [frame(x) for x in sent14] + [b"0000", b"0032have " + A + b"\n", b"0000"]
         and other.send(True, False) == [b"0032have " + A + b"\n", b"0000"])
     args = Arguments(GIT, 2, [(b"agent", b"git/oxide")]); args.want(IA)
-    row(b"".join(args.send(False, True)) == b"0012command=fetch\n0014agent=git/oxide\n0001000ethin-pack\n000eofs-delta\n"
+    example(b"".join(args.send(False, True)) == b"0012command=fetch\n0014agent=git/oxide\n0001000ethin-pack\n000eofs-delta\n"
         b"0032want " + A + b"\n0009done\n0000")
     opening = b"git-upload-pack /p.git\0host=h\0\0version=2\0"
-    row(4 + len(opening) == 0x2d)
-    row(progress_parts(b"Receiving objects:  42% (21/50)") == (b"Receiving objects", 42, 21, 50)
+    example(4 + len(opening) == 0x2d)
+    example(progress_parts(b"Receiving objects:  42% (21/50)") == (b"Receiving objects", 42, 21, 50)
         and progress_parts(b"Resolving deltas: 21/50") == (b"Resolving deltas", None, 21, 50)
         and progress_parts(b"done: nothing") is None
         and progress_parts(b"Counting: 99999999999999999999 5/6") == (b"Counting", None, 5, 6))
@@ -951,191 +942,191 @@ def rows_of_parts():
     maps = lambda ns: [(m[1][1], m[2], m[3]) for m in validated(mappings_of(specs, ns), specs)[0]]
     want = [(b"HEAD", None, 0), (b"refs/heads/dwim", None, 1), (b"refs/tags/prefix1", b"refs/tags/prefix1", 2),
             (b"refs/heads/main", None, 3)]
-    row(all_prefixes(specs) == [b"HEAD", b"dwim", b"refs/dwim", b"refs/tags/dwim", b"refs/heads/dwim",
+    example(all_prefixes(specs) == [b"HEAD", b"dwim", b"refs/dwim", b"refs/tags/dwim", b"refs/heads/dwim",
         b"refs/remotes/dwim", b"refs/remotes/dwim/HEAD", b"refs/tags/prefix", b"refs/heads/main"]
         and maps(names) == want and maps([n for n in names if n not in (b"refs/heads/HEAD", b"refs/notes/x")]) == want
         and not any(n.startswith(p) for n in (b"refs/heads/HEAD", b"refs/notes/x") for p in all_prefixes(specs)))
     s19 = [refspec_of(b"main:refs/remotes/o/main")]
     c19 = ([(b"refs/remotes/o/main", [("FullName", b"refs/heads/main"), ("FullName", b"refs/tags/main")],
              [b"main:refs/remotes/o/main"] * 2)],)
-    conflict = lambda ns: refused("MappingValidation", lambda: validated(mappings_of(s19, ns), s19), rest=c19)
-    row(conflict([b"refs/heads/main", b"refs/notes/x", b"refs/tags/main"]) and conflict([b"refs/heads/main", b"refs/tags/main"]))
-    row(list(dict.fromkeys([b"refs/tags", b"HEAD", b"main", b"refs/heads/main", b"refs/tags", b"HEAD",
+    conflict = lambda ns: is_error("MappingValidation", lambda: validated(mappings_of(s19, ns), s19), rest=c19)
+    example(conflict([b"refs/heads/main", b"refs/notes/x", b"refs/tags/main"]) and conflict([b"refs/heads/main", b"refs/tags/main"]))
+    example(list(dict.fromkeys([b"refs/tags", b"HEAD", b"main", b"refs/heads/main", b"refs/tags", b"HEAD",
         b"refs/heads/feature", b"refs/heads/main"])) == [b"refs/tags", b"HEAD", b"main", b"refs/heads/main", b"refs/heads/feature"])
     adv, unknown = b"\xdd" * 20, b"\xee" * 20
     g = lambda t, tb=5: {IA: (10, [IB]), IB: (tb, [IC]), IC: (20, []), adv: (t, [])}
     def comp(t, tb=5):
         return complete_set(g(t, tb), [IA], cutoff_of(g(t, tb), [adv, unknown]))
-    row(comp(8) == {IA, IB} and comp(5) == {IA, IB, IC} and comp(-3, -1) == {IA, IB}
+    example(comp(8) == {IA, IB} and comp(5) == {IA, IB, IC} and comp(-3, -1) == {IA, IB}
         and cutoff_of(g(-3, -1), [adv]) == 0)
     one = lambda local, have: decision([(IA, False, b"refs/x")], [False], {b"refs/x": local}, {}, have, ("NoChange",))
     args = Arguments(GIT, 2, [])
-    row(one(IA, set()) == "NoChange" and one(IB, {IA}) == "SkipToRefUpdate" and one(IB, set()) == ("MustNegotiate", [False])
+    example(one(IA, set()) == "NoChange" and one(IB, {IA}) == "SkipToRefUpdate" and one(IB, set()) == ("MustNegotiate", [False])
         and add_wants([(IA, b"refs/x")], [False], [False], ("NoChange",), False, set(), args) and args.lines[-1] == b"want " + A)
     ack = b"0014acknowledgments\n0008NAK\n0000"
     args = Arguments(GIT, 2, [])
     out, rounds, reqs, _ = all_rounds(2, False, ids(50), [ack, ack, b"000dpackfile\n" + pack], args)
     args = Arguments(GIT, 2, [])
     out2 = all_rounds(2, False, ids(50), [ack, ack, ack], args)[0]
-    row(out == "pack" and [r[2] for r in rounds] == [16, 32, 64] and [r[0] for r in rounds] == [16, 32, 2]
+    example(out == "pack" and [r[2] for r in rounds] == [16, 32, 64] and [r[0] for r in rounds] == [16, 32, 2]
         and len(reqs) == 3 <= 50 // 16 + 1 == 4 and out2 == ("NegotiationFailed", 3))
     denied = "Io(PermissionDenied)"
-    row(account_handshake(denied, "Some", "taken", "Ok") == ("go on", ["Get", "Store"])
+    example(account_handshake(denied, "Some", "taken", "Ok") == ("go on", ["Get", "Store"])
         and account_handshake(denied, "Some", "taken", denied) == ("InvalidCredentials", ["Get", "Erase"])
         and account_handshake(denied, "Some", "taken", "Io(TimedOut)") == ("Transport", ["Get"]))
     s = boundary_after([IA, IB], [("Shallow", IC), ("Unshallow", IA), ("Shallow", IB)])
-    row(boundary_text(s) == B + LF + C + LF and boundary_after(s, [("Unshallow", IB), ("Unshallow", IC)]) == set())
-    row(2 ** 31 - 1 == 2147483647)
+    example(boundary_text(s) == B + LF + C + LF and boundary_after(s, [("Unshallow", IB), ("Unshallow", IC)]) == set())
+    example(2 ** 31 - 1 == 2147483647)
 
 
-def rows_of_sessions():
-    row(printed(b"006a" + B + b" refs/tags/v1 peeled:" + C + b"\n0000") == [B + b" refs/tags/v1 peeled:" + C])
-    row(printed(b"002eunborn HEAD symref-target:refs/heads/main\n0000") == [b"unborn HEAD symref-target:refs/heads/main"])
-    row(printed(b"003d" + A + b" refs/heads/main\n0001") == [A + b" refs/heads/main"])
-    row(refused("UnexpectedFrame", v2_ref_list, b"0002"))
-    row(refused("Decode", v2_ref_list, b"0003"))
+def examples_of_sessions():
+    example(printed(b"006a" + B + b" refs/tags/v1 peeled:" + C + b"\n0000") == [B + b" refs/tags/v1 peeled:" + C])
+    example(printed(b"002eunborn HEAD symref-target:refs/heads/main\n0000") == [b"unborn HEAD symref-target:refs/heads/main"])
+    example(printed(b"003d" + A + b" refs/heads/main\n0001") == [A + b" refs/heads/main"])
+    example(is_error("UnexpectedFrame", v2_ref_list, b"0002"))
+    example(is_error("Decode", v2_ref_list, b"0003"))
     args = Arguments(GIT, 2, [(b"agent", b"git/oxide")])
     args.want(IC); args.have(IA); args.have(IB); before = list(args.lines)
-    row(b"".join(args.send(False, False)) == b"0012command=fetch\n0014agent=git/oxide\n0001000ethin-pack\n000eofs-delta\n"
+    example(b"".join(args.send(False, False)) == b"0012command=fetch\n0014agent=git/oxide\n0001000ethin-pack\n000eofs-delta\n"
         b"0032want " + C + b"\n0032have " + A + b"\n0032have " + B + b"\n0000" and args.haves == [] and args.lines == before)
-    row(frame(b"x" * 65515)[:4] == b"fff0" and refused("LineTooLong", frame, b"x" * 65516))
+    example(frame(b"x" * 65515)[:4] == b"fff0" and is_error("LineTooLong", frame, b"x" * 65516))
     a, _ = response(2, b"0010wanted-refs\n003d" + A + b" refs/heads/main\n00010011shallow-info\n0035shallow " + B
                     + b"\n0001000dpackfile\n", True, False)
-    row(a == dict(acks=[], shallows=[("Shallow", IB)], wanted=[(IA, b"refs/heads/main")], pack=True))
+    example(a == dict(acks=[], shallows=[("Shallow", IB)], wanted=[(IA, b"refs/heads/main")], pack=True))
     a, _ = response(2, b"0014acknowledgments\n0008NAK\n00010014acknowledgments\n0008NAK\n0000", True, False)
-    row(a == dict(acks=[("Nak",), ("Nak",)], shallows=[], wanted=[], pack=False))
-    row(items_of(b"0006\x04x", 2, True)[1].rest == (4,))
+    example(a == dict(acks=[("Nak",), ("Nak",)], shallows=[], wanted=[], pack=False))
+    example(items_of(b"0006\x04x", 2, True)[1].rest == (4,))
     caps = lambda t: [name_value(x) for x in t.split()]
     f = lambda t: [n for n, _ in default_features(GIT, b"fetch", 1, caps(t))]
-    row(f(b"multi_ack multi_ack_detailed side-band side-band-64k ofs-delta") ==
+    example(f(b"multi_ack multi_ack_detailed side-band side-band-64k ofs-delta") ==
         [b"side-band-64k", b"ofs-delta", b"multi_ack_detailed"] and f(b"multi_ack side-band") == [b"multi_ack", b"side-band"])
     adv = b"000eversion 1\n004e" + A + b" HEAD\0symref=HEAD:refs/heads/main\n003d" + A + b" refs/heads/main\n0000"
     got = advertisement(adv)
-    row(got["version"] == 1 and got["refs"] == [("Symbolic", b"HEAD", b"refs/heads/main", None, IA),
+    example(got["version"] == 1 and got["refs"] == [("Symbolic", b"HEAD", b"refs/heads/main", None, IA),
         ("Direct", b"refs/heads/main", IA)] and got["updates"] == [])
-    row(refused("UnsupportedProtocolVersion", advertisement, b"000eversion 3\n", rest=(b"version 3",)))
-    row(advertisement(b"0000") == dict(version=0, caps=[], refs=[], updates=[]))
-    r = lambda n, t: refused(n, refspec_of, t)
-    row(r("NegativeWithDestination", b"^refs/heads/x:y") and r("NegativeObjectHash", b"^" + A)
+    example(is_error("UnsupportedProtocolVersion", advertisement, b"000eversion 3\n", rest=(b"version 3",)))
+    example(advertisement(b"0000") == dict(version=0, caps=[], refs=[], updates=[]))
+    r = lambda n, t: is_error(n, refspec_of, t)
+    example(r("NegativeWithDestination", b"^refs/heads/x:y") and r("NegativeObjectHash", b"^" + A)
         and r("NegativePartialName", b"^main") and r("InvalidName", b"^"))
-    row(r("PatternUnbalanced", b"refs/heads/*") and r("PatternUnsupported", b"refs/*/*:refs/*")
+    example(r("PatternUnbalanced", b"refs/heads/*") and r("PatternUnsupported", b"refs/*/*:refs/*")
         and r("InvalidName", b"refs/heads/a..b") and r("InvalidName", b"@"))
-    row(refspec_of(b"+")[1:] == refspec_of(b":")[1:] == (b"HEAD", None) and refspec_of(b"+") != refspec_of(b":"))
+    example(refspec_of(b"+")[1:] == refspec_of(b":")[1:] == (b"HEAD", None) and refspec_of(b"+") != refspec_of(b":"))
 
     def mapped(texts, names, one_sided=False):
         specs = [refspec_of(t, one_sided) for t in texts]
         ms, fixes = validated(mappings_of(specs, names), specs)
         return [(m[1][1], m[2], m[3]) for m in ms], fixes
     h = b"refs/heads/"
-    row(mapped([b"refs/heads/*:refs/remotes/o/*", b"^refs/heads/a"], [h + b"a", h + b"ab"])
+    example(mapped([b"refs/heads/*:refs/remotes/o/*", b"^refs/heads/a"], [h + b"a", h + b"ab"])
         == ([(h + b"ab", b"refs/remotes/o/ab", 0)], []))
-    row(mapped([b"refs/heads/*:o/*"], [h + b"main"]) == ([], [(b"o/main", b"refs/heads/*:o/*")]))
-    row(mapped([b"refs/heads/*:*"], [h + b"HEAD"]) == ([(h + b"HEAD", b"HEAD", 0)], []))
-    row(refused("UnknownObjectFormat", ref_map, [], [(b"object-format", b"sha256")], []))
-    row(b"".join(invoke(b"ls-refs", [(b"agent", b"git/oxide")], [b"symrefs", b"peel", b"unborn", b"ref-prefix HEAD"]))
+    example(mapped([b"refs/heads/*:o/*"], [h + b"main"]) == ([], [(b"o/main", b"refs/heads/*:o/*")]))
+    example(mapped([b"refs/heads/*:*"], [h + b"HEAD"]) == ([(h + b"HEAD", b"HEAD", 0)], []))
+    example(is_error("UnknownObjectFormat", ref_map, [], [(b"object-format", b"sha256")], []))
+    example(b"".join(invoke(b"ls-refs", [(b"agent", b"git/oxide")], [b"symrefs", b"peel", b"unborn", b"ref-prefix HEAD"]))
         == b"0014command=ls-refs\n0014agent=git/oxide\n0001000csymrefs\n0009peel\n000bunborn\n0014ref-prefix HEAD\n0000")
     c3 = (b"0038ACK " + A + b" common\n") * 3
-    row(response(1, c3, False, True)[0]["acks"] == [("Common", IA)] and not response(1, c3, False, True)[0]["pack"])
+    example(response(1, c3, False, True)[0]["acks"] == [("Common", IA)] and not response(1, c3, False, True)[0]["pack"])
     a, n = response(1, b"00000008NAK\n0006\x01P", False, True)
-    row(a["acks"] == [("Nak",)] and not a["pack"] and n == 2)
-    row(boundary_ids(B + LF + A + LF + B) == [IA, IB] and boundary_text([IB, IA, IB]) == A + LF + B + LF)
+    example(a["acks"] == [("Nak",)] and not a["pack"] and n == 2)
+    example(boundary_ids(B + LF + A + LF + B) == [IA, IB] and boundary_text([IB, IA, IB]) == A + LF + B + LF)
     w = window_size
-    row([w(True, x) for x in (16383, 16384, 1700000000000000000, MAX)] == [32766, 18022, 1870000000000000000, MAX]
+    example([w(True, x) for x in (16383, 16384, 1700000000000000000, MAX)] == [32766, 18022, 1870000000000000000, MAX]
         and [w(False, x) for x in (16, 32, 64)] == [32, 64, 96])
     ms = [(None, b"HEAD"), (IA, b"refs/heads/main")]
     def wants(mappings, riw):
         a = Arguments(GIT, 2, [])
         a.lines = []
         return add_wants(mappings, [False] * 9, [False] * len(mappings), ("NoChange",), riw, set(), a), a.lines
-    row(wants(ms, True) == (True, [b"want-ref HEAD", b"want-ref refs/heads/main"])
+    example(wants(ms, True) == (True, [b"want-ref HEAD", b"want-ref refs/heads/main"])
         and wants(ms, False) == (True, [b"want " + A]) and wants(ms[:1], False) == (False, []))
     common = b"0014acknowledgments\n0031ACK " + C + b"\n0000"
     nak = b"0014acknowledgments\n0008NAK\n0000"
     args = Arguments(GIT, 2, [])
     out, rounds, reqs, _ = all_rounds(2, False, ids(1000), [common] + [nak] * 9, args)
-    row([x[1] for x in rounds] == [16, 32, 96, 224, 480] and out == ("NegotiationFailed", 5)
+    example([x[1] for x in rounds] == [16, 32, 96, 224, 480] and out == ("NegotiationFailed", 5)
         and [sum(f == b"0032have " + C + b"\n" for f in q) for q in reqs] == [0, 1, 1, 1, 1])
-    row(complete_set({IA: (10, [IB, IC]), IB: (10, []), IC: (10, [])}, [IA], 10) == {IA, IB, IC})
+    example(complete_set({IA: (10, [IB, IC]), IB: (10, []), IC: (10, [])}, [IA], 10) == {IA, IB, IC})
     args = Arguments(GIT, 2, [(b"shallow", None), (b"agent", b"x")])
     args.word(b"shallow", A); args.word(b"deepen", b"2"); args.word(b"deepen-relative"); args.want(IB)
-    row(args.lines == [b"thin-pack", b"ofs-delta", b"shallow " + A, b"deepen 2", b"deepen-relative", b"want " + B])
+    example(args.lines == [b"thin-pack", b"ofs-delta", b"shallow " + A, b"deepen 2", b"deepen-relative", b"want " + B])
     args = Arguments(GIT, 1, [(b"shallow", None)])
-    row(args.can(b"deepen") and not args.can(b"deepen-since"))
-    row(boundary_after([], [("Shallow", IC)]) == {IC})
+    example(args.can(b"deepen") and not args.can(b"deepen-since"))
+    example(boundary_after([], [("Shallow", IC)]) == {IC})
     chain = ids(1000)
     cs = {c: (7, chain[k + 1:k + 2]) for k, c in enumerate(chain)}
-    row(complete_set(cs, chain[:1], 7) == set(chain) and complete_set(cs, chain[:1], 8) == {chain[0]})
+    example(complete_set(cs, chain[:1], 7) == set(chain) and complete_set(cs, chain[:1], 8) == {chain[0]})
     big = b"fff0" + b"x" * 65516 + b"0005x0000"
-    row([i[0] for i in items_of(big, 2)[0]] == ["line", "line", "stop"])
-    row(b"".join(i[1] for i in items_of(b"0012\x01ERR no access", 2, True)[0]) == b"ERR no access")
-    row(items_of(b"0001", 1)[1].name == items_of(b"0002", 2)[1].name == "UnexpectedFrame")
+    example([i[0] for i in items_of(big, 2)[0]] == ["line", "line", "stop"])
+    example(b"".join(i[1] for i in items_of(b"0012\x01ERR no access", 2, True)[0]) == b"ERR no access")
+    example(items_of(b"0001", 1)[1].name == items_of(b"0002", 2)[1].name == "UnexpectedFrame")
     args = Arguments(GIT, 2, [])
     out, rounds, reqs, _ = all_rounds(2, False, ids(1000), [nak] * 9, args)
-    row([x[2] for x in rounds] == [16, 32, 64, 128, 256, 512] and rounds[-1][0] == 504
+    example([x[2] for x in rounds] == [16, 32, 64, 128, 256, 512] and rounds[-1][0] == 504
         and out == ("NegotiationFailed", 6) and len(reqs) == 6)
     args = Arguments(GIT, 1, []); args.want(IA)
     out, rounds, reqs, _ = all_rounds(1, True, ids(1000), b"0008NAK\n" * 9, args)
-    row([x[2] for x in rounds] == [16, 32, 64, 96, 128, 160, 192, 224, 256] and rounds[-1][0] == 88
+    example([x[2] for x in rounds] == [16, 32, 64, 96, 128, 160, 192, 224, 256] and rounds[-1][0] == 88
         and out == ("NegotiationFailed", 9) and 1000 // 16 + 1 == 63)
     many = b"0014acknowledgments\n" + (b"0031ACK " + A + b"\n") * 10000
-    row(refused("Io", response, 2, many, False, True))
+    example(is_error("Io", response, 2, many, False, True))
     caps = [(b"symref", b"HEAD:refs/heads/a"), (b"symref", b"HEAD:refs/heads/b"), (b"symref", b"X:refs/heads/y")]
-    row(v1_ref_list([A + b" HEAD", B + b" HEAD"], caps)[0] == [("Symbolic", b"HEAD", b"refs/heads/a", None, IA),
+    example(v1_ref_list([A + b" HEAD", B + b" HEAD"], caps)[0] == [("Symbolic", b"HEAD", b"refs/heads/a", None, IA),
         ("Symbolic", b"HEAD", b"refs/heads/a", None, IB)])
     s = [refspec_of(b"main:refs/x")]
     ns = [h + b"main", b"refs/remotes/main", b"refs/tags/main"]
-    row(refused("MappingValidation", lambda: validated(mappings_of(s, ns), s),
+    example(is_error("MappingValidation", lambda: validated(mappings_of(s, ns), s),
         rest=([(b"refs/x", [("FullName", n) for n in ns], [b"main:refs/x"] * 3)],)))
-    row(lens_ok((b"0007", b"\x01PA", False), (b"0006", b"\x01C", False)))
+    example(lens_ok((b"0007", b"\x01PA", False), (b"0006", b"\x01C", False)))
     args = Arguments(GIT, 2, [])
     out, rounds, reqs, _ = all_rounds(2, False, ids(20), [], args, interrupt=lambda: True)
-    row(out == ("NegotiationFailed", 0) and reqs == [])
+    example(out == ("NegotiationFailed", 0) and reqs == [])
     args = Arguments(GIT, 1, [(b"shallow", None)]); args.word(b"deepen", b"1"); args.want(IB)
     out, rounds, reqs, resp = all_rounds(1, True, ids(20),
         b"0035shallow " + A + b"\n00000008NAK\n0008NAK\n0006\x01P0000", args)
     ups = [u for r_ in resp for u in r_["shallows"]]
-    row(out == "pack" and len(reqs) == 2 and boundary_after([], ups) == {IA} and resp[-1]["shallows"] == [])
+    example(out == "pack" and len(reqs) == 2 and boundary_after([], ups) == {IA} and resp[-1]["shallows"] == [])
     h1 = [h + b"a", h + b"main", b"refs/tags/v1"]
-    row(mapped([b"refs/heads/*"], h1, True) == ([(h + b"a", None, 0), (h + b"main", None, 0)], [])
+    example(mapped([b"refs/heads/*"], h1, True) == ([(h + b"a", None, 0), (h + b"main", None, 0)], [])
         and all_prefixes([refspec_of(b"refs/heads/*", True)]) == [h]
         and refspec_of(b"refs/heads/*:", True) == refspec_of(b"refs/heads/*", True))
-    row(mapped([b"refs/heads/*", b"^refs/heads/a"], h1, True)[0] == [(h + b"main", None, 0)])
-    row(mapped([b"refs/heads/*", h + b"main"], [h + b"main"], True)[0] == [(h + b"main", None, 0)]
+    example(mapped([b"refs/heads/*", b"^refs/heads/a"], h1, True)[0] == [(h + b"main", None, 0)])
+    example(mapped([b"refs/heads/*", h + b"main"], [h + b"main"], True)[0] == [(h + b"main", None, 0)]
         and all_prefixes([refspec_of(b"refs/heads/*", True), refspec_of(h + b"main")]) == [h, h + b"main"])
-    row(all(refused("PatternUnbalanced", refspec_of, t, True) for t in
+    example(all(is_error("PatternUnbalanced", refspec_of, t, True) for t in
                      (b"refs/heads/*:refs/x", b"refs/x:refs/heads/*", b":refs/heads/*")))
-    row(mapped([b"refs/heads/*"], [b"refs/tags/v1"], True) == ([], []))
+    example(mapped([b"refs/heads/*"], [b"refs/tags/v1"], True) == ([], []))
     body0 = b"000eversion 2\n0013ls-refs=unborn\n0012fetch=shallow\n0017object-format=sha1\n0000"
     got = advertisement(body0)
     feats = default_features(GIT, b"fetch", 2, got["caps"]) + [(b"agent", b"git/gixp-plan")]
     args = Arguments(GIT, 2, feats); args.want(IA)
     show_frames = lambda fs: [b"> " + (f if f in (b"0000", b"0001") else f[4:-1]) for f in fs]
     ls = invoke(b"ls-refs", [(b"agent", b"git/gixp-plan")], [b"symrefs", b"peel", b"unborn", b"ref-prefix refs/heads/"])
-    row(got["version"] == 2 and show_frames(ls) == [b"> command=ls-refs", b"> agent=git/gixp-plan", b"> 0001",
+    example(got["version"] == 2 and show_frames(ls) == [b"> command=ls-refs", b"> agent=git/gixp-plan", b"> 0001",
         b"> symrefs", b"> peel", b"> unborn", b"> ref-prefix refs/heads/", b"> 0000"]
         and show_frames(args.send(False, True)) == [b"> command=fetch", b"> agent=git/gixp-plan", b"> 0001", b"> thin-pack",
         b"> ofs-delta", b"> want " + A, b"> done", b"> 0000"])
-    row(refused("Io", response, 2, b"", True, False))
-    row(r("InvalidName", b"a..b"))
+    example(is_error("Io", response, 2, b"", True, False))
+    example(r("InvalidName", b"a..b"))
 
 
 def edges():
-    """Small points that the other rows don't show."""
-    row(response(1, b"0038ACK ", False, True)[0] == dict(acks=[], shallows=[], wanted=[], pack=False))
-    row(response(1, b"", True, False) == (dict(acks=[], shallows=[], wanted=[], pack=False), 0))
-    row(1700000000000000000 * 11 > MAX >= window_size(True, 1700000000000000000))
-    row(local_name(b"HEAD", b"") == b"refs/heads/HEAD" and local_name(b"heads", b"") == b"refs/heads/heads")
-    row(v1_ref_list([B + b" t", b"shallow " + C, C + b" t^{}"], [])[0] == [("Peeled", b"t", IB, IC)])
-    row(refused("InvariantViolation", v1_ref_list, [B + b" t", C + b" t^{}", C + b" t^{}"], []))
-    row(v1_ref_list([B + b" t"], [(b"symref", b"t:(null)")])[0] == [("Direct", b"t", IB)]
-        and refused("InvariantViolation", v1_ref_list, [B + b" t", C + b" t^{}"], [(b"symref", b"t:(null)")]))
+    """Small points that the other examples don't cover."""
+    example(response(1, b"0038ACK ", False, True)[0] == dict(acks=[], shallows=[], wanted=[], pack=False))
+    example(response(1, b"", True, False) == (dict(acks=[], shallows=[], wanted=[], pack=False), 0))
+    example(1700000000000000000 * 11 > MAX >= window_size(True, 1700000000000000000))
+    example(local_name(b"HEAD", b"") == b"refs/heads/HEAD" and local_name(b"heads", b"") == b"refs/heads/heads")
+    example(v1_ref_list([B + b" t", b"shallow " + C, C + b" t^{}"], [])[0] == [("Peeled", b"t", IB, IC)])
+    example(is_error("InvariantViolation", v1_ref_list, [B + b" t", C + b" t^{}", C + b" t^{}"], []))
+    example(v1_ref_list([B + b" t"], [(b"symref", b"t:(null)")])[0] == [("Direct", b"t", IB)]
+        and is_error("InvariantViolation", v1_ref_list, [B + b" t", C + b" t^{}"], [(b"symref", b"t:(null)")]))
 
 
 if __name__ == "__main__":
-    rows_of_parts()
-    rows_of_sessions()
+    examples_of_parts()
+    examples_of_sessions()
     edges()
     for line, ok in RESULTS:
         if not ok:
             print("line %d fails" % line)
-    print(len(RESULTS), "worked rows,", sum(not ok for _, ok in RESULTS), "fail")
+    print(len(RESULTS), "worked examples,", sum(not ok for _, ok in RESULTS), "fail")

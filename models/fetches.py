@@ -1,11 +1,11 @@
-"""Whole fetches and plans: the line of each row of these modes."""
-from definitions import (Arguments, BLANK, GIT, LF, MAX, Refused, State, add_wants, boundary_after, decision, default_features,
+"""Whole fetches and plans: the output line of a test vector of each of these modes."""
+from definitions import (Arguments, BLANK, GIT, LF, MAX, Err, State, add_wants, boundary_after, decision, default_features,
                          frames_of, id_of, id_text, is_id, name_ok, one_round, unpack, without_lf)
-from rows import Unreadable
-from words import answer_words, client_err, letters, parse_err, read_err, response_err, runs, sb, sid
+from vectors import Unreadable
+from values import answer_words, client_err, escaped, parse_err, read_err, response_err, runs, quoted, id_digits
 from streams import Banded, Source, number, read_answer, required
-from transports import Bodies, Connection, Telling, bodies_of
-from listings import Shaken, obtained, spec_of
+from transports import Bodies, Connection, ProgressRecorder, bodies_of
+from listings import HandshakeResult, obtained, spec_of
 
 SCRIPT_WORDS = (b"bodies", b"refspec", b"have", b"more-haves", b"boundary", b"depth", b"deepen", b"since", b"exclude", b"tags",
                 b"reject-shallow", b"without", b"no-pack", b"interrupt-at", b"store-fails")
@@ -24,7 +24,7 @@ def char_text(c):
 
 
 def string_text(b):
-    """A text of characters in quotes."""
+    """A UTF-8 text in quotes, as Debug shows it."""
     out = ""
     for c in b.decode():
         out += char_text(c) or ("\\u{%x}" % ord(c) if ord(c) < 32 or ord(c) == 127 else c)
@@ -32,7 +32,7 @@ def string_text(b):
 
 
 def bytes_text(b):
-    """Bytes in quotes: those that are no characters, and control characters, as two digits."""
+    """Bytes in quotes, with two digits for each byte that is not UTF-8 and for control characters."""
     out, at = "", 0
     while at < len(b):
         for size in (1, 2, 3, 4):
@@ -91,7 +91,7 @@ def response_debug(e):
     return response_err(e)
 
 
-def shake_debug(e):
+def handshake_debug(e):
     if e.name == "Transport":
         return "Transport(%s)" % client_debug(e.rest[0])
     if e.name == "ParseRefs":
@@ -107,7 +107,7 @@ def init_debug(e):
     return "ListRefs(%s(%s))" % (where, client_debug(inner) if where == "Transport" else parse_debug(inner))
 
 
-# ---------------------------------------------------------------- what a fetch is asked to do
+# ---------------------------------------------------------------- the script of a fetch
 class Script:
     def __init__(self, data):
         self.bodies, self.specs, self.haves, self.boundary, self.excluded = b"", [], [], [], []
@@ -134,7 +134,7 @@ class Script:
         elif word == b"refspec":
             try:
                 self.specs.append(spec_of(text))
-            except Refused:
+            except Err:
                 pass
         elif word == b"have" and is_id(text):
             self.haves.append(id_of(text))
@@ -170,40 +170,40 @@ class Script:
 
 
 class Store:
-    """A shallow boundary that counts calls, and refuses one of them."""
+    """A shallow boundary that counts calls and fails one of them."""
 
     def __init__(self, script):
         self.ids, self.call, self.fault, self.locks, self.releases = script.boundary, script.call, script.fault, 0, 0
 
-    def refuses(self, error):
+    def fail_call(self, error):
         if self.call == 0:
             self.call = MAX
             if self.fault == b"memory":
-                raise Refused("Memory")
-            raise Refused("%s(%s)" % (error, {b"device": "Io(TimedOut)", b"locked": "Locked", b"line": 'Decode { line: "" }'}[self.fault]))
+                raise Err("Memory")
+            raise Err("%s(%s)" % (error, {b"device": "Io(TimedOut)", b"locked": "Locked", b"line": 'Decode { line: "" }'}[self.fault]))
         self.call -= 1
 
     def lock(self):
-        self.refuses("LockShallowFile")
+        self.fail_call("LockShallowFile")
         self.locks += 1
 
     def read(self):
-        self.refuses("ReadShallowFile")
+        self.fail_call("ReadShallowFile")
         return self.ids
 
     def write(self, ids):
-        self.refuses("WriteShallowFile")
+        self.fail_call("WriteShallowFile")
         self.ids = ids
 
 
 class Interrupt:
-    """Says true to one question."""
+    """Answers true once."""
 
     def __init__(self, questions):
         self.questions = questions
 
     def ask(self, count=1):
-        """Whether one of so many questions is the one."""
+        """Whether it answers true to one of so many questions."""
         if count > self.questions:
             self.questions = MAX
             return True
@@ -213,7 +213,7 @@ class Interrupt:
 
 # ---------------------------------------------------------------- a fetch
 def missing(feature):
-    return Refused('MissingServerFeature { feature: "%s", description: "%s" }' % (feature.decode(), DESCRIPTIONS[feature]))
+    return Err('MissingServerFeature { feature: "%s", description: "%s" }' % (feature.decode(), DESCRIPTIONS[feature]))
 
 
 def need(args, word, value=None):
@@ -223,7 +223,7 @@ def need(args, word, value=None):
 
 
 def ask_for_depth(args, shallow, boundary):
-    """The lines of the boundary and the depth."""
+    """Adds the lines of the boundary and the depth."""
     if (boundary or shallow != ("NoChange",)) and not args.can(b"shallow"):
         raise missing(b"shallow")
     for i in boundary:
@@ -242,41 +242,41 @@ def ask_for_depth(args, shallow, boundary):
 
 
 def fetch_rounds(transport, version, args, haves, banded, interrupt):
-    """-> (rounds, updates, the last answer)."""
+    """-> (rounds, updates, the last response)."""
     state, left, rounds, updates, previous = State(version == 2 or not transport.persists), list(haves), [], [], None
     while True:
         if interrupt.ask():
-            raise Refused("Negotiate(NegotiationFailed { rounds: %d })" % len(rounds))
+            raise Err("Negotiate(NegotiationFailed { rounds: %d })" % len(rounds))
         new, rnd, done = one_round(state, left, previous)
         for i in new:
             args.have(i)
         rounds.append(rnd)
         try:
             transport.request(args.send(transport.persists, done))
-        except Refused as e:
-            raise Refused("Client(%s)" % client_debug(e))
+        except Err as e:
+            raise Err("Client(%s)" % client_debug(e))
         try:
             previous = read_answer(transport.r, version, done, not done, banded, [], interrupt.questions)
-        except Refused as e:
+        except Err as e:
             interrupt.ask(transport.r.asked)
-            raise Refused("FetchResponse(%s)" % response_debug(e))
+            raise Err("FetchResponse(%s)" % response_debug(e))
         interrupt.ask(transport.r.asked)
         updates += previous["shallows"]
         if previous["pack"]:
             return rounds, updates, previous
         if done:
-            raise Refused("Negotiate(NegotiationFailed { rounds: %d })" % len(rounds))
+            raise Err("Negotiate(NegotiationFailed { rounds: %d })" % len(rounds))
 
 
 def read_pack(r, interrupt, pack):
-    """Adds the content up to the stop to `pack`."""
+    """Appends the content up to the stop to `pack`."""
     banded = Banded(r, interrupt.questions, MAX)
     while True:
         word = []
         try:
             given = banded.fill()
-        except Refused as e:
-            raise Refused("ConsumePack(Read(%s))" % read_debug(e))
+        except Err as e:
+            raise Err("ConsumePack(Read(%s))" % read_debug(e))
         if not given:
             return
         pack.append(given)
@@ -284,14 +284,14 @@ def read_pack(r, interrupt, pack):
 
 
 def fetch(script, transport, shaken, maps, refs, store, pack, agent=b"git/oxide"):
-    """-> what a fetch returns as words; raises its error."""
+    """-> the result of a fetch as text. Raises its error."""
     version, shallow = shaken.version, script.shallow
     early, shaken.updates = shaken.updates or [], None
     features = default_features(script.table, b"fetch", version, shaken.caps) + [(b"agent", agent)]
     try:
         required(version, features)
-    except Refused as e:
-        raise Refused("FetchResponse(%s)" % response_debug(e))
+    except Err as e:
+        raise Err("FetchResponse(%s)" % response_debug(e))
     args = Arguments(script.table, version, features)
     if script.tags == "included":
         need(args, b"include-tag")
@@ -315,7 +315,7 @@ def fetch(script, transport, shaken, maps, refs, store, pack, agent=b"git/oxide"
         updates, last = updates + early, dict(last, shallows=last["shallows"] + early)
         if updates and not held:
             if script.rejects:
-                raise Refused("RejectShallowRemote")
+                raise Err("RejectShallowRemote")
             store.lock()
             held = True
         read_pack(transport.r, interrupt, pack)
@@ -326,79 +326,79 @@ def fetch(script, transport, shaken, maps, refs, store, pack, agent=b"git/oxide"
         store.releases += held
 
 
-def fetch_words(row, data):
-    script = Script(row.data)
+def fetch_words(vector, data):
+    script = Script(vector.data)
     data = script.data if data is None else data
-    if row["over"] == "connection":
-        transport = Connection(data, row["version"], Source(row))
+    if vector["over"] == "connection":
+        transport = Connection(data, vector["version"], Source(vector))
     else:
         transport = Bodies(bodies_of(script.bodies, data))
     out = ""
     try:
-        shaken = Shaken(transport, Telling())
-    except Refused as e:
-        sent = sb(transport.sent) if transport.persists else "".join(sb(x) + " " for x in transport.sent)
-        return "handshake %s %s" % (shake_debug(e), sent)
+        shaken = HandshakeResult(transport, ProgressRecorder())
+    except Err as e:
+        sent = quoted(transport.sent) if transport.persists else "".join(quoted(x) + " " for x in transport.sent)
+        return "handshake %s %s" % (handshake_debug(e), sent)
     store = Store(script)
     try:
-        _, obtain = obtained(shaken, transport, script.table, (b"agent", b"git/oxide"), script.specs, [], Telling())
+        _, obtain = obtained(shaken, transport, script.table, (b"agent", b"git/oxide"), script.specs, [], ProgressRecorder())
         maps, _, refs = obtain()
         pack = []
         try:
             out += fetch(script, transport, shaken, maps, refs, store, pack)
-        except Refused as e:
+        except Err as e:
             out += "fetch %s " % e.name
-        out += sb(b"".join(pack)) + " " if script.copies else ""
-    except Refused as e:
+        out += quoted(b"".join(pack)) + " " if script.copies else ""
+    except Err as e:
         out += "refs %s " % init_debug(e)
-    out += "locks %d/%d" % (store.locks, store.releases) + "".join(" " + sid(i) for i in store.ids) + " "
+    out += "locks %d/%d" % (store.locks, store.releases) + "".join(" " + id_digits(i) for i in store.ids) + " "
     out += transport.r.after(shaken.version)
-    return out + (sb(transport.sent) if transport.persists else "".join(sb(x) + " " for x in transport.sent))
+    return out + (quoted(transport.sent) if transport.persists else "".join(quoted(x) + " " for x in transport.sent))
 
 
-def fetch_row(row):
-    if row["cut"] == "nowhere":
-        return fetch_words(row, None)
-    data = Script(row.data).data
-    return runs([fetch_words(row, data[:k]) for k in range(len(data))], 0)
+def fetch_vector(vector):
+    if vector["cut"] == "nowhere":
+        return fetch_words(vector, None)
+    data = Script(vector.data).data
+    return runs([fetch_words(vector, data[:k]) for k in range(len(data))], 0)
 
 
 # ---------------------------------------------------------------- a plan
-def plan_parts(row):
+def plan_parts(vector):
     """-> haves, refspecs and bodies."""
-    line, _, data = row.data.partition(LF)
+    line, _, data = vector.data.partition(LF)
     parts = []
     for word in line.split(BLANK):
         n = number(word)
         parts.append(data[:n])
         data = data[n:]
-    bodies = parts[1 + row["refspecs"]:]
-    if 0 < row["denied"] <= len(bodies):
-        bodies[row["denied"] - 1] = "PermissionDenied"
-    return parts[0], parts[1:1 + row["refspecs"]], bodies
+    bodies = parts[1 + vector["refspecs"]:]
+    if 0 < vector["denied"] <= len(bodies):
+        bodies[vector["denied"] - 1] = "PermissionDenied"
+    return parts[0], parts[1:1 + vector["refspecs"]], bodies
 
 
 def have_ids(text):
-    """One on each line, in their order and with their repeats."""
+    """The ids of the lines, in their order and with repeats."""
     if not text:
         return []
     lines = without_lf(text).split(LF)
     if not all(map(is_id, lines)):
-        raise Refused("have Decode")
+        raise Err("have Decode")
     return [id_of(x) for x in lines]
 
 
 def planned(transport, specs, haves):
-    """-> (mappings and fixes as text, `pack` or `nothing`, the refusal's words or None)."""
+    """-> (mappings and fixes as text, `pack` or `nothing`, the text of the error or None)."""
     try:
-        shaken = Shaken(transport, Telling())
-    except Refused as e:
-        denied = e.name == "Transport" and e.rest[0].name == "Denied"      # and there is no account at hand
+        shaken = HandshakeResult(transport, ProgressRecorder())
+    except Err as e:
+        denied = e.name == "Transport" and e.rest[0].name == "Denied"      # and the client has no account
         return b"", b"", "handshake " + ("EmptyCredentials" if denied else e.name)
     try:
-        _, obtain = obtained(shaken, transport, GIT, (b"agent", b"git/gixp-plan"), specs, [], Telling())
+        _, obtain = obtained(shaken, transport, GIT, (b"agent", b"git/gixp-plan"), specs, [], ProgressRecorder())
         maps, fixes, refs = obtain()
-    except Refused as e:
+    except Err as e:
         return b"", b"", "refs " + e.name
     text = b""
     for item, source, local, _ in maps:
@@ -411,40 +411,40 @@ def planned(transport, specs, haves):
     try:
         words = fetch(script, transport, shaken, maps, refs, Store(script), [], b"git/gixp-plan")
         return text, b"nothing\n" if words == "nothing " else b"pack\n", None
-    except Refused as e:
+    except Err as e:
         return text, b"", "fetch " + e.name.split("(")[0].split(" ")[0]
 
 
-class Nobody(Bodies):
-    """Bodies of a client without an account: what is denied stays so."""
+class BodiesWithoutAccount(Bodies):
+    """Bodies of a client without an account: a denied handshake stays denied."""
 
     def handshake(self, parameters):
         try:
             return super().handshake(parameters)
-        except Refused as e:
+        except Err as e:
             if e.name == "Io" and e.rest[0] == "PermissionDenied":
-                raise Refused("Denied")
+                raise Err("Denied")
             raise
 
 
-def plan_row(row):
-    haves, specs, bodies = plan_parts(row)
+def plan_vector(vector):
+    haves, specs, bodies = plan_parts(vector)
     try:
         haves = have_ids(haves)
         try:
             specs = [spec_of(s) for s in specs]
-        except Refused as e:
-            raise Refused("spec " + e.name)
-    except Refused as e:
+        except Err as e:
+            raise Err("spec " + e.name)
+    except Err as e:
         return " " + e.name
-    transport = Nobody(bodies)
-    mapped, end, refusal = planned(transport, specs, haves)
+    transport = BodiesWithoutAccount(bodies)
+    mapped, end, error = planned(transport, specs, haves)
     text = b""
     for k, request in enumerate(transport.sent, 1):
         text += b"request %d\n" % k
         for kind, payload in frames_of(request)[0]:
             text += b"> " + (without_lf(payload) if kind == "Data" else {"Flush": b"0000", "Delimiter": b"0001"}[kind]) + LF
     text += mapped + end
-    if 0 < row["room"] < len(text):
-        return letters(text[:row["room"]]) + " file Io"
-    return letters(text) + (" Ok" if refusal is None else " " + refusal)
+    if 0 < vector["room"] < len(text):
+        return escaped(text[:vector["room"]]) + " file Io"
+    return escaped(text) + (" Ok" if error is None else " " + error)

@@ -1,12 +1,12 @@
-"""Exhaustive short inputs: the definitions against a second reading of each, step by step.
+"""Compares definitions with a second reading of each, step by step, over all short inputs and some random ones.
 
-python3 models/fuzz.py    prints a line for each, in some 20 s; status 1 where any differs"""
+python3 models/fuzz.py    prints a line for each definition, in some 20 s. The status is 1 if any input differs"""
 import heapq
 import itertools
 import random
 import sys
 
-from definitions import (A, Arguments, B, BLANK, C, GIT, IA, Refused, all_prefixes, all_rounds, complete_set, cutoff_of, frame, id_of,
+from definitions import (A, Arguments, B, BLANK, C, GIT, IA, Err, all_prefixes, all_rounds, complete_set, cutoff_of, frame, id_of,
                          id_text, ids, is_id, kind_of_v1_line, mappings_of, refspec_of, symref_table, trim, v1_answer, v1_ref_list,
                          validated)
 
@@ -28,15 +28,15 @@ def sequential_v1(lines, caps):
         t = trim(line)
         left, blank, path = t.partition(BLANK)
         if not blank or not path:
-            raise Refused("MalformedV1RefLine", t)
+            raise Err("MalformedV1RefLine", t)
         if path.endswith(b"^{}"):
             base = path[:-3]
             if set(left) <= {48} and base == b"capabilities":
                 continue
             if not refs or not refs[-1][1]:
-                raise Refused("InvariantViolation", "preceded")
+                raise Err("InvariantViolation", "preceded")
             if refs[-1][0][1] != base:
-                raise Refused("InvariantViolation", "same base")
+                raise Err("InvariantViolation", "same base")
             i = id_of(left)
             refs[-1] = [("Peeled", base, refs[-1][0][2], i), False]
         elif is_id(left):
@@ -50,13 +50,13 @@ def sequential_v1(lines, caps):
     return [r for r, _ in refs], ups
 
 
-def loop_v1_answer(items, refusal, expects, negotiates):
+def loop_v1_answer(items, error, expects, negotiates):
     acks, shallows, ready, at, stop_before = [], [], False, 0, False
     while True:
         if at == len(items):
-            if refusal.name == "Io" and not stop_before:
+            if error.name == "Io" and not stop_before:
                 return dict(acks=acks, shallows=shallows, wanted=[], pack=False), at
-            raise refusal
+            raise error
         if items[at][0] == "stop":
             if stop_before:
                 return dict(acks=acks, shallows=shallows, wanted=[], pack=False), at + 1
@@ -80,18 +80,18 @@ def loop_v1_answer(items, refusal, expects, negotiates):
 def got(f, *a):
     try:
         return f(*a)
-    except Refused as e:
+    except Err as e:
         return (e.name,) + (e.rest[:1] if e.name != "InvariantViolation" else ())
 
 
 def sequences(parts, most):
-    """All sequences of at most so many of the parts."""
+    """All sequences of at most so many parts."""
     for length in range(most + 1):
         yield from map(list, itertools.product(parts, repeat=length))
 
 
 def compared(name, pairs):
-    """Counts the inputs of which two readings differ, and shows the first."""
+    """Counts the inputs for which two readings differ, and prints the first."""
     count = differ = 0
     for given, one, other in pairs:
         count += 1
@@ -110,20 +110,20 @@ def refs():
 
 def answers():
     for items in sequences(ANSWER_ITEMS, 5):
-        for refusal in (Refused("Io", "UnexpectedEof"), Refused("Server", b"m")):
+        for error in (Err("Io", "UnexpectedEof"), Err("Server", b"m")):
             for expects, negotiates in itertools.product((False, True), repeat=2):
-                given = items, refusal, expects, negotiates
+                given = items, error, expects, negotiates
                 yield given, got(v1_answer, *given), got(loop_v1_answer, *given)
 
 
 def without_remotes(mapped):
-    """Mappings without what they were matched by, which leaving out refs may number otherwise."""
-    is_refusal = isinstance(mapped, tuple) and mapped and isinstance(mapped[0], str)
-    return mapped if is_refusal else ([one[1:] for one in mapped[0]], mapped[1])
+    """Mappings without the index of their ref, which changes if refs are left out."""
+    is_error = isinstance(mapped, tuple) and mapped and isinstance(mapped[0], str)
+    return mapped if is_error else ([one[1:] for one in mapped[0]], mapped[1])
 
 
 def prefixes():
-    """Leaving out the refs that no prefix begins changes nothing."""
+    """Leaving out refs without one of the prefixes changes nothing."""
     for texts in sequences(SPECS, 3):
         if texts:
             specs = [refspec_of(text) for text in texts]
@@ -147,7 +147,7 @@ def walk(commits, tips, cutoff):
 
 
 def walks(rng):
-    """The least set of complete commits against a walk from the newest time."""
+    """The least set of complete commits, compared with a walk from the newest commit."""
     for _ in range(20000):
         n = rng.randrange(1, 8)
         commits = {k: (rng.randrange(-3, 6), [rng.randrange(n + 2) for _ in range(rng.randrange(3))])
@@ -164,7 +164,7 @@ def random_answer(rng, version, pool):
 
 
 def rounds(rng):
-    """The bound on rounds, under random answers."""
+    """The bound on rounds, for random responses."""
     for _ in range(3000):
         n, pool = rng.randrange(0, 1200), ids(6)
         version, persists = rng.choice([(2, False), (2, True), (1, False), (1, True)])

@@ -1,7 +1,7 @@
-"""Negotiations: the line of a row."""
-from definitions import (Arguments, BLANK, GIT, LF, MAX, Refused, State, add_wants, complete_set, cutoff_of, decision,
+"""Negotiations: the output line of a test vector."""
+from definitions import (Arguments, BLANK, GIT, LF, MAX, Err, State, add_wants, complete_set, cutoff_of, decision,
                          frames_of, is_id, window_size, without_lf)
-from rows import Unreadable
+from vectors import Unreadable
 from streams import number
 from listings import TAGS_SPEC, spec_of
 
@@ -11,10 +11,10 @@ ERRORS = {b"open": "OpenPackedRefsBuffer", b"iter": "InitRefIter", b"peel": "Pee
 
 
 class History:
-    """A repository, what the server has, and what both say. Ids are numbers."""
+    """A repository, the refs of the server, and the answers of both. Ids are numbers."""
 
     def __init__(self, text):
-        self.ids, self.objects, self.existing = [], {}, {}       # id -> (kind, commit or None, whether a look fails)
+        self.ids, self.objects, self.existing = [], {}, {}       # id -> (kind, commit or None, whether a lookup fails)
         self.refs, self.targets, self.error = {}, [], None
         self.alternates, self.has_alternates = [], True          # (targets, error) each
         self.extra, self.mappings, self.haves, self.answers = [], [], [], []
@@ -73,7 +73,7 @@ class History:
             self.answers.append([kinds.get(w) or ("Common", number(w)) for w in rest.split(BLANK)])
 
     def mapping(self, text):
-        """-> (as_id or None, name or None, local or None, whether it is unborn, place of an added refspec or None)."""
+        """-> (as_id or None, name or None, local or None, whether it is unborn, index of an extra refspec or None)."""
         local, place, form, rest = text.split(BLANK, 3)
         words = rest.split(BLANK)
         ids = [None if w == b"-" else number(w) for w in words[1:]]
@@ -102,17 +102,17 @@ class Graph:
         self.looked.append(i)
         self.calls -= 1
         if self.calls == 0:
-            raise Refused("LookupCommitInGraph(Io(Interrupted))")
+            raise Err("LookupCommitInGraph(Io(Interrupted))")
         kind, commit, is_broken = self.objects.get(i, (None, None, False))
         if is_broken:
-            raise Refused("LookupCommitInGraph(Corrupt)")
+            raise Err("LookupCommitInGraph(Corrupt)")
         if commit:
             self.held[i] = commit
         return commit is not None
 
 
 class Negotiator:
-    """Offers haves, whatever it is told; one of its calls may fail."""
+    """Offers haves, whatever calls it gets. One of its calls may fail."""
 
     def __init__(self, haves, fail_at):
         self.haves, self.calls = list(haves), fail_at
@@ -121,9 +121,9 @@ class Negotiator:
     def step(self):
         self.calls -= 1
         if self.calls == 0:
-            raise Refused("LookupCommitInGraph(Corrupt)")
+            raise Err("LookupCommitInGraph(Corrupt)")
 
-    def tell(self, what, i):
+    def report(self, what, i):
         self.step()
         what.append(i)
 
@@ -133,7 +133,7 @@ class Negotiator:
 
 
 def mark_complete(history, graph, tips, cutoff):
-    """Marks the tips, and from the cutoff on the parents of what is marked, the newest first."""
+    """Marks the tips, then the parents of marked commits down to the cutoff, newest first."""
     waiting = []
     for t in tips:
         if t not in graph.marked:
@@ -151,22 +151,22 @@ def mark_complete(history, graph, tips, cutoff):
 
 
 def found_tips(history, graph):
-    """The commits of the refs and then of each alternate, each once. All are listed before one is looked up (no definition
-    says what a listing that is refused looked up before)."""
+    """The commits of the refs, then of each alternate, without repeats. All are listed before one is looked up: no definition says
+    what a failed listing looked up before."""
     if history.error:
-        raise Refused(history.error)
+        raise Err(history.error)
     if not history.has_alternates:
-        raise Refused("AlternateRefsAndObjects")
+        raise Err("AlternateRefsAndObjects")
     targets = list(history.targets)
     for more, error in history.alternates:
         if error:
-            raise Refused(error)
+            raise Err(error)
         targets += more
     return list(dict.fromkeys(t for t in targets if graph.look(t)))
 
 
 def first_step(history, graph, negotiator, shallow, ignored):
-    """What the refs call for; where it is a negotiation, what it begins with is marked and told."""
+    """The decision. If it is a negotiation, marks the tips and reports them to the negotiator."""
     maps = history.mappings
     if not maps or shallow == ("Deepen", 0) or (len(maps) == 1 and maps[0][3]):
         return decision([(m[0], m[3], m[2]) for m in maps], ignored, {}, {}, set(), shallow)
@@ -184,17 +184,17 @@ def first_step(history, graph, negotiator, shallow, ignored):
     assert graph.marked == complete_set(all_commits, tips, cutoff)
     for m in maps:
         if m[0] in graph.marked:
-            negotiator.tell(negotiator.known, m[0])
+            negotiator.report(negotiator.known, m[0])
     for t in tips:
-        negotiator.tell(negotiator.tips, t)
+        negotiator.report(negotiator.tips, t)
     return action
 
 
 def round_of(state, negotiator, args, previous):
-    """-> (new haves, in_vain, window, whether a commit was common, whether it is the last)."""
+    """-> (new haves, in_vain, window, whether a commit was common, whether this round is the last)."""
     common = [a[1] for a in previous if a[0] == "Common"] if previous else []
     for c in common:
-        negotiator.tell(negotiator.common, c)
+        negotiator.report(negotiator.common, c)
         if state.stateless and c not in state.kept:
             state.kept.append(c)
     if state.stateless:
@@ -215,14 +215,14 @@ def round_of(state, negotiator, args, previous):
 
 
 def run_rounds(history, negotiator, args, persists, sent):
-    """-> words; the requests go into `sent`."""
+    """-> text. Appends the requests to `sent`."""
     state = State(not persists or args.version == 2)
     out = ""
     for previous in [None] + history.answers:
-        for _ in range(2):                       # a round that is refused is tried once more
+        for _ in range(2):                       # a failed round is tried once more
             try:
                 new, in_vain, w, common, done = round_of(state, negotiator, args, previous)
-            except Refused as e:
+            except Err as e:
                 out += e.name + " "
                 continue
             out += "round %d %d %d%s%s" % (w, new, in_vain, " common" if common else "", " last " if done else " ")
@@ -247,33 +247,33 @@ def request_words(data):
     return out
 
 
-def shallow_of(row):
-    by = min(row["by"], 2 ** 32 - 1)
+def shallow_of(vector):
+    by = min(vector["by"], 2 ** 32 - 1)
     return {"no": ("NoChange",), "depth": ("DepthAtRemote", by or 2 ** 31 - 1), "deepen": ("Deepen", by),
-            "since": ("Since", by), "exclude": ("Exclude",)}[row["shallow"]]
+            "since": ("Since", by), "exclude": ("Exclude",)}[vector["shallow"]]
 
 
 def wants_of(history, args, ignored, known, shallow, by_name):
-    """The lines of the wants, and a have of what is a tag."""
+    """Adds the wants, and a have for each tag."""
     tags = {i.to_bytes(20, "big") for i, (kind, _, _) in history.existing.items() if kind == "tag"}
     maps = [(None if m[0] is None else m[0].to_bytes(20, "big"), m[1]) for m in history.mappings]
     return add_wants(maps, ignored, known, shallow, by_name, tags, args)
 
 
-def negotiation_row(row):
-    history = History(row.data)
-    graph, negotiator = Graph(history.objects, row["fail-at"]), Negotiator(history.haves, row["offer-fails"])
-    shallow, ignored = shallow_of(row), history.ignored(row["tags"])
-    persists, version = row["over"] == "connection", 2 if row["over"] == "bodies" else 1
+def negotiation_vector(vector):
+    history = History(vector.data)
+    graph, negotiator = Graph(history.objects, vector["fail-at"]), Negotiator(history.haves, vector["offer-fails"])
+    shallow, ignored = shallow_of(vector), history.ignored(vector["tags"])
+    persists, version = vector["over"] == "connection", 2 if vector["over"] == "bodies" else 1
     sent, action = [], None
     try:
         action = first_step(history, graph, negotiator, shallow, ignored)
         out = action + " " if isinstance(action, str) else \
             "MustNegotiate %s " % "".join("1" if k else "0" for k in action[1])
-    except Refused as e:
+    except Err as e:
         out = e.name + " "
     if isinstance(action, tuple):
-        by_name = row["ref-in-want"] == "yes"
+        by_name = vector["ref-in-want"] == "yes"
         args = Arguments(GIT, version, [(b"ref-in-want", None)] if by_name else [])
         if wants_of(history, args, ignored, action[1], shallow, by_name):
             out += "wants " + run_rounds(history, negotiator, args, persists, sent)

@@ -1,6 +1,6 @@
-"""A client's transport over bodies in memory or a connection, as far as a row shows it."""
-from definitions import BLANK, Refused
-from words import client_err, parse_err, sb
+"""A client's transport over bodies in memory or a connection, as far as a test vector shows it."""
+from definitions import BLANK, Err
+from values import client_err, parse_err, quoted
 from streams import Reader, early_refs, greeting, number
 
 KINDS = {b"denied": "PermissionDenied", b"timed-out": "TimedOut", b"broken-pipe": "BrokenPipe"}
@@ -17,7 +17,7 @@ class Bodies:
         body = self.bodies.pop(0) if self.bodies else b""
         self.r = Reader(b"" if isinstance(body, str) else body, self.r.version)
         if isinstance(body, str):
-            raise Refused("Io", body)
+            raise Err("Io", body)
 
     def identify(self):
         self.account = True
@@ -32,7 +32,7 @@ class Bodies:
 
 
 class Connection:
-    """One stream of answers; what is sent is one text."""
+    """One stream of responses. All requests go into one text."""
     persists = True
 
     def __init__(self, data, version, source=None, opening=None):
@@ -40,7 +40,7 @@ class Connection:
         self.r = Reader(data, version, source)
 
     def identify(self):
-        raise Refused("AuthenticationUnsupported")
+        raise Err("AuthenticationUnsupported")
 
     def handshake(self, parameters):
         if self.opening:
@@ -55,7 +55,7 @@ class Connection:
 
 
 def bodies_of(words, data):
-    """The bodies of words: a length each, or how getting it fails."""
+    """The bodies of some words: each word is a length, or the error of the read."""
     out = []
     for word in words.split(BLANK):
         if word in KINDS:
@@ -67,8 +67,8 @@ def bodies_of(words, data):
     return out
 
 
-class Telling:
-    """Progress as words."""
+class ProgressRecorder:
+    """Records the calls of a progress reporter as text."""
 
     def __init__(self):
         self.words, self.shown = b"", None
@@ -89,62 +89,62 @@ class Telling:
     def fail(self, text):
         self.words += b"fail " + text + b"; "
 
-    def told(self):
-        return "told " + sb(self.words) + " "
+    def as_text(self):
+        return "told " + quoted(self.words) + " "
 
 
-def shake_hands(transport, helper, parameters, progress, asked):
-    """-> what the greeting found; raises what a client is told. `helper` says what each action gives."""
+def run_handshake(transport, helper, parameters, progress, asked):
+    """-> the result of the handshake. Raises the client's error. `helper` has the result of each action."""
     progress.init(None, b"steps")
     progress.name(b"handshake")
     progress.step()
 
     def act(word, text):
-        asked.append("%s%s " % (word, sb(text)))
+        asked.append("%s%s " % (word, quoted(text)))
         answer = helper.pop(0) if helper else b"account"
         if answer == b"fails":
-            raise Refused("Credentials", b"no helper")
+            raise Err("Credentials", b"no helper")
         return answer != b"none"
     try:
         return transport.handshake(parameters)
-    except Refused as e:
+    except Err as e:
         if e.name != "Io" or e.rest[0] != "PermissionDenied":
-            raise Refused("Transport", e)
+            raise Err("Transport", e)
     progress.name(b"authentication")
     if not act("Get", b"git://h/p.git"):
-        raise Refused("EmptyCredentials")
+        raise Err("EmptyCredentials")
     try:
         transport.identify()
-    except Refused as e:
-        raise Refused("Transport", e)
+    except Err as e:
+        raise Err("Transport", e)
     progress.step()
     progress.name(b"handshake (authenticated)")
     try:
         found = transport.handshake(parameters)
-    except Refused as e:
+    except Err as e:
         if e.name != "Io" or e.rest[0] != "PermissionDenied":
-            raise Refused("Transport", e)
+            raise Err("Transport", e)
         act("Erase", b"output")
-        raise Refused("InvalidCredentials", b"git://h/p.git")
+        raise Err("InvalidCredentials", b"git://h/p.git")
     act("Store", b"output")
     return found
 
 
 def handshake_refs(transport, found):
-    """The refs and updates that come with a handshake; raises a refusal of the list."""
+    """The refs and shallow updates of a handshake. Raises an error of the list."""
     if not found[2]:
         return None, None
     try:
         return early_refs(transport.r, found[1])
-    except Refused as e:
-        raise Refused("ParseRefs", e)
+    except Err as e:
+        raise Err("ParseRefs", e)
 
 
-def shake_error(e):
+def handshake_error(e):
     if e.name == "Transport":
         return "Transport(%s) " % client_err(e.rest[0])
     if e.name in ("Credentials", "InvalidCredentials"):
-        return "%s(%s) " % (e.name, sb(e.rest[0]))
+        return "%s(%s) " % (e.name, quoted(e.rest[0]))
     if e.name == "PolicyViolation":
         return "TransportProtocolPolicyViolation(V%d) " % e.rest[0]
     if e.name == "ParseRefs":

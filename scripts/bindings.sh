@@ -1,7 +1,7 @@
 #!/bin/sh
 # Builds the archive libgixp.a and the shared library libgixp.so in bindings/build, and runs the tests in C, Rust and Python.
-# Its last line is `N passed, M failed`; it ends with 1 where one failed. RT names another command than `rt`. `--built` takes
-# crates/gixp_c/out/libgixp_c.a as it is.
+# The last line is `N passed, M failed`. The status is 1 if a test failed. RT names another command than `rt`. With `--built` it uses
+# the existing crates/gixp_c/out/libgixp_c.a.
 set -u
 cd "$(dirname "$0")/.." || exit 1
 rt=${RT:-rt}
@@ -10,7 +10,7 @@ build=bindings/build
 passed=0
 failed=0
 
-# Counts what a run's `N passed` and `M failed` say, or one more for a run that says nothing.
+# Adds up `N passed` and `M failed` of a run. A run that fails without such a line counts as one failure.
 count() {
     status=$1
     ok=$(grep -oE '[0-9]+ passed' "$2" | awk '{n += $1} END {print n + 0}')
@@ -25,7 +25,7 @@ count() {
 mkdir -p "$build" || exit 1
 python3 scripts/exports.py || failed=$((failed + 1))
 passed=$((passed + (failed == 0)))
-# One archive: the exports, and the heap that they call.
+# one archive of the exports and the heap that they call
 printf 'create %s/libgixp.a\naddlib crates/gixp_c/out/libgixp_c.a\naddlib %s/c/liblibc_c.a\nsave\nend\n' "$build" "$kit" | ar -M || exit 1
 cc -shared -o "$build/libgixp.so" -Wl,--whole-archive "$build/libgixp.a" -Wl,--no-whole-archive || exit 1
 

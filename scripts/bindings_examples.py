@@ -1,6 +1,10 @@
 #!/usr/bin/env python3
-"""Runs the examples of bindings/rust over a repository that it makes, beside git: bindings_examples.py BUILD, with the folder of the
-libraries. Prints `N passed, M failed`, and ends with 1 where one failed."""
+"""Runs the examples of bindings/rust over a repository that it makes, and compares them with git.
+
+Usage: bindings_examples.py BUILD
+
+BUILD is the folder of the libraries. Prints `N passed, M failed`. The status is 1 if an example failed.
+"""
 import os
 import pathlib
 import subprocess
@@ -32,7 +36,7 @@ def make(folder):
 
 
 def listing(folder, _):
-    """The same lines as git's, whose order of a symbolic ref's two lines is the same."""
+    """Whether the lines equal git's, in the same order for the two lines of a symbolic ref."""
     status, out, err = example("ls_remote", folder)
     return status == 0 and out == git("ls-remote", "--symref", folder), err
 

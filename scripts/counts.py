@@ -1,14 +1,13 @@
 #!/usr/bin/env python3
-"""Counts what documents give the number of: rows, tests, crates, edits, public functions, worked rows, claims, variants.
+"""Counts what the documents count: test vectors, tests, crates, mutants, public functions, worked rows, variants of enums.
 
 Usage: counts.py [--write]
 
-Prints each number that is wrong, with its file and line, and each sentence that isn't there any more. Beside the sentences below, a
-number in front of `rows`, `tests`, `crates`, `edits`, `must-fail edits`, `public functions` or `methods of public traits` has to be
-that of the whole repository, but for one that a sentence below has, and for a line that names a commit, whose numbers are of that.
-What a crate's README says in a line `Depends on ..; used by ..` has to be what crates.txt says, and its public names and its
-definitions have to be there. The status is 1 where there is something wrong. With `--write` it writes what is right into the
-documents.
+Prints each wrong number with its file and line, and each sentence that isn't in its document any more. `sentences` lists the sentences
+with numbers of their own. Anywhere else a number before `rows`, `test vectors`, `tests`, `crates`, `mutants`, `mutants of the gate`,
+`public functions` or `methods of public traits` must be the number of the whole repository, except in a line that names a commit. The
+public names and the definitions that the README of a crate lists must exist. The status is 1 if something is wrong. --write corrects
+the numbers in the documents.
 """
 import re
 import subprocess
@@ -21,15 +20,15 @@ CRATES = TOP / "crates"
 DATA = CRATES / "gixp_replay" / "data"
 sys.path.insert(0, str(TOP / "models"))
 import reference
-import rows as models_rows
+import vectors as models_vectors
 
 NUMBER = r"([0-9][0-9,]*)"
 WORDS = "no one two three four five six seven eight nine ten eleven twelve".split()
 WORD = rf"({'|'.join(WORDS)})"
-DOCUMENTS = ["README.md", "CONTRIBUTING.md", "docs/*.md", "models/README.md", "crates/*/README.md", "examples/**/*.md"]
-PROOFS, ARCHITECTURE = "docs/PROOFS.md", "docs/ARCHITECTURE.md"
+TESTED, ARCHITECTURE = "docs/reference/TESTED.md", "docs/ARCHITECTURE.md"
+DOCUMENTS = ["README.md", "CONTRIBUTING.md", "docs/*.md", TESTED, "models/README.md", "crates/*/README.md", "examples/**/*.md"]
 TEST_MODULES = {
-    "gixp_test_lower": ["streams", "fetch", "listing", "graph", "refspecs"],
+    "gixp_test_lower": ["streams", "fetch", "graph", "refspecs"],
     "gixp_test_fetch": ["handshakes", "negotiations", "fetches"],
 }
 
@@ -77,19 +76,21 @@ def public_functions():
         bool(re.match(r" *(?:final )?fn ", line)) for line in lines)
 
 
-def edits():
-    return len(list((TOP / "wrong-bodies").rglob("*.edit"))), len(list(CRATES.glob("*/must-fail/*.edit")))
+def mutants():
+    """How many mutants mutants/ and must-fail/ have."""
+    others = sum(line.startswith("mutant: ") for path in (TOP / "mutants").iterdir() for line in path.read_text().splitlines())
+    return others, len(list(CRATES.glob("*/must-fail/*.edit")))
 
 
 def read_rows():
     """The rows of each file that `args` names, as (name, mode)."""
     files = (CRATES / "gixp_replay" / "args").read_text().split()
-    return {name: [(row.name, row.mode) for row in models_rows.read(DATA / name)[0]] for name in files}
+    return {name: [(row.name, row.mode) for row in models_vectors.read(DATA / name)[0]] for name in files}
 
 
 def worked_rows():
     said = subprocess.run([sys.executable, TOP / "models" / "definitions.py"], capture_output=True, text=True).stdout
-    return int(re.search(r"([0-9]+) worked rows", said)[1])
+    return int(re.search(r"([0-9]+) worked examples", said)[1])
 
 
 def variants(path, name):
@@ -114,53 +115,40 @@ def sentences():
     modes = [mode for _, mode in rows["refspecs"]]
     peers = [name.partition("_")[0] for name, _ in rows["peers"]]
     names = [mode for _, mode in rows["names"]]
-    yield PROOFS, rf"`crates/gixp_replay/data` has {NUMBER} rows", [sum(map(len, rows.values()))]
+    yield TESTED, rf"`crates/gixp_replay/data` has {NUMBER} test vectors", [sum(map(len, rows.values()))]
     for name, found in rows.items():
-        yield PROOFS, rf"(?m)^\| `{name}` \| {NUMBER} \|", [len(found)]
-    yield PROOFS, rf"{NUMBER} texts with their value or error; {NUMBER} names with what .*? of them; {NUMBER} lists of refspecs", [
+        yield TESTED, rf"(?m)^\| `{name}` \| {NUMBER} \|", [len(found)]
+    yield TESTED, rf"{NUMBER} texts with their value or error; {NUMBER} names with what .*? of them; {NUMBER} lists of refspecs", [
         modes.count("refspec"), modes.count("ref-name"), modes.count("prefixes") + modes.count("matches")]
-    yield PROOFS, rf"`gogit_..`, {NUMBER} .*? `dulwich_..`, {NUMBER} .*? `git_..`, {NUMBER} ", [
+    yield TESTED, rf"`gogit_..`, {NUMBER} .*? `dulwich_..`, {NUMBER} .*? `git_..`, {NUMBER} ", [
         peers.count("gogit"), peers.count("dulwich"), peers.count("git")]
-    yield PROOFS, rf"{NUMBER} names \(`git_name`\) and {NUMBER} refspecs", [names.count("ref-name"), names.count("refspec")]
+    yield TESTED, rf"{NUMBER} names \(`git_name`\) and {NUMBER} refspecs", [names.count("ref-name"), names.count("refspec")]
     for crate in crates():
-        if crate.startswith("gixp_test_") or crate == "gixp_examples":
+        if tests(crate):
             parts = TEST_MODULES.get(crate, [])
             found = "".join(rf"[^|\n]*?\({NUMBER}\)" for _ in parts)
-            yield PROOFS, rf"(?m)^\| `{crate}` \| {NUMBER} \|{found}", [tests(crate), *(tests(crate, part) for part in parts)]
+            yield TESTED, rf"(?m)^\| `{crate}` \| {NUMBER} \|{found}", [tests(crate), *(tests(crate, part) for part in parts)]
     yield "docs/DIFFERENCES.md", rf"one `read::Error` with {WORD} variants", [in_words(variants("gixp_packetline/src/read.rt", "Error"))]
-    claims = (TOP / "README.md").read_text().partition(" claims\n")[2].partition("\n## ")[0]
-    yield "README.md", rf"(?mi)^## {WORD} claims$", [in_words(len(re.findall(r"(?m)^[0-9]+\. ", claims))).capitalize()]
     parts = rows_of_table((TOP / "docs/SESSION.md").read_text(), "| part of the sentence | clause of `headline` |")
     yield "docs/SESSION.md", rf"in each of the {WORD} parts", [in_words(parts)]
-    yield "models/README.md", rf"it checks {NUMBER} worked rows", [worked_rows()]
+    yield "models/README.md", rf"it checks {NUMBER} worked examples", [worked_rows()]
 
 
 def wholes():
     """What a number in front of these words is to be, anywhere."""
     rows = sum(map(len, read_rows().values()))
-    others, must_fail = edits()
+    others, of_the_gate = mutants()
     functions, methods = public_functions()
     return {
         "rows": rows,
+        "test vectors": rows,
         "tests": sum(tests(crate) for crate in crates()),
         "crates": len(crates()),
-        "must-fail edits": must_fail,
-        "edits": others + must_fail,
+        "mutants of the gate": of_the_gate,
+        "mutants": others + of_the_gate,
         "public functions": functions,
         "methods of public traits": methods,
     }
-
-
-def neighbours():
-    """The sentence of each crate that names the crates which it depends on and which use it, but those that follow from others."""
-    nearest = {}
-    for name in crates():
-        uses = repository_uses(name)
-        nearest[name] = [it for it in uses if not any(it in below(other) for other in uses)]
-    for name, uses in nearest.items():
-        users = [it for it in nearest if name in nearest[it]]
-        said = f"Depends on {', '.join(f'`{it}`' for it in uses) or 'no other crate here'}"
-        yield name, said + ("; used by " + ", ".join(f"`{it}`" for it in users) if users else "") + "."
 
 
 def line_at(text, place):
@@ -197,7 +185,7 @@ def check_wholes(texts, known, wrong):
 
 
 def check_lists(texts, wrong):
-    """Each crate is in the table of crates, follows in crates.txt what it depends on, and has no more must-fail edits than it may."""
+    """Each crate is in the table of crates, follows in crates.txt what it depends on, and has no more mutants in must-fail/ than it may."""
     table = texts[ARCHITECTURE].partition("\n## Crates\n")[2].partition("\n## ")[0]
     firsts = {name for line in table.splitlines() if line.startswith("| `") for name in re.findall(r"`(\w+)`", line.split("|")[1])}
     place_of_crates = texts[ARCHITECTURE].find("\n## Crates\n") + 1
@@ -209,15 +197,7 @@ def check_lists(texts, wrong):
             wrong.append((ARCHITECTURE, place_of_crates, 0, f"{crate} comes before what it depends on in crates.txt"))
         if len(list((CRATES / crate / "must-fail").glob("*.edit"))) > 4:
             text = texts["CONTRIBUTING.md"]
-            wrong.append(("CONTRIBUTING.md", text.find("at most four a crate"), 0, f"{crate} has more than four must-fail edits"))
-
-
-def check_neighbours(texts, wrong):
-    for crate, right in neighbours():
-        file = f"crates/{crate}/README.md"
-        for found in re.finditer(r"(?m)^(?:- )?(Depends on .*)$", texts.get(file, "")):
-            if found[1] != right:
-                wrong.append((file, *found.span(1), right))
+            wrong.append(("CONTRIBUTING.md", text.find("at most four a crate"), 0, f"{crate} has more than four mutants in must-fail/"))
 
 
 @cache
@@ -228,17 +208,28 @@ def names_of(crate):
     return set(re.findall(r"\b(?:fn|struct|enum|trait|type|const|mod) (\w+)", code)).union(re.findall(r"\w+", used))
 
 
+def lists(text):
+    """The lists of names in a README, as (place, text, whether they are definitions): items of a list, and columns of tables."""
+    for begin, is_definition in (("**Public:**", False), ("**Definitions** in `specs/`:", True)):
+        for item in re.finditer(rf"(?m)^- {re.escape(begin)}(.*(?:\n  .*)*)", text):
+            yield item.start(), item[1], is_definition
+    for table in re.finditer(r"(?m)^\|.*\|\n\|[-|]+\|\n(?:\|.*\|\n?)+", text):
+        head, _, *rows = [[cell.strip() for cell in line.split("|")] for line in table[0].splitlines()]
+        for title, is_definition in (("public", False), ("definitions in `specs/`", True)):
+            if title in head:
+                yield table.start(), " ".join(row[head.index(title)] for row in rows), is_definition
+
+
 def check_names(texts, wrong):
     """The public names that a README has are in its crate or those below it, and the definitions in its `specs/`."""
     for crate in crates():
         file = f"crates/{crate}/README.md"
-        text = texts.get(file, "")
         names = {"Read"}.union(*(names_of(it) for it in {crate} | below(crate)))
         specs = {path.stem for path in (CRATES / crate / "specs").glob("*.antt")}
-        for begin, word, known in (("**Public:** ", r"\w*[^\W_]\b", names), ("**Definitions** in `specs/`: ", r"[A-Z]\w*", specs)):
-            for line in re.finditer(rf"(?m)^- {re.escape(begin)}(.*)$", text):
-                found = {name for code in re.findall(r"`([^`]+)`", line[1]) for name in re.findall(rf"\b{word}", code)}
-                wrong.extend((file, line.start(), 0, f"there is no {name}") for name in sorted(found - known))
+        for place, listed, is_definition in lists(texts.get(file, "")):
+            word = r"[A-Z]\w*" if is_definition else r"\w*[^\W_]\b"
+            found = {name for code in re.findall(r"`([^`]+)`", listed) for name in re.findall(rf"\b{word}", code)}
+            wrong.extend((file, place, 0, f"there is no {name}") for name in sorted(found - (specs if is_definition else names)))
 
 
 def write(texts, wrong):
@@ -257,7 +248,6 @@ def main():
     known = check_sentences(texts, wrong)
     check_wholes(texts, known, wrong)
     check_lists(texts, wrong)
-    check_neighbours(texts, wrong)
     check_names(texts, wrong)
     for file, start, end, right in sorted(wrong):
         said = f"{texts[file][start:end]}, and it is {right}" if end else right

@@ -1,14 +1,16 @@
 #!/usr/bin/env python3
-"""Tries what the documents say: commands, links, names of functions and files, and numbers.
+"""Checks the documents: commands, links, names of functions and files, and numbers.
 
 Usage: documents.py [--jobs N] [--only commands|links|names|numbers] [DOCUMENT..]
 
-Of README, USING, LANGUAGES, CONTRIBUTING and the READMEs of crates each command is run in a temporary clone of this checkout, over what
-its gate built, and what it prints is compared where the document shows it; documents_commands.py has the commands that aren't run,
-each with the reason. Of these documents each number is counted, by counts.py or by the table below. Of all documents each relative link
-leads to a file and a heading, each path of the repository to a file, and each name in backquotes with `::` or `()` to an item of
-the crates, of REFERENCE or of a script. Prints a line for each fault and one for each document, and `N passed, M failed`; the status is
-1 where something failed. N documents are tried side by side, one after the other where none is given.
+Commands: in README, USING, LANGUAGES, CONTRIBUTING and the READMEs of crates, each command runs in a temporary clone of this checkout, over
+the programs that its gate built. If the document shows output, the output must be the same. documents_commands.py lists the commands
+that don't run, with reasons. Numbers: in the same documents, counts.py or a table below must count each number. Links: in all documents,
+each relative link must lead to a file and a heading, and each path of the repository to a file. Names: each name in backquotes with `::` or
+`()` must be an item of a crate, of the reference or of a script.
+
+Prints a line for each fault and for each document, and `N passed, M failed`. The status is 1 if something failed. --jobs sets how many
+documents are checked at once.
 """
 import argparse
 import contextlib
@@ -28,13 +30,14 @@ sys.path.insert(0, str(TOP / "models"))
 import definitions
 
 TRIED = ["README.md", "docs/USING.md", "docs/LANGUAGES.md", "CONTRIBUTING.md", "crates/*/README.md"]
-ALL = [*TRIED, "CHANGELOG.md", "docs/*.md", "models/README.md", "bench/README.md"]
+ALL = [*TRIED, "CHANGELOG.md", "docs/*.md", "docs/reference/*.md", "models/README.md", "bench/README.md"]
+GENERATED = "PUBLIC.md", "CLAIMS.md"
 LINK = re.compile(r"\[[^\]\n]*\]\(([^)\s]+)\)")
-FILE = re.compile(r"`((?:\.ci|bench|bindings|crates|docs|examples|include|models|scripts|wrong-bodies)/[\w./-]*\w)[^`\n]*`")
+FILE = re.compile(r"`((?:\.ci|bench|bindings|crates|docs|examples|include|models|mutants|scripts)/[\w./-]*\w)[^`\n]*`")
 NUMBER = re.compile(r"(?<![\w.,/-])([0-9]+(?:[.,][0-9]+)*)(?![\w-])")
 # Numbers that name something: versions, bands, statuses, files, digits, formulas.
 NAMED = re.compile(r"(?i)versions? [0-9]+(?:(?:,| and| or| to) [0-9]+)*|bands? [0-9](?: and [0-9])?|status(?:es)?(?: is)? [0-9]+"
-                   r"|files? [0-9]+(?: (?:and|to) [0-9]+)*|places [0-9]+ to [0-9]+|Python [0-9]|SHA-[0-9]+|n / 16 \+ 1|from 1 on")
+                   r"|files? [0-9]+(?: (?:and|to) [0-9]+)*|offsets [0-9]+ to [0-9]+|places [0-9]+ to [0-9]+|Python [0-9]|SHA-[0-9]+|n / 16 \+ 1|from 1 on")
 
 
 def lines_of(file):
@@ -42,14 +45,14 @@ def lines_of(file):
 
 
 def of(file, said):
-    """The number that stands in a file where `#` stands in these words."""
+    """The number in a file that is at the `#` of these words."""
     def number():
         return re.search(re.escape(said).replace(r"\#", NUMBER.pattern), (TOP / file).read_text())[1]
     return number
 
 
 def rounds_to(haves):
-    """After how many rounds of versions 0 and 1 a window has about so many haves."""
+    """After how many rounds of versions 0 and 1 a window has about this many haves."""
     windows = [definitions.window_size(False, None)]
     while windows[-1] < haves - 16:
         windows.append(definitions.window_size(False, windows[-1]))
@@ -57,9 +60,8 @@ def rounds_to(haves):
 
 
 UPSTREAM, GIT = of("docs/DIFFERENCES.md", "Rust crate `gix-protocol` #"), of("scripts/git_tests.py", 'VERSION = "#"')
-# What a number is to be where `#` stands in these words of a document.
+# The right value of the number at the `#` of these words of a document.
 COUNTED = [
-    ("README.md", "clones in # lines", lines_of("bindings/python/clone.py")),
     ("README.md", "a listing in # of git's time", of("bench/README.md", "`git ls-remote` on the same bytes | # of its time")),
     ("README.md", "and # of a plain C program's", of("bench/README.md", "(`refs.c`) | # of its time")),
     ("README.md", "a clone of # MiB in", of("bench/README.md", "a clone of # MiB from a server")),
@@ -82,31 +84,32 @@ COUNTED = [
     ("crates/gixp_planner/README.md", "# mappings at a time", of("crates/gixp_planner/src/printed.rt", "PART: usize = #")),
     ("crates/gixp_requests/README.md", "an id from # bytes",
      of("crates/gixp_requests/src/fetch/arguments/line.rt", "let mut line = [0; #]")),
-    ("crates/gixp_replay/README.md", "`x\\*65516;` is\n# times `x`", lambda: 65516),
+    ("crates/gixp_replay/README.md", "`x\\*65516;` is # times `x`", lambda: 65516),
     ("crates/gixp_test_updates/README.md", "what git # does", GIT),
 ]
 # Why the numbers in these words aren't counted.
 UNCOUNTED = [
     ("README.md", "some # to # ms more", "what bench measures, rounded"),
-    ("README.md", "A check of # lines takes", "an estimate"),
+    ("docs/USING.md", "A check of # lines takes", "an estimate"),
     ("docs/USING.md", "some # common ones", "how many answers two pipes hold, rounded"),
     ("docs/LANGUAGES.md", "takes # of the time of a plain parser", "what bench measures, rounded"),
     ("docs/LANGUAGES.md", "takes # to # of the time", "what bench measures, rounded"),
     ("CONTRIBUTING.md", "at most # columns", "a rule"),
     ("crates/gixp_hash/README.md", "# digits of either case", "git's ids"),
     ("crates/gixp_remote/README.md", "needs bash # or later", "a condition"),
-    ("crates/gixp_remote/README.md", "a line with a number, # where", "a status"),
-    ("crates/gixp_remote/README.md", "The pipes are # to the server and # from it, # from what is asked something, # from git that lists "
-     "the refs and # from git that lists commits, # to git that indexes a pack and # from it. By #",
-     "files, by which dialogue.py speaks with the program"),
+    ("crates/gixp_remote/README.md", "a number on a line: # if", "a status"),
+    ("crates/gixp_remote/README.md", "| #, # | the server", "files"),
+    ("crates/gixp_remote/README.md", "| # | git or another program", "a file"),
+    ("crates/gixp_remote/README.md", "| #, # | git that lists", "files"),
+    ("crates/gixp_remote/README.md", "| #, # | git that indexes", "files"),
+    ("crates/gixp_remote/README.md", "| # | the watcher", "a file"),
     ("crates/gixp_remote/README.md", "The first # bytes of a pack", "the format of packs"),
-    ("crates/gixp_remote/README.md", "with a sentence and #", "a status"),
-    ("crates/gixp_replay/README.md", "more than # equal ones", "how models/words.py shows bytes"),
+    ("crates/gixp_replay/README.md", "more than # equal ones", "how models/values.py shows bytes"),
 ]
 
 
 def plain(text):
-    """The text with blanks in place of code and of where links lead, and of the numbers of lists."""
+    """The text with blanks in place of code, of link targets, and of the numbers of lists."""
     def blank(found):
         return re.sub(r"[^\n]", " ", found[0])
     for pattern in (r"(?ms)^```.*?^```", r"(?m)^ {4,}\S.*$", r"`[^`\n]*`", r"(?<=\])\([^)\s]*\)", r"(?m)^[0-9]+\. "):
@@ -119,14 +122,14 @@ def literal(said):
 
 
 def check_numbers(document, text, fault):
-    """Each number of a document, by the table that it is in; returns how many were counted."""
+    """Checks each number of a document against its table. Returns how many were counted."""
     spans = []
     for file, said, number in COUNTED:
         for found in re.finditer(literal(said), text) if file == document else ():
             spans.append(found.span())
             right = str(number())
             if found[1].replace(",", "") != right.replace(",", ""):
-                fault(found.start(), f"{found[1]} in `{found[0]}` is to be {right}")
+                fault(found.start(), f"{found[1]} in `{found[0]}` must be {right}")
     counted = len(spans)
     for file, said, _ in UNCOUNTED:
         spans += [found.span() for found in re.finditer(literal(said), text) if file == document]
@@ -137,19 +140,19 @@ def check_numbers(document, text, fault):
     known, wholes, wrong = counts_of()
     for file, start, end, right in wrong:
         if file == document:
-            fault(start, f"{text[start:end]} is to be {right}" if end else right)
+            fault(start, f"{text[start:end]} must be {right}" if end else right)
     counted += sum(file == document for file, _ in known)
     for found in NUMBER.finditer(plain(text)):
         if any(re.match(rf" {whole}\b", text[found.end():]) for whole in wholes):
             counted += 1
         elif (document, found.start()) not in known and not any(start <= found.start() < end for start, end in spans):
-            fault(found.start(), f"{found[0]} is counted by no one: `{text[found.start() - 20:found.end() + 20]!r}`")
+            fault(found.start(), f"no script counts {found[0]}: `{text[found.start() - 20:found.end() + 20]!r}`")
     return counted
 
 
 @cache
 def counts_of():
-    """Where the numbers stand that counts.py knows the sentence of, the words in front of which it counts any number, and what is wrong."""
+    """The offsets of the numbers that counts.py has a sentence for, the words before which it counts any number, and the wrong numbers."""
     texts, wrong = {str(path.relative_to(TOP)): path.read_text() for pattern in counts.DOCUMENTS for path in sorted(TOP.glob(pattern))}, []
     known = counts.check_sentences(texts, wrong)
     counts.check_wholes(texts, known, wrong)
@@ -157,7 +160,7 @@ def counts_of():
 
 
 def heading(line):
-    """The name by which a link leads to a heading."""
+    """The anchor of a heading."""
     return re.sub(r"[^\w\- ]", "", re.sub(r"\[([^\]]*)\]\([^)]*\)", r"\1", line).lower()).replace(" ", "-")
 
 
@@ -171,7 +174,7 @@ def check_links(document, text, fault):
         if not path.exists():
             fault(link.start(), f"there is no {link[1]}")
         elif name and name not in map(heading, re.findall(r"(?m)^#+ (.*)$", path.read_text())):
-            fault(link.start(), f"no heading is {link[1]}")
+            fault(link.start(), f"there is no heading {link[1]}")
     for file in FILE.finditer(text):
         is_made = re.search(r"/out/|/build/|/[A-Z]+/", file[1] + "/")
         if not (is_made or (TOP / file[1]).exists() or (TOP / f"{file[1]}.antt").exists()):
@@ -185,12 +188,12 @@ def check_names(text, names, fault):
         if name in OTHERS:
             names.others.add(name)
         elif not names.is_known(name):
-            fault(place, f"nothing is called {name}")
+            fault(place, f"there is no {name}")
     return len(found)
 
 
 def check(document, what, names, room, fault):
-    """What was tried of a document: how many of each."""
+    """Checks a document. Returns how many checks of each kind it made."""
     text, did = (TOP / document).read_text(), {}
     at = lambda place, said: fault(f"{document}:{counts.line_at(text, place)}: {said}")
     if "links" in what:
@@ -211,7 +214,7 @@ def main():
     parser.add_argument("--only", choices=["commands", "links", "names", "numbers"])
     parser.add_argument("documents", nargs="*")
     given = parser.parse_args()
-    every = [str(path.relative_to(TOP)) for pattern in ALL for path in sorted(TOP.glob(pattern)) if path.name != "REFERENCE.md"]
+    every = [str(path.relative_to(TOP)) for pattern in ALL for path in sorted(TOP.glob(pattern)) if path.name not in GENERATED]
     what = [given.only] if given.only else ["commands", "links", "names", "numbers"]
     faults, passed, names = [], 0, Names()
 

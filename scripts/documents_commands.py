@@ -1,4 +1,4 @@
-"""Runs the commands of documents, in a temporary clone of the checkout and over what the gate built in it."""
+"""Runs the commands of documents, in a temporary clone of the checkout, over the programs that its gate built."""
 import contextlib
 import os
 import re
@@ -15,45 +15,47 @@ from live_servers import free_port, wait_for_port
 TOP = Path(__file__).resolve().parent.parent
 MOST_SECONDS = 600
 COMMAND = re.compile(r"\(?(?:rt|git|cargo|python3|printf|mkfifo|gixp_fetch_pack|scripts/\w+\.\w+)\b|\(cd ")
-# in prose: what has words or options after it
+# in prose: commands with words or options
 INLINE = re.compile(r"`((?:rt \w+|cargo|python3|mkfifo|scripts/\w+\.\w+) [^`]+|git [a-z-]+ [^`]*--[^`]*)`")
 STAYS = re.compile(r"cd |export |[A-Z]+=")
-# What isn't run, and why. What the gate runs has to be in .ci/run.
+# Commands that don't run, with reasons. .ci/run must have those of the gate.
 GATE = ".ci/run runs it"
 LEFT_OUT = {
     "scripts/bindings.sh": GATE,
     "python3 models/expected.py": GATE,
     "scripts/names.py": GATE,
-    "python3 scripts/wrong_bodies_test.py": GATE,
+    "python3 scripts/mutants_test.py": GATE,
+    "python3 scripts/live_harness_test.py": GATE,
+    "scripts/without_contract.py": GATE,
+    "scripts/claims.py": GATE,
     "scripts/counts.py": GATE,
     "scripts/reference.py": GATE,
     "scripts/dialogue.py": GATE,
+    "scripts/stored_runs.py": GATE,
     "scripts/live.py": GATE,
     "scripts/git_tests.py": GATE,
     "scripts/git_tests.py --quick": GATE,
     "rt ci": GATE,
-    "scripts/documents.py": "it is this",
+    "scripts/documents.py": "it is this script",
     "rt check --only refs::parse": "proves the five crates below gixp_refs from nothing",
     "rt check": "proves a crate and those below it from nothing",
     "rt plant": "proves a crate from nothing, and each mutation of it",
     "rt must-fail gixp_refs": "proves gixp_refs and those below it from nothing",
     "rt check --only fetch::arguments": "proves a change that isn't made here",
     "rt check --only command::table": "proves a change that isn't made here",
-    "scripts/wrong_bodies.py CRATE..": "a proof for each edit",
-    "scripts/wrong_bodies.py --changed REV CRATE..": "a proof for each edit",
-    "scripts/wrong_bodies.py --must-fail": "a proof for each edit, some hours",
+    "scripts/mutants.py CRATE..": "a proof for each mutant",
+    "scripts/mutants.py --changed REV CRATE..": "a proof for each mutant",
+    "scripts/mutants.py --gate": "a proof for each mutant, some hours",
     "gixp_fetch_pack [OPTION..] FROM TO PACK SPEC..": "scripts/live.py runs it in many ways",
     "gixp_fetch_pack --list [OPTION..] FROM TO": "scripts/live.py runs it in many ways",
     "mkfifo to from; GIT_PROTOCOL=version=2 git upload-pack REPO <to >from &": "one side of a conversation",
-    "git fetch-pack --diag-url": "scripts/urls.py asks it for each URL",
     "git http-fetch --packfile": "wants a pack's name and a server of it",
 }
-# What is run in place of a command: the program that the gate built, where proving it anew would take an hour; or the whole of a part.
+# What runs in place of a command: the program that the gate built, if a proof would take an hour; or a whole command for a part.
 IN_PLACE = {
     "(cd crates/gixp_remote && rt run -- x)": "! (cd crates/gixp_remote && out/gixp_remote x)",
     "(cd crates/gixp_fetch_pack && rt run -- --help)": "(cd crates/gixp_fetch_pack && out/gixp_fetch_pack --help)",
     "gixp_fetch_pack --help": "out/gixp_fetch_pack --help",
-    "rt run -- refs ../../examples/tagged.ls": "cd crates/gixp_plan; out/gixp_plan refs ../../examples/tagged.ls",
     "rt new crates/mine start_io": "rt new crates/mine start_io; rm -r crates/mine",
     "rt try --test": "cd crates/gixp_test_stateless; rt try --test",
     "rt try -- refs FILE": "cd crates/gixp_plan; cp ../../examples/tagged.ls .; rt try -- refs tagged.ls",
@@ -64,13 +66,13 @@ IN_PLACE = {
     "git upload-pack --stateless-rpc": "printf 0000 | git upload-pack --stateless-rpc .",
     "git ls-remote --symref": "git ls-remote --symref .",
 }
-# What a reader puts in place of a word.
+# What a reader writes in place of a word.
 WORDS = [
     ("https://HOST/PATH FOLDER", "$WEB/small.git $(mktemp -d)/cloned"), ("http://127.0.0.1:8461", "$WEB"),
     ("git://HOST/PATH", "$DAEMON/small.git copy"), ("REPOSITORY", "$SMALL"), ("REPO ", "$SMALL "), ("PACK", "pack"), ("REV", "HEAD"),
     ("ID..", "main"),
 ]
-# What a command needs that the gate built, and where it is run if that isn't the top, the crate or where lines before it lead.
+# Programs of the gate that a command needs, and its folder if that isn't the top, the crate or the folder of earlier lines.
 NEEDS = [
     (r"out/gixp_remote|gixp::", "crates/gixp_remote/out/gixp_remote"), (r"out/gixp_plan", "crates/gixp_plan/out/gixp_plan"),
     (r"out/gixp_fetch_pack", "crates/gixp_fetch_pack/out/gixp_fetch_pack"), (r"cargo|clone\.py|-C cloned", "bindings/build/libgixp.a"),
@@ -79,7 +81,7 @@ FOLDERS = [("docs/LANGUAGES.md", r"cargo|git .*small\.git", "bindings/rust"), ("
 
 
 def shown_in(block):
-    """The commands of a block of code, each with its place in it, and what it prints where that is shown."""
+    """The commands of a block of code, each with its offset and the output that the block shows."""
     shows = any(line.startswith("$ ") for line in block)
     for number, line in enumerate(block):
         if line.startswith("$ "):
@@ -90,7 +92,7 @@ def shown_in(block):
 
 
 def commands_of(document):
-    """The commands of a document as (line, command, what it prints, what lines before it set); of prose those with words or options."""
+    """The commands of a document as (line, command, shown output, earlier lines with variables); in prose those with options."""
     text = (TOP / document).read_text()
     before, lines, fenced, last = [], text.splitlines(), False, ""
     number = 0
@@ -128,7 +130,7 @@ def begun(words, port, **more):
 
 @contextlib.contextmanager
 def room_of():
-    """A clone with what the gate built, a small repository, and servers of it; gives the clone and the variables that name them."""
+    """Makes a clone with the programs of the gate, a small repository, and servers of it. Yields the clone and the variables for them."""
     with tempfile.TemporaryDirectory(prefix="documents-") as folder, contextlib.ExitStack() as servers:
         room = Path(folder)
         clone, small = room / "clone", room / "small.git"
@@ -153,7 +155,7 @@ def room_of():
 
 
 def run(script, folder, variables):
-    """What a script prints, and how it ended: none where it took too long."""
+    """The output of a script and its status (None if it took too long)."""
     program = subprocess.Popen(["bash", "-ec", "set -o pipefail; " + script], cwd=folder, env=variables, stdin=subprocess.DEVNULL,
                                stdout=subprocess.PIPE, stderr=subprocess.STDOUT, start_new_session=True)
     try:
@@ -165,7 +167,7 @@ def run(script, folder, variables):
 
 
 def script_of(document, command, before):
-    """What is run for a command, and in which folder of the clone."""
+    """The script for a command, with its folder in the clone."""
     crate = re.match(r"crates/\w+(?=/README)", document)
     script = command if crate and command == "rt try --test" or before else IN_PLACE.get(command, command)
     for word, other in WORDS:
@@ -175,17 +177,17 @@ def script_of(document, command, before):
 
 
 def try_document(document, clone, variables, fault):
-    """Runs what a document has; returns how many commands ran, and how many were left out."""
+    """Runs the commands of a document. Returns how many ran and how many were left out."""
     ran = left = 0
     for line, command, shown, before in commands_of(document):
         if command.startswith("scripts/") and not os.access(TOP / command.split()[0], os.X_OK):
-            fault(f"{document}:{line}: `{command}` can't be started")
+            fault(f"{document}:{line}: `{command}` is not executable")
         script = script_of(document, command, before)
         missing = next((path for words, path in NEEDS if re.search(words, script) and not (clone / path).exists()), None)
         if command in LEFT_OUT or missing:
             left += 1
             if missing:
-                print(f"{document}:{line}: left out, since the gate built no {missing}", flush=True)
+                print(f"{document}:{line}: left out: the gate built no {missing}", flush=True)
             continue
         ran += 1
         said, status = run(script, clone, variables)
@@ -199,7 +201,7 @@ def try_document(document, clone, variables, fault):
 
 
 def stale(documents, fault):
-    """What is said of commands that no document has, and of the gate that it doesn't run."""
+    """Reports commands that no document has, and commands of the gate that .ci/run doesn't have."""
     known = {command for document in documents for _, command, *_ in commands_of(document)}
     gate = (TOP / ".ci/run").read_text()
     for command in [*LEFT_OUT, *IN_PLACE]:

@@ -1,4 +1,4 @@
-"""What the names in documents are: what the sources of crates, the reference and the scripts call so."""
+"""The names that documents may use: names in the sources of crates, in the reference and in scripts."""
 import re
 from collections import defaultdict
 
@@ -9,9 +9,9 @@ ITEM = re.compile(r"(?m)^ *(?:pub(?:\([a-z]+\))? )?(?:final )?(?:const )?(?:fn|s
 HEAD = re.compile(r"(?m)^(?:pub(?:\([a-z]+\))? )?(struct|enum|trait|impl|type)\b(?:<[^{;=]*?>(?= ))?([^{;]*)")
 PATH = re.compile(r"[A-Za-z_]\w*(?:::[A-Za-z_]\w*)+")
 CALL = re.compile(r"([A-Za-z_]\w*)\(\)")
-# names in documents that are others': of std, of crates of the toolchain, of gitoxide, of git's words, or no name at all
+# names in documents from elsewhere: std, crates of the toolchain, gitoxide, git, or placeholders
 OTHERS = """
-anyhow::Error ErrorKind::InvalidData ErrorKind::Other fmt::Error fmt::Formatter fmt::Result fmt::Write io::Error io::ErrorKind io::Result
+anyhow::Error ErrorKind::Other fmt::Error fmt::Write io::Error io::ErrorKind io::Result
 indexmap::IndexSet NonZeroU32::MIN Read::read Read::remaining FnMut() stderr() stdin() stdout()
 Remote::connect client::capabilities gix::Remote::connect gix::remote::fetch::refs::update gix_date::Time gix_negotiate::Graph
 remote::fetch::refs transport::client::blocking_io transport::client::capabilities
@@ -20,13 +20,13 @@ gixp::URL gixp::server MODULE::FUNCTION
 
 
 def trait_and_type(words):
-    """The trait of an `impl`, if it is one's, and the type that it is for."""
+    """The trait of an `impl` (None without one), and its type."""
     found = re.match(r"(?:<.*?>)?\s*(?:([\w:]+)(?:<.*>)? for )?([&\w:]+)", " ".join(words.split()))
     return [name and name.rpartition("::")[2] for name in found.groups()] if found else [None, None]
 
 
 class Names:
-    """What each module, type and trait has, by its last name, and whose names a type has beside its own."""
+    """The items of each module, type and trait by its last name, and the traits and aliases from which a type has more names."""
 
     def __init__(self):
         self.inside, self.beside, self.others = defaultdict(set), defaultdict(set), set()
@@ -74,7 +74,7 @@ class Names:
 
 
 def names_in(text):
-    """The names in backquotes that have `::` or `()`, each with its place."""
+    """The names in backquotes that have `::` or `()`, each with its offset."""
     for code in re.finditer(r"`([^`\n]+)`", text):
         for found in PATH.finditer(code[1]):
             yield code.start(), found[0]

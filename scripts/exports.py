@@ -1,12 +1,14 @@
 #!/usr/bin/env python3
-"""Compares the declarations of include/gixp.h with the exports of crates/gixp_c: names, parameters, and the fields of records.
-Prints what differs, and ends with 1 where something does."""
+"""Compares the declarations of include/gixp.h with the exports of crates/gixp_c: names, parameters, and the fields of structs.
+
+Prints each difference. The status is 1 if there is one.
+"""
 import pathlib
 import re
 import sys
 
 TOP = pathlib.Path(__file__).resolve().parent.parent
-# What a parameter or field of the exports is in C.
+# The C type of a parameter or field of the exports.
 PLAIN = {"u8": "uint8_t", "u32": "uint32_t", "usize": "size_t", "Span": "gixp_span", "RefRecord": "gixp_ref",
          "FoundRecord": "gixp_found", "PieceRecord": "gixp_piece_record", "StepRecord": "gixp_step",
          "WishesRecord": "gixp_wishes",
@@ -20,7 +22,7 @@ def sources():
 
 
 def in_c(type_):
-    """-> the types of the C parameters that a parameter of this type is."""
+    """-> the types of the C parameters for a parameter of this type."""
     if type_ == "Global":
         return []
     array = re.fullmatch(r"\[(\w+); (\d+)\]", type_)
@@ -36,7 +38,7 @@ def in_c(type_):
 
 
 def fields_in_c(name, types):
-    """-> the fields of a C record that a field is: of a slice two."""
+    """-> the fields of a C struct for a field: two for a slice."""
     return [(name + ("_len" if place else ""), type_) for place, type_ in enumerate(types)]
 
 
@@ -68,7 +70,7 @@ def main():
              for name in sorted(functions.keys() | declared.keys()) if functions.get(name) != declared.get(name)]
     wrong += [f"{name}: {records.get(name)} exported, {structs.get(name)} declared"
               for name in sorted(records.keys() | structs.keys()) if records.get(name) != structs.get(name)]
-    print("\n".join(wrong) or f"{len(functions)} exports and {len(records)} records are as the header has them")
+    print("\n".join(wrong) or f"{len(functions)} exports and {len(records)} structs agree with the header")
     return bool(wrong)
 
 

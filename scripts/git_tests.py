@@ -2,27 +2,28 @@
 """Runs git's own tests with the remote helper in place of git's transports, and compares the results with a stored table.
 
 Usage: git_tests.py [--source FOLDER] [--remote PATH] [--work FOLDER] [--quick] [--jobs N] [--run NUMBERS] [--again] [SCRIPT..]
+       git_tests.py --quotes
 
-FOLDER is the source of git 2.39.5, unpacked, as `apt-get source git` leaves it. Without --source it is $GIT_SOURCE, else what
-`apt-get source git` brings where apt has a deb-src line. PATH is the program gixp_remote, else what `rt run` left in
+FOLDER is the unpacked source of git 2.39.5, as `apt-get source git` leaves it. Without --source it is $GIT_SOURCE, else the result of
+`apt-get source git`, if apt has a deb-src line. PATH is the program gixp_remote, by default the one that `rt run` left in
 crates/gixp_remote/out. The SCRIPTs are names or patterns of files in git's t/, as t5510 or 't57*'; without any, t55* to t58* and the
-others that the table names. --quick runs those of QUICK alone.
+other scripts that the table names. --quick runs only those of QUICK.
 
 The source is copied into the scratch folder (--work, else $WORK, else /var/tmp/gixp-git-tests), changed by git_tests/via-helper.patch
-and built once. In that git each clone, fetch, ls-remote and lazy fetch starts the helper where GIT_TEST_VIA_HELPER names one; without
-it that git is git itself. The scripts run as a user without privileges (--user), with a limit of processes and of time.
+and built once. In that git each clone, fetch, ls-remote and lazy fetch starts the helper that GIT_TEST_VIA_HELPER names. Without that
+variable it is git itself. The scripts run as a user without privileges (--user), with a limit of processes and of time.
 
-git_tests/table.txt has a line for each test that git passes and the helper doesn't: the script, the number, the kind of reason, and the
-reason. The kinds are
-    hidden      no remote helper can show it: a trace of git's own process, words that git's own transports write
-    language    the language of remote helpers (gitremote-helpers(7)) has no word for it
-    documented  docs/DIFFERENCES.md names it, in the words between quotes
-    harness     it tests what the patch takes away, as clones by hard links, or depends on the build
+git_tests/table.txt has a line for each test that only git passes: the script, the number, the kind of reason, and the reason. The kinds are
+    hidden      no remote helper can show it: a trace of git's own process, or messages of git's own transports
+    language    gitremote-helpers(7) has no command for it
+    documented  docs/DIFFERENCES.md has it, in the words between quotes
+    harness     it tests what the patch removes, as clones by hard links, or depends on the build
 A `?` after the number marks a test that passes at times.
 
-Prints a line for each test that fails and isn't in the table, though git passes it, and for each line of the table that passes.
-The last line is `N passed, M failed`, where a test of the table passes if it fails. The status is 1 where one failed. --again tries a
-script with such a test once more, alone, and counts that. Without git's source --quick says so, and its status is 0.
+Prints a line for each failed test that git passes and the table doesn't have, and for each line of the table whose test passes. The last
+line is `N passed, M failed`, where a test of the table passes if it fails. The status is 1 if one failed. --again tries a script with
+such a test once more, alone, and counts the second try. Without git's source --quick prints that, and its status is 0.
+--quotes runs no test: it checks only that the table is well formed and that DIFFERENCES has the quoted words.
 """
 import argparse
 import concurrent.futures
@@ -45,21 +46,21 @@ DIFFERENCES = TOP / "docs" / "DIFFERENCES.md"
 VERSION = "2.39.5"
 MAKE = ["NO_OPENSSL=1", "NO_GETTEXT=1", "NO_TCLTK=1", "NO_PYTHON=1", "PYTHON_PATH=/usr/bin/python3", "prefix=/usr",
         "gitexecdir=/usr/lib/git-core", f"GIT_VERSION={VERSION}", "CFLAGS=-O1 -g0"]
-# seconds after which a script is ended
+# the seconds after which a script is killed
 SECONDS = 1200
-# with --quick, where a slow machine is no failure: the same, seconds after which no other script begins, and those for building git
+# with --quick, for which a slow machine is no failure: the same, the seconds after which no script begins, and those for building git
 QUICK_SECONDS, QUICK_BEGINS, QUICK_BUILD = 45, 45, 80
 USUAL = ["t55*", "t56*", "t57*", "t58*", "t0410", "t2080", "t5330"]
 QUICK = ["t5500", "t5503", "t5504", "t5512", "t5525", "t5537", "t5539", "t5552", "t5553", "t5570", "t5582", "t5604", "t5605", "t5606",
          "t5611", "t5612", "t5613", "t5700", "t5703", "t5705"]
 KINDS = {"hidden", "language", "documented", "harness"}
-# how `timeout` ends where it ended a script
+# the status of `timeout` after it killed a script
 LATE = {124, 137}
 RESULT = re.compile(r"(ok|not ok) (\d+)(?: - (.*?))?(?:\s+# (TODO|SKIP)\b.*)?")
 
 
 class Missing(Exception):
-    """What isn't there, so that no test can run."""
+    """What is missing, so that no test can run."""
 
 
 def options():
@@ -67,13 +68,14 @@ def options():
     parser.add_argument("--source", type=pathlib.Path, default=os.environ.get("GIT_SOURCE"), help="git's source, unpacked")
     parser.add_argument("--remote", type=pathlib.Path, default=REMOTE / "out" / "gixp_remote", help="the program gixp_remote")
     parser.add_argument("--work", type=pathlib.Path, default=os.environ.get("WORK", "/var/tmp/gixp-git-tests"), help="the scratch folder")
-    parser.add_argument("--user", default="games", help="who runs the tests where this is root")
-    parser.add_argument("--patience", type=int, default=60, help="seconds after which the helper is ended, as one that hangs")
-    parser.add_argument("--processes", type=int, default=1000, help="the most processes that this user may have at once")
-    parser.add_argument("--quick", action="store_true", help="the quickest scripts alone")
-    parser.add_argument("--jobs", type=int, default=os.cpu_count(), help="how many scripts at once")
-    parser.add_argument("--run", metavar="NUMBERS", help="these tests of each script alone, as 1,40-43")
-    parser.add_argument("--again", action="store_true", help="try a script that failed once more, alone, and count that")
+    parser.add_argument("--user", default="games", help="the user that runs the tests if this is root")
+    parser.add_argument("--patience", type=int, default=60, help="the seconds after which the helper is killed as hanging")
+    parser.add_argument("--processes", type=int, default=1000, help="how many processes this user may have at once")
+    parser.add_argument("--quick", action="store_true", help="only the quickest scripts")
+    parser.add_argument("--jobs", type=int, default=os.cpu_count(), help="how many scripts run at once")
+    parser.add_argument("--run", metavar="NUMBERS", help="only these tests of each script, as 1,40-43")
+    parser.add_argument("--again", action="store_true", help="try a failed script once more, alone, and count the second try")
+    parser.add_argument("--quotes", action="store_true", help="check only the table and its quotes of DIFFERENCES")
     parser.add_argument("scripts", nargs="*", metavar="SCRIPT")
     return parser.parse_args()
 
@@ -85,7 +87,7 @@ def find_source(given, work):
     """The folder of git's source."""
     if given:
         if not (given / "GIT-VERSION-GEN").exists():
-            raise Missing(f"{given} isn't the source of git")
+            raise Missing(f"{given} is not the source of git")
         return given.resolve()
     folder = work / "source"
     folder.mkdir(parents=True, exist_ok=True)
@@ -94,13 +96,13 @@ def find_source(given, work):
             shutil.rmtree(folder)
     for found in folder.glob("git-*/GIT-VERSION-GEN"):
         return found.parent
-    raise Missing("git's source isn't here: set GIT_SOURCE, or give apt a deb-src line")
+    raise Missing("git's source is missing: set GIT_SOURCE, or give apt a deb-src line")
 
 
 def build(source, work, given):
-    """A copy of the source that is patched and built: made once for each source and patch."""
+    """A patched and built copy of the source, made once for each source and patch."""
     if f"DEF_VER=v{VERSION}" not in (source / "GIT-VERSION-GEN").read_text():
-        raise Missing(f"the source of git isn't {VERSION}")
+        raise Missing(f"the source of git is not {VERSION}")
     tree, copied, built = work / "git", work / "git.copied", work / "git.built"
     wanted = hashlib.sha256("\0".join([str(source), PATCH.read_text(), *MAKE]).encode()).hexdigest()
     if not (copied.exists() and copied.read_text() == wanted):
@@ -115,16 +117,16 @@ def build(source, work, given):
         words = ["timeout", str(QUICK_BUILD if given.quick else SECONDS), "make", "-s", f"-j{given.jobs}", "all", *MAKE]
         with open(work / "make.log", "w") as log:
             if subprocess.run(words, cwd=tree, stdout=log, stderr=log).returncode:
-                raise Missing(f"git can't be built, or not in time ({work}/make.log)")
+                raise Missing(f"the build of git failed or took too long ({work}/make.log)")
         subprocess.run(["chmod", "-R", "a+rX", tree], check=True)
         built.touch()
     return tree
 
 
 def install(work, remote):
-    """The folder of the helper and its shim, which the user of the tests can read."""
+    """The folder of the helper and its shim, readable for the user of the tests."""
     if not os.access(remote, os.X_OK):
-        sys.exit(f"no program {remote}: `rt run` in crates/gixp_remote builds it")
+        sys.exit(f"there is no program {remote}: `rt run` in crates/gixp_remote builds it")
     tools = work / "tools"
     (tools / "helper").mkdir(parents=True, exist_ok=True)
     for source, folder in (SHIM, tools), (REMOTE / "git-remote-gixp", tools / "helper"), (remote, tools / "helper"):
@@ -180,14 +182,14 @@ class Suite:
         return ran
 
     def run_by_git(self, script):
-        """The results of git alone, which are stored."""
+        """The stored results of git alone."""
         stored = self.work / "plain" / "results" / f"{script}.tap"
         ran = Ran(script, stored, stored.with_suffix(".log"), 0) if stored.exists() else None
         return ran if ran and ran.is_whole else self.run(script, False)
 
 
 class Ran:
-    """What a script found: for each number `pass`, `fail` or `skip`, and the title."""
+    """The results of a script: for each number `pass`, `fail` or `skip`, and the title."""
 
     def __init__(self, script, tap, log, seconds):
         self.script, self.short, self.seconds = script, script.split("-")[0], seconds
@@ -196,7 +198,7 @@ class Ran:
             self.is_whole = self.is_whole or line.startswith("1..")
             if read := RESULT.fullmatch(line):
                 state, number, title, mark = read.groups()
-                # a test that git's developers expect to fail counts as left out
+                # a test that git's developers expect to fail counts as skipped
                 self.results[int(number)] = "skip" if mark else "pass" if state == "ok" else "fail", title or ""
         self.urls = log.read_text(errors="replace").splitlines() if log.exists() else []
 
@@ -243,12 +245,12 @@ class Line:
 
 
 def read_table():
-    """The lines of the table by script and number, and what is wrong with them."""
+    """The lines of the table by script and number, and their faults."""
     lines, wrong = {}, []
     differences = " ".join(DIFFERENCES.read_text().split())
     for line in map(Line, filter(lambda text: text and not text.startswith("#"), TABLE.read_text().splitlines())):
         if line.kind not in KINDS or (line.script, line.number) in lines:
-            wrong.append(f"TABLE no such kind, or a second line of a test: {line.text}")
+            wrong.append(f"TABLE unknown kind, or a second line for a test: {line.text}")
         quoted = re.findall(r'"([^"]+)"', line.reason)
         if line.kind == "documented" and not (quoted and all(words in differences for words in quoted)):
             wrong.append(f"TABLE docs/DIFFERENCES.md doesn't have the quoted words: {line.text}")
@@ -257,7 +259,7 @@ def read_table():
 
 
 def judge(suite, ran, table):
-    """Compares what a script found with the table: each test that fails and isn't there though git passes it, each line that passes."""
+    """Compares a script's results with the table: failed tests that git passes and the table doesn't have, and lines that pass."""
     if not ran.is_whole and not (ran.is_late and suite.given.quick):
         ran.complete(suite.run_by_git(ran.script))
     listed = {number for script, number in table if script == ran.short}
@@ -270,7 +272,7 @@ def judge(suite, ran, table):
 
 
 def chosen(tree, given, table):
-    """The scripts to run, the longest first where their sizes tell."""
+    """The scripts to run, by size, the largest first."""
     patterns = given or USUAL + sorted({script for script, _ in table})
     found = {path.stem: path.stat().st_size for one in patterns for path in (tree / "t").glob(f"{pathlib.Path(one).stem}*.sh")
              if re.match(r"t\d{4}-", path.name)}
@@ -281,11 +283,14 @@ def main():
     given = options()
     work = pathlib.Path(given.work).resolve()
     table, wrong = read_table()
+    if given.quotes:
+        say([*wrong, f"{len(table) - len(wrong)} passed, {len(wrong)} failed"])
+        sys.exit(bool(wrong))
     try:
         source = find_source(given.source, work)
         tree, tools = build(source, work, given), install(work, given.remote.resolve())
     except Missing as missing:
-        say([*wrong, f"{missing}: git's own tests aren't run"])
+        say([*wrong, f"{missing}: git's own tests are not run"])
         sys.exit(1 if wrong or not given.quick else 0)
     say(wrong)
     suite = Suite(work, tree, tools, given)
@@ -307,7 +312,7 @@ def main():
         found[script] = ran, judge(suite, ran, table)
         say(found[script][1])
     if left := [script for script in scripts if script not in found or found[script][0].is_late]:
-        say([f"the machine is slow: not run, or not to the end: {' '.join(left)}"])
+        say([f"the machine is slow: these scripts did not run, or not to the end: {' '.join(left)}"])
     finish([ran for ran, _ in found.values()], len(wrong) + sum(len(lines) for _, lines in found.values()))
 
 
@@ -321,12 +326,12 @@ def say(lines):
 
 
 def finish(all_ran, wrong):
-    """Prints the numbers, and ends."""
+    """Prints the numbers and ends."""
     passed, failed = (sum(len(ran.numbers(state)) for ran in all_ran) for state in ("pass", "fail"))
     runs = sum(len(ran.urls) for ran in all_ran)
     if not runs:
         say(["FAILED git never started the helper"])
-    say([f"{len(all_ran)} of git's scripts: {passed} of their tests pass, {failed} don't, in {runs} runs of the helper",
+    say([f"{len(all_ran)} of git's scripts: {passed} of their tests pass, {failed} fail, in {runs} runs of the helper",
          f"{max(passed + failed - wrong, 0)} passed, {wrong + (not runs)} failed"])
     sys.exit(1 if wrong or not runs else 0)
 

@@ -3,34 +3,32 @@
 
 Usage: haves.py [--protocol N] [--depth N] [--one] [--tags] [--seed N] [--keep FOLDER] [HISTORIES]
 
-Makes HISTORIES histories (200 unless another number is given) with a server and a client that have both gone on: linear, merged,
-with equal and with backward dates, with many tips, mixed, and rewritten by the server; a third of the clients have forgotten what
-they knew of the server. For each it runs `git fetch` with `fetch.negotiationAlgorithm` of `consecutive` and `skipping` under GIT_TRACE_PACKET, and
-the program in scripts/haves (built in a temporary folder by `rt try`, which proves nothing; RT names another command) against a
-`git upload-pack` of its own under the same trace. Compared are the different haves in their order: which of them stand in one
-request is the library's choice and git's, and git names those in common again with each request of version 2.
+Makes HISTORIES histories (default 200) in which a server and a client both have new commits: linear, merged, with equal and with
+backward dates, with many tips, mixed, and rewritten by the server. A third of the clients lost their remote-tracking refs. For each
+it runs `git fetch` with the negotiation algorithms `consecutive` and `skipping` under GIT_TRACE_PACKET. It also runs the program in
+scripts/haves (built in a temporary folder by `rt try`, without a proof; RT names another command) against another `git upload-pack`
+under the same trace. It compares the different haves in their order. How they are split into requests may differ, and git repeats the
+common ones in each request of version 2.
 
-`--protocol` is the version of the protocol, 2 unless it says otherwise. With `--depth` both fetch so many commits of each ref, with
-`--one` by one refspec, that of a branch which has moved, and with `--tags` the histories have tags, lightweight and annotated ones,
-which both fetch as they follow.
+`--protocol` is the version of the protocol (default 2). With `--depth` both fetch so many commits of each ref. With `--one` both fetch
+a single branch that moved. With `--tags` the histories have lightweight and annotated tags, which both fetch automatically.
 
-Where the two differ, a model of both algorithms below says why. Over git's answers it has to send what git sent, and what the library sent
-over the library's. The causes are what the two models do unlike each other, and which commits were asked for:
+Where the two differ, reference implementations of both algorithms explain it. For git's acknowledgements they must send git's haves,
+and for the library's the library's haves. The causes are differences between these two, and which commits were wanted:
 
-    tags as listed     git takes of an annotated tag that the server lists the commit that it leads to as known to both sides, and for its
-                       cutoff; the library takes the tag's own id
-    marks left off     `skipping` of git 2.39 leaves off marking what is common at a commit that it marked before; the library goes on
-    nothing marked     with a depth git marks no commit as complete, and tells its negotiator of none that is common before it asks; the
+    tags as listed     git counts the commit of an annotated tag that the server lists as common, and uses it for the cutoff; the library
+                       uses the tag's own id
+    marks left off     `skipping` of git 2.39 stops marking common commits at one that it marked before; the library continues
+    nothing marked     with a depth git marks no commit as complete, and reports no common commit to its negotiator beforehand; the
                        library does both
-    history cut        with a depth, under versions 0 and 1, git takes the new boundary into account while it offers haves
-    all that is listed under versions 0 and 1 git takes all refs that the server lists as known to both sides where it has them; the
-                       library takes those that are mapped
-    other windows      under versions 0 and 1 git sends a request more before it reads an answer, and its windows are 16, 16, 32, 32, ..;
-                       those of the library 16, 32, 64, 96, .., so that each hears of other commits in common by then
-    haves after ready  under versions 0 and 1 git sends no have after `ACK .. ready`; the library goes on
-    other wants        git also asks for tags that follow, and for commits that are there and that it doesn't know as complete
+    history cut        with a depth, under versions 0 and 1, git applies the new boundary while it offers haves
+    all that is listed under versions 0 and 1 git counts all listed refs that it has as common; the library counts the mapped ones
+    other windows      under versions 0 and 1 git sends one more request before it reads an answer, and its windows are 16, 16, 32, 32, ..;
+                       the library's are 16, 32, 64, 96, .., so each knows other common commits at that time
+    haves after ready  under versions 0 and 1 git sends no have after `ACK .. ready`; the library continues
+    other wants        git also wants tags that follow, and commits that it has but doesn't know to be complete
 
-Prints a line for each difference, with its cause, and how many of how many agree. Ends with 1 where one has no cause.
+Prints a line for each difference with its cause, and how many histories agree. The status is 1 if a difference has no cause.
 """
 import argparse
 import heapq
@@ -56,7 +54,7 @@ RULES = {"tags as listed": "peels", "marks left off": "leaves_off", "nothing mar
 
 
 class Git:
-    """Runs git with no configuration but that of a repository."""
+    """Runs git with the configuration of the repository alone."""
 
     def __init__(self, room):
         self.environment = {**os.environ, "HOME": str(room), "GIT_CONFIG_NOSYSTEM": "1"}
@@ -69,7 +67,7 @@ class Git:
 
 
 class History:
-    """Commits that are made at random on branches, as text for `git fast-import`."""
+    """Random commits on branches, as input for `git fast-import`."""
 
     def __init__(self, kind, rng, time, mark):
         self.kind, self.rng, self.time, self.mark = kind, rng, time, mark
@@ -130,7 +128,7 @@ def tag(git, rng, repository, prefix):
 
 
 def make_history(git, folder, number, seed, has_tags):
-    """A server and a client in FOLDER that have both gone on from where they were the same."""
+    """A server and a client in FOLDER with a common history and new commits on both sides."""
     rng, kind = random.Random(seed + number), KINDS[number % len(KINDS)]
     server, client = folder / "server.git", folder / "client.git"
     for repository in (server, client):
@@ -143,7 +141,7 @@ def make_history(git, folder, number, seed, has_tags):
     git(client, "config", "remote.o.url", f"file://{server}")
     git(client, "config", "remote.o.fetch", BRANCHES_SPEC)
     git(client, "fetch", "-q", *([] if has_tags else ["--no-tags"]), "o")
-    # The server goes on, on some branches; it may have gone back on them first.
+    # the server adds commits to some branches, which it may move back first
     ours = History(kind, rng, base.time + rng.choice([0, 0, 500, -300]), "s")
     ours.heads = heads_of(git, server, "refs/heads")
     if kind == "rewritten":
@@ -154,7 +152,7 @@ def make_history(git, folder, number, seed, has_tags):
     ours.write(git, server)
     if has_tags:
         tag(git, rng, server, "u")
-    # So does the client, on branches of its own.
+    # the client adds commits to branches of its own
     theirs = History(kind, rng, base.time + rng.choice([0, 0, 500, -300]), "c")
     known = heads_of(git, client, "refs/remotes")
     theirs.heads = {f"refs/x/{at}": head for at, head in enumerate(known.values())}
@@ -168,7 +166,7 @@ def make_history(git, folder, number, seed, has_tags):
 
 
 def moved_branch(git, folder):
-    """The refspec of the first branch whose commit the client doesn't have."""
+    """The refspec of the first branch whose commit the client lacks."""
     heads = heads_of(git, folder / "server.git", "refs/heads")
     there = set(git(folder / "client.git", "cat-file", "--batch-all-objects", "--batch-check=%(objectname)").split())
     name = next((name for name, id in heads.items() if id not in there), "refs/heads/main")
@@ -176,7 +174,7 @@ def moved_branch(git, folder):
 
 
 def export(git, repository, folder):
-    """The texts that the program reads: all objects by kind, all commits, and the refs with what they lead to."""
+    """Writes the input of the program: all objects by kind, all commits, and the refs with their targets."""
     folder.mkdir(parents=True)
     objects = git(repository, "cat-file", "--batch-all-objects", "--batch-check=%(objectname) %(objecttype)")
     (folder / "objects").write_text(objects)
@@ -189,7 +187,7 @@ def export(git, repository, folder):
 
 
 def fetch_by_git(git, folder, algorithm, wish):
-    """A fetch on a copy of the client, with its packets in FOLDER/ALGORITHM/git."""
+    """Runs a fetch on a copy of the client, with its packet trace in FOLDER/ALGORITHM/git."""
     work = folder / algorithm
     work.mkdir()
     copy = work / "git.git"
@@ -202,7 +200,7 @@ def fetch_by_git(git, folder, algorithm, wish):
 
 
 def serve(git, folder, algorithm, wish):
-    """A server over two pipes, with its packets in FOLDER/ALGORITHM/ours."""
+    """Starts a server over two pipes, with its packet trace in FOLDER/ALGORITHM/ours."""
     work = folder / algorithm
     os.mkfifo(work / "from"), os.mkfifo(work / "to")
     words = ["sh", "-c", 'exec "$@" < "$0/to" > "$0/from" 2> "$0/server"', str(work), "git", "upload-pack", str(folder / "server.git")]
@@ -219,7 +217,7 @@ def trace(path):
 
 
 def first_fetch(text, wish):
-    """What stands of the first fetch in a trace: where tags are left over, git fetches these once more."""
+    """The lines of the first fetch in a trace: git may fetch tags in a second one."""
     if wish.protocol == 2:
         front, _, rest = text.partition(" fetch> command=fetch")
         return " fetch> command=fetch" + rest.partition(" fetch< packfile")[0] if rest else ""
@@ -228,7 +226,7 @@ def first_fetch(text, wish):
 
 
 def listed_of(text, wish):
-    """The refs that a server lists: name, id, and what a tag leads to."""
+    """The refs that a server lists: name, id, and the target of a tag."""
     if wish.protocol == 2:
         front = text.partition(" fetch> command=fetch")[0]
         return re.findall(r" fetch< ([0-9a-f]{40}) (\S+)(?: symref-target:\S+)?(?: peeled:([0-9a-f]{40}))?", front)
@@ -253,7 +251,7 @@ def haves_of(text, wish):
 
 
 class Model:
-    """git's two algorithms (negotiator/default.c and negotiator/skipping.c of git 2.39) as a plain program, over the answers of a trace."""
+    """git's two algorithms (negotiator/default.c and negotiator/skipping.c of git 2.39), run over the acknowledgements of a trace."""
 
     def __init__(self, folder, algorithm, listed, leaves_off=True, marks=True, cut=()):
         self.skips, self.leaves_off = algorithm == "skipping", leaves_off
@@ -390,14 +388,14 @@ class Model:
             self.common(id)
 
     def haves(self, text, wish):
-        """What it offers where as many were sent, over the answers of the trace of a client under version 2."""
+        """Its haves for the acknowledgements of a version 2 trace, as many as were sent."""
         sent, offered, window = [], [], FIRST_WINDOW
         for request in first_fetch(text, wish).split(" fetch> command=fetch")[1:]:
             new = [id for id in re.findall(r" fetch> have ([0-9a-f]+)", request) if id not in sent]
             for _ in new:
                 self.offer(offered)
             sent += new
-            # Haves run out where a window isn't filled, unless too many were in vain.
+            # the haves ran out if a window isn't full, unless too many were in vain
             if len(new) < window and len(sent) < MOST_IN_VAIN:
                 self.offer(offered)
             window *= 2
@@ -406,7 +404,7 @@ class Model:
         return offered
 
     def replayed(self, events, runs_out):
-        """The same under versions 0 and 1: haves, and acknowledgements where the client reads them."""
+        """The same under versions 0 and 1: haves, with acknowledgements where the client reads them."""
         offered = []
         for word, id in events:
             if word == "have":
@@ -418,7 +416,7 @@ class Model:
         return offered
 
     def alone(self, has, windows):
-        """What it offers in these windows to a server that has these commits, and acknowledges them at the end of each."""
+        """Its haves in these windows for a server with these commits, which acknowledges them at the end of each window."""
         offered = []
         for window in windows:
             new = []
@@ -440,18 +438,18 @@ def windows_of_library():
 
 
 def as_git_traces(text):
-    """The trace of the library's server, as git writes that of a client."""
+    """The trace of the library's server, written like a client's."""
     return text.replace(" upload-pack< ", " fetch> ").replace(" upload-pack> ", " fetch< ")
 
 
 def events_of(text, wish):
-    """Haves, acknowledgements and ends of requests in the order of a trace of versions 0 and 1."""
+    """The haves, acknowledgements and ends of requests of a trace of versions 0 and 1, in order."""
     found = re.findall(r" fetch[<>] (have|ACK|0000)(?: ([0-9a-f]{40}))?( ready)?", first_fetch(text, wish))
     return [("ready" if ready else word, id) for word, id, ready in found]
 
 
 def runs_out(words):
-    """Whether haves end since there are no more, and not since too many were in vain."""
+    """Whether the haves ended because there were no more, not because too many were in vain."""
     return len(words) - 1 - max([at for at, word in enumerate(words) if word != "have"], default=-1) < MOST_IN_VAIN
 
 
@@ -464,7 +462,7 @@ def replay_git(model, text, wish):
 
 
 def replay_library(model, text, wish):
-    """A server acknowledges while it still reads a request, and the library reads that once the request is sent."""
+    """A server acknowledges while it reads a request. The library reads the acknowledgements after it sent the request."""
     if wish.protocol == 2 or not first_fetch(text, wish):
         return model.haves(text, wish)
     events, haves, heard = [], [], []
@@ -483,14 +481,14 @@ def wants(text, wish):
 
 
 def goes_on_after_ready(text, wish):
-    """Whether haves come in a request after one that was answered by `ACK .. ready`."""
+    """Whether a request has haves after an answer `ACK .. ready`."""
     words = [word for word, _ in events_of(text, wish)]
     after = words[words.index("ready"):] if "ready" in words else []
     return "0000" in after and "have" in after[after.index("0000"):]
 
 
 def cause(folder, algorithm, ours, theirs, wish):
-    """Why the haves differ: none where that isn't known."""
+    """Why the haves differ, or None."""
     by_git, by_us = trace(folder / algorithm / "git"), as_git_traces(trace(folder / algorithm / "ours"))
     spec, early = (folder / "spec").read_text(), wish.protocol != 2
     cut = set(re.findall(r" fetch< shallow ([0-9a-f]+)", first_fetch(by_git, wish))) if early and wish.depth else set()
@@ -510,7 +508,7 @@ def cause(folder, algorithm, ours, theirs, wish):
 
     if sends() != theirs or gives() != ours:
         return None
-    # The rules in which the two differ: each side is asked what it would send by that of the other.
+    # The rules in which the two differ: what would each side send by the rule of the other?
     causes = [name for name, rule in RULES.items() if git_rules[rule] != our_rules[rule]
               and (sends(**{rule: our_rules[rule]}) != theirs or gives(**{rule: git_rules[rule]}) != ours)]
     if early:
@@ -525,7 +523,7 @@ def cause(folder, algorithm, ours, theirs, wish):
 
 
 def build(work):
-    """The repository's crates with the program on top, in WORK."""
+    """Builds the program over a copy of the repository's crates in WORK."""
     shutil.copytree(TOP / "crates", work / "crates", ignore=shutil.ignore_patterns("out", "must-fail", "data"))
     source = work / "crates" / "gixp_haves" / "src"
     source.mkdir(parents=True)
@@ -541,7 +539,7 @@ def build(work):
 
 
 def fetch_by_us(git, program, cases, wish):
-    """Runs the program once for each case, each with a server of its own."""
+    """Runs the program once for each case, with one server each."""
     folder = program / "cases"
     shutil.rmtree(folder, ignore_errors=True)
     folder.mkdir()
@@ -576,7 +574,7 @@ def compare(histories, wish):
             counts[algorithm].update([*(why.split(", ") if why else []), "fewer here" if len(ours) < len(theirs) else "not fewer here"])
             print(f"{folder.name} {kind} {algorithm}: git sent {len(theirs)}, we sent {len(ours)}: {why or 'NO CAUSE'}")
     for algorithm in ALGORITHMS:
-        print(f"{algorithm}: {agree[algorithm]} of {len(histories)} agree, {explained[algorithm]} differ by a cause, {unexplained[algorithm]} without one")
+        print(f"{algorithm}: {agree[algorithm]} of {len(histories)} agree, {explained[algorithm]} differ with a cause, {unexplained[algorithm]} without one")
         print("    " + ", ".join(f"{name}: {count}" for name, count in sorted(counts[algorithm].items())))
     return sum(unexplained.values())
 
@@ -589,7 +587,7 @@ def main():
     parser.add_argument("--one", action="store_true", help="one branch is fetched, by its refspec")
     parser.add_argument("--tags", action="store_true", help="histories with tags")
     parser.add_argument("--seed", type=int, default=1000)
-    parser.add_argument("--keep", type=pathlib.Path, help="a folder for the histories and traces, which stay")
+    parser.add_argument("--keep", type=pathlib.Path, help="a folder for the histories and traces; it is not removed")
     words = parser.parse_args()
     with tempfile.TemporaryDirectory() as temporary:
         room = words.keep.resolve() if words.keep else pathlib.Path(temporary) / "room"

@@ -1,20 +1,22 @@
 #!/usr/bin/env python3
-"""Clones and fetches real repositories by the programs gixp_remote and gixp_fetch_pack, beside git.
+"""Clones and fetches real repositories with gixp_remote and gixp_fetch_pack, and compares the results with git's.
 
 Usage: live.py [--program PATH] [--remote PATH] [--keep FOLDER] [--only WORD] [--jobs N] [--again]
 
-The PATHs are the programs gixp_fetch_pack and gixp_remote, else what `rt run` left in their crates' out/. The remote helper beside
-the second's crate is tried with it.
-Repositories are made on the spot: empty ones, one commit, 2,000 commits with merges, equal and backward dates, annotated and
-nested tags, symbolic and hidden refs, shallow ones. Each action is done twice, by git over file:// and by git over gixp::, and
-must leave the same refs and the same boundary, and a repository that `git fsck --strict` finds whole. So must servers whose
-answers are bodies of their own, as of HTTP. Connections are counted, and haves that a list of commits offers. Then come servers
-that die, that send errors or nonsense, and one that freezes: an error, and nothing left behind. Each process of a fetch gets
-signals at moments of it. git daemon, sshd and web servers are tried where there is a loopback, and sshd where it is installed.
-Lists and packs are cut, boundaries changed, and objects lost; the caller leaves files open, and sets variables that shells heed.
-No process may stay behind an action, and one that takes a minute is ended, and failed.
+The PATHs name the programs gixp_fetch_pack and gixp_remote. Without them the programs are those that `rt run` left in their crates'
+out/ folders. The shell of the remote helper is the one in crates/gixp_remote.
 
-Prints a line for each that failed, and `N passed, M failed`. Ends with 1 where one failed. git is needed.
+The cases make their repositories: empty ones, one commit, 2,000 commits with merges, equal and backward dates, annotated and nested
+tags, symbolic and hidden refs, shallow ones. Each action runs twice: by git over file:// and by git over gixp::. Both must leave the
+same refs, the same shallow boundary, and a repository that `git fsck --strict` accepts. The same holds for servers that answer each
+request by itself, as over HTTP. Some cases count connections, or the haves from a list of commits.
+
+Other cases have servers that die, that send errors or nonsense, and one that stops answering: the fetch must fail and leave nothing.
+Each process of a fetch gets signals at several moments. git daemon, sshd and web servers run on loopback, if there is one, and sshd if
+it is installed. Further cases cut lists and packs, change boundaries, lose objects, leave files open, and set variables that shells read.
+No action may leave a process. An action that takes a minute is killed and has failed.
+
+Prints a line for each failed case, and `N passed, M failed`. The status is 1 if a case failed. git is needed.
 """
 import argparse
 import os
@@ -40,11 +42,11 @@ def options():
     parser = argparse.ArgumentParser(description=__doc__.splitlines()[0])
     parser.add_argument("--program", type=pathlib.Path, default=CRATE / "out" / "gixp_fetch_pack")
     parser.add_argument("--remote", type=pathlib.Path, default=REMOTE / "out" / "gixp_remote")
-    parser.add_argument("--keep", type=pathlib.Path, help="a folder for all that is made, which stays")
-    parser.add_argument("--only", help="only what has this word in its name")
-    parser.add_argument("--jobs", type=int, default=os.cpu_count(), help="how many cases at once")
+    parser.add_argument("--keep", type=pathlib.Path, help="a folder for all files of the cases; it is not removed")
+    parser.add_argument("--only", help="only cases with this word in their names")
+    parser.add_argument("--jobs", type=int, default=os.cpu_count(), help="how many cases run at once")
     parser.add_argument("--again", action="store_true",
-                        help="try a case that failed once more, when no other is tried, and count that: a loaded machine is late")
+                        help="try a failed case once more, alone, and count the second try: a loaded machine is late")
     return parser.parse_args()
 
 
@@ -53,7 +55,7 @@ def main():
     program, remote = given.program.resolve(), given.remote.resolve()
     for one in (program, remote):
         if not os.access(one, os.X_OK):
-            sys.exit(f"no program {one}: `rt run` in crates/{one.name} builds it")
+            sys.exit(f"there is no program {one}: `rt run` in crates/{one.name} builds it")
     with tempfile.TemporaryDirectory() as temporary:
         room = (given.keep or pathlib.Path(temporary) / "room").resolve()
         t = Tester(room, program, remote, given.only, given.jobs, bool(given.keep))

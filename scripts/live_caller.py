@@ -1,4 +1,4 @@
-"""Cases of live.py for what git's caller opens, sets and says: open files, variables, shell words, settings, numbers of processes."""
+"""Cases of live.py for git's caller: its open files, variables, shell commands, settings, and reused process ids."""
 import fcntl
 import itertools
 import os
@@ -9,14 +9,14 @@ import subprocess
 from live_harness import by_both, by_path, clone_both, grow, leaves_nothing, make, same, state
 from live_servers import here_ssh, shell_ssh
 
-# A session id in git's form, behind those of the processes above.
+# a session id in git's form, after the ids of git's own processes
 SESSION_ID = re.compile(r"session-id=(\S*/)?\d{8}T\d{6}\.\d{6}Z-H[0-9a-f]{8}-P[0-9a-f]{8}\b")
 
 # Open files
 
 
 def opened(t, numbers, *words, more=None):
-    """Runs git with these files open; gives its status, its words, and what was written to the files."""
+    """Runs git with these files open. Returns its status, its output, and what was written to the files."""
     path, said = t.folder("open"), t.folder("said")
     with open(path, "w+") as file, open(said, "w+") as err, open(os.devnull, "w") as nothing:
         high = fcntl.fcntl(file.fileno(), fcntl.F_DUPFD, 1000)
@@ -38,7 +38,7 @@ def opened(t, numbers, *words, more=None):
 
 
 def open_files(name, t):
-    """Files that the caller left open, at the numbers that the helper takes for its own and at bash's own for the script."""
+    """Files that the caller left open, at the numbers that the helper uses and at the one that bash uses for the script."""
     server = make(t, "server", 5)
     most = range(3, 256)
     rows = [(f"only {number}", [number]) for number in (*range(3, 64), 253, 254, 255)]
@@ -51,7 +51,7 @@ def open_files(name, t):
 
 
 def traces(name, t):
-    """git writes its trace to a file that the caller opened, and what the helper starts writes there too."""
+    """git writes its trace to a file that the caller opened. The helper's programs write there too."""
     server = make(t, "server", 5)
     for number in range(3, 10):
         told = []
@@ -65,7 +65,7 @@ def traces(name, t):
 
 
 def with_variables(t, more):
-    """What a program in place of ssh gets of the variables, by git and by the helper, and how each ended."""
+    """The variables that git and the helper pass to a program in place of ssh, and both statuses."""
     server, told = make(t, "server", 5), []
     for url in by_both(server):
         got = t.folder("got")
@@ -77,7 +77,7 @@ def with_variables(t, more):
 
 
 def variables(name, t):
-    """Variables that mean something to bash, or have a name of the helper's shell: it does the same, and what it starts gets them."""
+    """Variables that bash reads, or that have a name of the helper's shell. They change nothing, and the started programs get them."""
     startup = t.folder("startup")
     startup.write_text("echo printed\nexec 20>&- 21<&-\ncd /\nset -e\n")
     functions = {f"BASH_FUNC_{word}%%": "() { echo changed\n}" for word in ("git", "cat", "read", "kill", "exec", "wait", "trap", "printf")}
@@ -97,7 +97,7 @@ def variables(name, t):
 
 
 def shell_words(name, t):
-    """The words of GIT_SSH_COMMAND go to the shell that git has for them."""
+    """GIT_SSH_COMMAND runs in the same shell as with git."""
     server = make(t, "server", 5)
     run = 'for last; do :; done; unset GIT_DIR; sh -c "$last"; }; run'
     bash = {"BASH_FUNC_exported%%": "() { echo exported >&2\n}"}
@@ -111,11 +111,11 @@ def shell_words(name, t):
         t.check(f"{name}: {text[:40]}", is_same and is_said and leaves_nothing(t), f"{ends}")
 
 
-# What is said to the helper and to the server
+# Options and settings
 
 
 def families(name, t):
-    """-4 and -6 reach the program in place of ssh; one that takes no such word is refused."""
+    """-4 and -6 reach the program in place of ssh. A program without such an option is an error."""
     server, told = make(t, "server", 5), t.folder("told")
     script = f'echo "$*" >> "{told}"\nfor last; do :; done\nunset GIT_DIR\nexec sh -c "$last"'
     for variant in ("ssh", "plink", "tortoiseplink", "simple"):
@@ -130,7 +130,7 @@ def families(name, t):
 
 
 def session_ids(name, t):
-    """A session id is sent where the user's settings say so and the server has one."""
+    """The helper sends a session id if the user's settings say so and the server has one."""
     for client, server_says in itertools.product(("true", "false"), repeat=2):
         server, sent = make(t, "server", 5), []
         t.git("config", "transfer.advertiseSID", server_says, at=server)
@@ -145,7 +145,7 @@ def session_ids(name, t):
 
 
 def severities(name, t):
-    """Severities of fetch.fsck.* that git refuses, of some objects always, and ids that it doesn't know."""
+    """Severities of fetch.fsck.*: some that git refuses, and message ids that it doesn't know."""
     server = make(t, "server", 3)
     for setting in ("unterminatedHeader=warn", "nulInHeader=ignore", "nosuchid=warn", "missingEmail=nonsense", "missingEmail=warn",
                     "UNTERMINATEDHEADER=warn", "unterminatedHeader=error"):
@@ -160,7 +160,7 @@ def severities(name, t):
 
 
 def control_characters(name, t):
-    """Control characters of a URL aren't shown as they are."""
+    """Control characters of a URL are not printed."""
     for host in ("a\033[31mb", "a\rb", "\x9b31mb", "a\x7fb"):
         for url in (f"git://{host}.invalid/x", f"git://{host}.invalid:1/x", f"git://127.0.0.1:1/{host}", f"http://{host}.invalid/x"):
             status, out, err = t.run("git", "ls-remote", f"gixp::{url}")
@@ -168,9 +168,9 @@ def control_characters(name, t):
             t.check(f"{name}: {url!r}", status not in (0, -1) and not shown, f"{status} {err!r}")
 
 
-# Numbers of processes
+# Reused process ids
 
-# Runs in a namespace of its own, in which a process ends that the helper began, its number is given to a `sleep`, and the helper ends.
+# Runs in a pid namespace: a process of the helper ends, a `sleep` gets its process id, and then the helper ends.
 REUSE = r"""
 . "$1"
 for i in $(seq 200); do [ -e "$waiting" ] && break; sleep 0.05; done
@@ -186,7 +186,7 @@ touch "$go"; wait $fetch || exit 5; sleep 1; kill -0 $other || exit 6; kill $oth
 
 
 def git_that_waits(t, room, who, waits, numbered):
-    """git's programs, of which one waits: the server ends before a pack is indexed, or the list of commits before the server's pack."""
+    """git's programs, one of which waits: the server ends before the pack is indexed, or the list of commits before the pack."""
     core, place = t.git("--exec-path").strip(), shutil.which("git")
     room.mkdir()
     for path in os.listdir(core):
@@ -203,7 +203,7 @@ def git_that_waits(t, room, who, waits, numbered):
 
 
 def reused_number(name, t, who):
-    """A process that got the number of one that the helper began, and that ended, gets no signal."""
+    """A process that got the process id of an ended process of the helper gets no signal."""
     server, client, begin, script = make(t, "server", 5), t.folder("client"), t.folder("begin"), t.folder("script")
     waiting, numbered, go = (t.folder(word) for word in ("waiting", "numbered", "go"))
     t.git("clone", "-q", "--bare", f"file://{server}", client)
@@ -220,13 +220,13 @@ def reused_number(name, t, who):
 
 
 def can_unshare():
-    """Whether numbers of processes can be given again on purpose here."""
+    """Whether this machine lets us choose the next process id."""
     words = ["unshare", "--pid", "--fork", "--mount-proc", "sh", "-c", "echo 100 > /proc/sys/kernel/ns_last_pid"]
     return bool(shutil.which("unshare")) and subprocess.run(words, stderr=subprocess.DEVNULL, check=False).returncode == 0
 
 
 def older_bash(name, t):
-    """A bash that makes a file of a word, and no pipe, as 5.0 does."""
+    """A bash that makes a file of a here-string, not a pipe, as 5.0 does."""
     server = make(t, "server", 30, tags=True)
     for words in ([], ["--depth", "3"]):
         more = {**here_ssh(t), "BASH_COMPAT": "5.0"}
@@ -236,7 +236,7 @@ def older_bash(name, t):
 
 
 def locales(name, t):
-    """A path that is no ASCII, in locales whose characters are bytes and aren't, and in one that isn't there, of which bash warns once."""
+    """A path that is not ASCII, in a single-byte locale, in a UTF-8 locale, and in a missing one, about which bash warns once."""
     server = make(t, "sërvér 中", 30, tags=True)
     for locale in ("C", "C.UTF-8", "xx_YY.UTF-8"):
         by_git, by_us, first, second = clone_both(t, server, urls=by_path(server), more={"LC_ALL": locale})
@@ -247,8 +247,8 @@ def locales(name, t):
 
 def try_caller(t):
     for name, action in (
-        ("open files", open_files), ("files of traces", traces), ("variables", variables), ("words for a shell", shell_words),
-        ("families of addresses", families), ("session ids", session_ids), ("severities", severities),
+        ("open files", open_files), ("files of traces", traces), ("variables", variables), ("GIT_SSH_COMMAND", shell_words),
+        ("-4 and -6", families), ("session ids", session_ids), ("severities", severities),
         ("control characters", control_characters), ("an older bash", older_bash), ("locales", locales),
     ):
         t.case(f"caller: {name}", action)
@@ -256,4 +256,4 @@ def try_caller(t):
         for who in ("server", "listing"):
             t.case(f"caller: the number of a {who} that ended", reused_number, who)
     else:
-        print("numbers of processes that ended aren't tried: that needs root and unshare", flush=True)
+        print("reused process ids are not tested: that needs root and unshare", flush=True)

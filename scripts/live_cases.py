@@ -1,4 +1,4 @@
-"""Cases of live.py by git over gixp::, most of them beside git over its own transports."""
+"""Cases of live.py: git over gixp::, mostly compared with git over its own transports."""
 import shutil
 import time
 
@@ -30,7 +30,7 @@ def try_clones(t):
     t.case("clone --reject-shallow of a shallow repository", clones, small_shallow, "2", "--reject-shallow")
 
 
-# Servers, and what becomes of them between a clone and a fetch
+# Servers, and how they change between a clone and a fetch
 
 
 def small(t):
@@ -53,7 +53,7 @@ def done_by_git(*words):
 
 
 def tagged(*more):
-    """Three commits and a tag of the one before the last."""
+    """Three commits and a tag of the last but one."""
     return after(grown(3), done_by_git("tag", "-a", "-m", "x", "new", "main~1"), *more)
 
 
@@ -83,15 +83,15 @@ def try_fetches(t):
     for spec in SPECS:
         t.case(f"fetch origin {spec}", fetches, small, ["origin", spec], "2", grown(2))
     left_out = ["origin", "+refs/heads/*:refs/x/*", "^refs/heads/side"]
-    t.case("fetch of refspecs with one that is left out", fetches, small, left_out, "2", grown(2))
-    t.case("fetch of a ref that isn't there", fetches, small, ["origin", "nowhere"], "2")
-    t.case("fetch of a fast-forward alone", fetches, small, ["origin", "main:refs/remotes/origin/main"], "2", grown(3, back=4))
-    t.case("fetch by a client that has a tip alone", has_tip_alone)
+    t.case("fetch of refspecs with a negative one", fetches, small, left_out, "2", grown(2))
+    t.case("fetch of a missing ref", fetches, small, ["origin", "nowhere"], "2")
+    t.case("fetch of a fast-forward only", fetches, small, ["origin", "main:refs/remotes/origin/main"], "2", grown(3, back=4))
+    t.case("fetch by a client that has only a tip", has_tip_alone)
     t.case("tags of a deepened history", deepened_tags)
 
 
 def try_consecutive(t):
-    """Fetches by git's own algorithm in our program."""
+    """Fetches by git's consecutive negotiator."""
     for version in VERSIONS:
         for name, words, change, cloned in (
             ("nothing new", [], None, []), ("100 new commits", [], grown(100), []), ("a rewritten branch", [], grown(5, back=6), []),
@@ -106,7 +106,7 @@ def try_consecutive(t):
 
 
 def has_tip_alone(name, t):
-    """A client that has the tip of a branch, but not what it leads to."""
+    """A client that has the tip of a branch, but not its history."""
     server = make(t, "server", 30)
     by_git, by_us, first, second = clone_both(t, server)
     grow(t, server, 5)
@@ -118,7 +118,7 @@ def has_tip_alone(name, t):
 
 
 def deepened_tags(name, t):
-    """Tags that more of the history alone reaches: git looks for them before it knows the helper's pack, so the next fetch has them."""
+    """Tags that only the deepened history reaches. git looks for them before it knows the helper's pack, so the next fetch has them."""
     server = make(t, "server", 30, tags=True)
     by_git, by_us, first, second = clone_both(t, server, "--depth", "2")
     for words in (["--unshallow"], []):
@@ -127,7 +127,7 @@ def deepened_tags(name, t):
 
 
 def many_haves(name, t, version, over=None):
-    """Thousands of commits that the server doesn't know, and then thousands that it knows."""
+    """Thousands of commits that the server doesn't have, and then thousands that it has."""
     server = make(t, "server", 6000)
     urls, more = over(server) if over else (None, {})
     by_git, by_us, first, second = clone_both(t, server, urls=urls, more=more)
@@ -151,11 +151,11 @@ def try_haves(t):
     for version in ("0", "2"):
         t.case(f"6,000 haves in vain and 6,000 in common, version {version}", many_haves, version)
     t.case("bodies: 6,000 haves in vain and 6,000 in common", many_haves, "2", over=bodies)
-    t.case("list: nothing goes on", leaves_no_listing)
+    t.case("list: no process runs on", leaves_no_listing)
 
 
 def try_bodies(t):
-    """Servers whose answers are bodies of their own."""
+    """Servers that answer each request by itself."""
     large = make(t, "large", 2000, merges=True, tags=True)
     depths = ["--depth", "1"], ["--depth", "3", "--no-single-branch"], ["--shallow-since=1700000900"], ["--shallow-exclude=v1"]
     for words in ([], ["--mirror"], *depths):
@@ -170,7 +170,7 @@ def try_bodies(t):
 
 
 def leaves_no_listing(name, t):
-    """The helper's list of a long history ends with the fetch, and with one that fails."""
+    """The list of a long history ends with the fetch, and with a failed fetch."""
     server = make(t, "server", 20_000)
     by_git, by_us, first, second = clone_both(t, server)
     grow(t, server, 3)
@@ -198,7 +198,7 @@ def leaves_no_listing(name, t):
 
 
 def over_ssh(name, t):
-    """A program in place of ssh that runs the command here, where the path is quoted."""
+    """A program in place of ssh that runs the command on this machine, with a quoted path."""
     server = make(t, "served", 10)
     spaced = server.parent / "it's a server"
     spaced.symlink_to(server)
@@ -229,7 +229,7 @@ def over_sshd(name, t):
         refused = {**more, "GIT_SSH_COMMAND": more["GIT_SSH_COMMAND"].replace("/user ", "/host ")}
         ends = [t.run("git", "clone", "-q", url, t.folder("to"), more=refused) for url in urls]
         told = all(end[0] == 128 and "Permission denied" in end[2] for end in ends)
-        t.check(f"{name}: a key that isn't taken", told and leaves_nothing(t), ends)
+        t.check(f"{name}: a refused key", told and leaves_nothing(t), ends)
         ends = [t.run("git", "ls-remote", f"{url}/nowhere", more=more) for url in urls]
         told = all(end[0] == 128 and "does not appear to be a git repository" in end[2] for end in ends)
         t.check(f"{name}: no repository", told and leaves_nothing(t), ends)
@@ -243,7 +243,7 @@ def over_daemon(name, t):
             log.write_text("")
             by_git, by_us, first, second = clone_both(t, server, version=version, urls=(url, f"gixp::{url}"))
             same(t, f"{name}: clone, version {version}", by_git, by_us, first, second)
-            # one of them is git's
+            # one of them comes from git
             count = log.read_text().count("Request upload-pack")
             t.check(f"{name}: connections, version {version}", count == 2, log.read_text())
             if version == "2":
@@ -253,7 +253,7 @@ def over_daemon(name, t):
 
 
 def connections(name, t):
-    """How many connections a clone, a fetch and a list make, by the version that is asked for and the one that is spoken."""
+    """How many connections a clone, a fetch and a list make, by requested and spoken version."""
     servers = (("2", "2", 0), ("1", "1", 0), ("0", "0", 0), ("2", "1", 0), ("2", "0", 0), ("2", "2", 100), ("2", "2", 5000))
     for asked, spoken, pad in servers:
         server, starts = make(t, "counted", 30, tags=True), t.folder("starts")
@@ -282,19 +282,19 @@ def try_ways(t):
         t.case("over git daemon", over_daemon)
         why = why_no_sshd(t)
         if why:
-            print(f"sshd isn't tried: {why}", flush=True)
+            print(f"sshd is not tested: {why}", flush=True)
         else:
             t.case("over sshd", over_sshd)
     else:
-        print("there is no loopback, so git daemon and sshd aren't tried", flush=True)
+        print("there is no loopback: git daemon and sshd are not tested", flush=True)
     t.case("over ssh", over_ssh)
 
 
-# Servers that die, or say errors and nonsense
+# Servers that die, or send errors or nonsense
 
 
 def dies_later(name, t):
-    """A server that the helper starts, and that dies: in its advertisement, after it, in the list, in the pack."""
+    """A server that dies: in its advertisement, after it, in the list, in the pack."""
     server = make(t, "server", 30, tags=True)
     conversation = recorded(t, server)
     first, whole = conversation.index(b"0000") + 4, len(conversation)
@@ -305,7 +305,7 @@ def dies_later(name, t):
 
 
 def refuses_helper(name, t):
-    """Servers that say an error or nonsense to the helper."""
+    """Servers that send an error or nonsense to the helper."""
     path, version = t.folder("said"), frame(b"version 2\n")
     more, error = saying_ssh(t, path), frame(b"ERR access denied\n")
     for number, (said, wanted) in enumerate((
@@ -321,7 +321,7 @@ def refuses_helper(name, t):
 
 
 def server_texts(name, t):
-    """What a server says can't be taken for anything else."""
+    """A server's text can't be mistaken for git's own."""
     server = make(t, "server", 3)
     for text, wanted in (
         ("2 one\\nfatal: two\\n", "remote: one\nremote: fatal: two"), ("2 a\\033[31mb\\007\\n", "remote: a?[31mb?"),
@@ -348,14 +348,14 @@ def server_texts(name, t):
 def try_liars(t):
     t.case("a server that dies on the helper", dies_later)
     t.case("errors to the helper", refuses_helper)
-    t.case("what a server says", server_texts)
+    t.case("a server's text", server_texts)
 
 
-# That nothing of the user's is harmed
+# Nothing of the user's may be lost
 
 
 def work_trees(name, t):
-    """Fetches in a linked work tree: what belongs to the repository goes to the repository."""
+    """Fetches in a linked work tree: the repository's files go to the repository."""
     for words, cloned in (([], []), (["--unshallow"], ["--depth", "3"]), (["--depth", "2"], []), (["--depth", "5"], ["--depth", "2"])):
         server = make(t, "server", 20)
         by_git, by_us, first, second = clone_both(t, server, *cloned)
@@ -371,7 +371,7 @@ def work_trees(name, t):
 
 
 def shallow_servers(name, t):
-    """A server whose repository is shallow, to a client that has all: no boundary is taken, and no history is lost."""
+    """A shallow server and a complete client: the boundary doesn't change, and no history is lost."""
     full = make(t, "full", 30)
     server = t.folder("server")
     t.git("clone", "-q", "--bare", "--depth", "2", f"file://{full}", server)
@@ -386,7 +386,7 @@ def shallow_servers(name, t):
             t.git("gc", "-q", "--prune=now", at=client)
         histories = [t.git("rev-list", "--all", at=client) for client in (by_git, by_us)]
         t.check(f"{name}: history {words}", histories[0] == histories[1] and is_clean(t, by_us)[0])
-    # one that has none of it: git leaves the ref alone, or takes the boundary where that was asked for
+    # an empty client: git doesn't update the ref, or takes the boundary if the user asked for it
     for words, wanted in (([], False), (["--update-shallow"], True)):
         clients = [make(t, "client", 0, bare=False) for _ in range(2)]
         ends = [t.run("git", "fetch", "-q", *words, url, "main:refs/x/main", at=client) for client, url in zip(clients, urls)]
@@ -396,7 +396,7 @@ def shallow_servers(name, t):
 
 
 def built_on_promised(name, t):
-    """A pack that builds on an object that is promised and missing: git has that fetched first, by one helper more."""
+    """A pack with a delta on a missing promised object. git fetches that first, by one more helper."""
     server = make(t, "server", 3)
     for setting in ("uploadpack.allowFilter", "uploadpack.allowAnySHA1InWant"):
         t.git("config", setting, "true", at=server)
@@ -419,7 +419,7 @@ def built_on_promised(name, t):
 
 
 def spoiled_boundary(name, t, server, words, kind, number, id):
-    """A server that names an id as its boundary, which may be none that it can have."""
+    """A server that names an id as its boundary, which it may not have."""
     by_us, grown = t.folder("us"), t.folder("grown")
     t.git("clone", "-q", f"file://{server}", by_us)
     shutil.copytree(server, grown)
@@ -430,7 +430,7 @@ def spoiled_boundary(name, t, server, words, kind, number, id):
     after = t.git("rev-list", "--all", at=by_us).split()
     shallow = by_us / ".git" / "shallow"
     ids = shallow.read_text().split() if shallow.exists() else []
-    # a commit that is here is a boundary that one may ask for
+    # a commit that the client has is a valid boundary
     asked = "--depth" in words and kind == "shallow" and number < 2
     kept = set(before) <= set(after) and not ids
     whole = t.run("git", "fsck", "--connectivity-only", at=by_us)[0] == 0 and t.run("git", "gc", "-q", "--prune=now", at=by_us)[0] == 0
@@ -440,7 +440,7 @@ def spoiled_boundary(name, t, server, words, kind, number, id):
 
 
 def spoiled_boundaries(name, t):
-    """A server that names whatever it likes as its boundary, to clients that asked for none and to those that asked for a depth."""
+    """A server that names arbitrary ids as its boundary, to clients with and without a depth."""
     server = make(t, "server", 9)
     rows = [t.git("rev-parse", word, at=server).strip() for word in ("main", "main~3", "main~4:f1", "main^{tree}")] + ["1" * 40]
     for words in ([], ["--update-shallow"], ["--depth", "3"]):
@@ -450,7 +450,7 @@ def spoiled_boundaries(name, t):
 
 
 def locked_boundary(name, t):
-    """A lock of the boundary that is there already: an error, and nothing is changed."""
+    """The boundary is locked: an error, and nothing changes."""
     server = make(t, "server", 9)
     for cloned, words in ((["--depth", "3"], ["--unshallow"]), (["--depth", "2"], ["--depth", "5"]), ([], ["--depth", "2"])):
         by_us = t.folder("us")
@@ -468,7 +468,7 @@ def locked_boundary(name, t):
 
 
 def evil_objects(name, t):
-    """Objects that git refuses where the user's settings have them checked."""
+    """Objects that git refuses if the user's settings have it check them."""
     server = make(t, "server", 3)
     blob = t.git("hash-object", "-w", "--stdin", given=b"x", at=server).strip()
     entry = b"100644 .git\0" + bytes.fromhex(blob)
@@ -489,7 +489,7 @@ def evil_objects(name, t):
 
 
 def locks_of_packs(name, t):
-    """The lock of a pack is taken away on every end, and the user's own never is."""
+    """Every end removes the lock of a pack, and never a lock of the user's."""
     server = make(t, "server", 200)
     t.git("-c", "pack.threads=1", "repack", "-adfq", at=server)
     client = make(t, "client", 0)
@@ -516,7 +516,7 @@ def locks_of_packs(name, t):
 
 
 def environments(name, t):
-    """What git keeps from a server on this machine."""
+    """The variables that git hides from a server on this machine."""
     server = make(t, "server", 10, tags=True)
     client = make(t, "client", 0, bare=False)
     for words, more in (
@@ -543,7 +543,7 @@ def dates(name, t):
 
 
 def other_formats(name, t):
-    """A repository of SHA-256 takes nothing from a server of SHA-1, and a clone that begins as one becomes what the server is."""
+    """A SHA-256 repository takes nothing from a SHA-1 server. A clone that starts as SHA-256 follows the server."""
     server, more = make(t, "server", 3), {"GIT_DEFAULT_HASH": "sha256"}
     for url in by_path(server):
         client = t.folder("client")

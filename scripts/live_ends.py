@@ -1,4 +1,4 @@
-"""Cases of live.py about ends: a server that freezes, and a signal to each process of a fetch at moments of it."""
+"""Cases of live.py about how a fetch ends: a server that stops answering, and a signal to each process of a fetch at several moments."""
 import contextlib
 import os
 import shlex
@@ -10,18 +10,18 @@ from live_harness import PROCESSES, by_both, end_session, files_left, leaves_not
 from live_servers import GREETING, daemon_of, has_loopback, here_ssh, shell_ssh, ssh
 
 MOMENTS = 20
-# a pack that says it has two objects, and has one: its checksum reads as the beginning of the other
+# a pack whose header says two objects and that has one: its checksum reads as the beginning of the second
 HUNGRY = "5041434b000000020000000239789c333134b7b0b43436e30200094601ba442815c5f04a20ae4bc5bb612b5a33fbf5609aed"
-# passes bytes on, a few each half second
+# passes on a few bytes each half second
 TRICKLE = "import os, time\nwhile said := os.read(0, 700): os.write(1, said); time.sleep(0.5)"
-# seconds in which git is to end behind a signal, on a machine that has other work
+# how many seconds git may take to end after a signal, on a loaded machine
 AT_ONCE = 5
 SIGNALS = signal.SIGTERM, signal.SIGINT, signal.SIGHUP
 SERVERS = "upload-pack", "pack-objects", "slow-pack"
 
 
 def frozen(name, t):
-    """A server that says nothing, or nothing after its first words: the helper's time ends it."""
+    """A server that sends nothing, or nothing after its first lines. The helper's timeout ends it."""
     for said in (b"", GREETING[:30], GREETING):
         path = t.folder("said")
         path.write_bytes(said)
@@ -29,7 +29,7 @@ def frozen(name, t):
         status, out, err = t.run("git", "clone", "-q", "gixp::ssh://nowhere/x", t.folder("us"), more=more)
         is_in_time = status != 0 and time.time() - begun < 10
         t.check(f"{name} after {len(said)} bytes", is_in_time and leaves_nothing(t), f"{status} {err}")
-    # one that says a little each half second is waited for
+    # the helper waits for a server that sends a little each half second
     server = make(t, "server", 30)
     more = {**shell_ssh(t, f'unset GIT_DIR\ngit upload-pack "{server}" | python3 -c "{TRICKLE}"'), "GIXP_TIMEOUT": "2"}
     status, out, err = t.run("git", "clone", "-q", "gixp::ssh://nowhere/x", t.folder("us"), more=more)
@@ -39,7 +39,7 @@ def frozen(name, t):
 
 
 def asking(t, *requests, answers=0):
-    """A program in place of ours that makes requests of its shell, reads so many answers, and writes the last down."""
+    """A program in place of gixp_remote that sends requests to the shell, reads so many answers, and writes the last into a file."""
     program, told = t.folder("program"), t.folder("told")
     text = "".join(f"{len(request)}\n{request}" for request in requests)
     reads = "read -r answer <&6\n" * answers + (f'echo "$answer" > "{told}"\n' if answers else "")
@@ -49,14 +49,14 @@ def asking(t, *requests, answers=0):
 
 
 def unanswered(name, t):
-    """A program that ends without the answers that it asked for: its shell says nothing of that."""
+    """A program that ends without reading its answers: the shell prints nothing."""
     program, _ = asking(t, "start question command /dev/null /dev/null\n sleep\n 0.3\n", "status question\n")
     status, out, err = t.run("git", "ls-remote", "gixp::/x", more={"GIXP_REMOTE": program})
     t.check(name, status != 0 and "write error" not in err and leaves_nothing(t), f"{status} {err}")
 
 
 def last_words(name, t):
-    """A server gets the end of its input, and time to end by itself; one that runs on is ended, and one that heeds no signal killed."""
+    """A server gets the end of its input and time to end. A server that runs on gets a signal, and one that ignores it is killed."""
     for text, wanted, least, most in (("cat; exit 9", "9", 0, 5), ("sleep 2; exit 8", "8", 2, 6), ("sleep 100", "143", 3, 20),
                                       ('trap "" TERM; while :; do sleep 1; done', "137", 3, 20)):
         start = f"start server command 20 /dev/null\n sh\n -c\n {text}\n"
@@ -69,7 +69,7 @@ def last_words(name, t):
 
 
 def hungry(name, t):
-    """A pack that lets git wait for more than it has: its end is known all the same."""
+    """A pack after which git waits for more: the helper ends all the same."""
     server, pack = make(t, "server", 3), t.folder("pack")
     pack.write_bytes(bytes.fromhex(HUNGRY))
     ends = [t.run("git", "clone", "-q", url, t.folder("to"), more=ssh(PACK=pack)) for url in by_both(server)]
@@ -77,7 +77,7 @@ def hungry(name, t):
 
 
 def left_by(t, client=None):
-    """What a fetch that was ended left behind after six seconds: processes, and files of a client."""
+    """What an ended fetch leaves after six seconds: processes, and files of a client."""
     until = time.monotonic() + 6
     while True:
         processes = running((*PROCESSES, *SERVERS, t.remote.name), t.room)
@@ -88,7 +88,7 @@ def left_by(t, client=None):
 
 
 def first_found(t, begun, who):
-    """The process of a fetch that is named so, once there is one: git itself, or the oldest of this name. Nothing where git ended."""
+    """The process of a fetch with this name, once it runs: git itself, or the oldest of that name. None if git ended."""
     while begun.poll() is None:
         if found := [begun.pid] if who == "git" else running(who, t.room):
             return min(found)
@@ -96,7 +96,7 @@ def first_found(t, begun, who):
 
 
 def slowly(t):
-    """Lets servers on this machine send packs in pieces, so that each part of a fetch takes a while."""
+    """Has servers on this machine send packs in pieces, so that each part of a fetch takes a while."""
     script, mark = t.room / "tools" / "slow-pack", t.room / "slow"
     pieces = 'for n in 1 2 3 4 5 6 7 8; do head -c 4000; sleep 0.02; done; cat'
     script.write_text(f'#!/bin/sh\n[ -e {shlex.quote(str(mark))} ] || exec "$@"\n"$@" | {{ {pieces}; }}\n')
@@ -107,7 +107,7 @@ def slowly(t):
 
 @contextlib.contextmanager
 def way_to(t, server, over):
-    """The URL of a server by a transport, and what the helper is told."""
+    """The URL of a server by a transport, and the variables for the helper."""
     if over == "ssh":
         yield f"gixp::ssh://host{server}", here_ssh(t)
     elif over == "git://":
@@ -118,7 +118,7 @@ def way_to(t, server, over):
 
 
 def kill_at(t, begun, who, number, sent, delay):
-    """Sends a signal to a process of a fetch at a moment of it. Gives the seconds that git took to end, none where it doesn't."""
+    """Sends a signal to a process of a fetch at some moment. Returns how many seconds git took to end, None if it didn't."""
     time.sleep(delay * number)
     found = first_found(t, begun, who)
     at = time.monotonic()
@@ -134,7 +134,7 @@ def kill_at(t, begun, who, number, sent, delay):
 
 
 def killed(name, t, who, signals, over="path"):
-    """One of the processes of a fetch gets a signal, at moments of it. Nothing stays, and the next fetch works."""
+    """A process of a fetch gets a signal, at several moments. Nothing is left, and the next fetch succeeds."""
     server, mark = make(t, "server", 400), slowly(t)
     tip = t.git("rev-parse", "main", at=server)
     with way_to(t, server, over) as (url, more):
@@ -157,7 +157,7 @@ def killed(name, t, who, signals, over="path"):
 
 
 def orphaned(name, t):
-    """The shell is killed at once, at moments of a fetch. What it began ends by itself, and what stays hinders nothing."""
+    """SIGKILL ends the shell, at several moments. Its programs end by themselves, and the leftovers don't hinder the next fetch."""
     server, mark = make(t, "server", 400), slowly(t)
     tip = t.git("rev-parse", "main", at=server)
     for number in range(MOMENTS):
@@ -170,7 +170,7 @@ def orphaned(name, t):
         status, out, err = t.run(*words, at=client)
         works = status == 0 and t.run("git", "rev-parse", "refs/x/m", at=client)[1] == tip
         t.check(f"{name}, moment {number}", took is not None and not left and clean and works, f"{took} {left} {clean} {err}")
-    # the program waits for a server that waits for it: the watcher ends it
+    # the program waits for a server that waits for the program: the watcher ends it
     begun = t.begin("git", "ls-remote", "gixp::ssh://nowhere/x", more=shell_ssh(t, "exec cat"))
     took = kill_at(t, begun, "git-remote-gixp", 1, signal.SIGKILL, 0.3)
     left = left_by(t)

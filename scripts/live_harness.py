@@ -1,9 +1,10 @@
-"""What the cases of live.py stand on: a tester with a folder and an environment of its own, repositories, and what is compared."""
+"""The base of live.py's cases: a tester with its own folder and environment, repositories, and comparisons."""
 import concurrent.futures
 import itertools
 import os
 import pathlib
 import random
+import re
 import shutil
 import signal
 import subprocess
@@ -16,19 +17,21 @@ CRATE = TOP / "crates" / "gixp_fetch_pack"
 REMOTE = TOP / "crates" / "gixp_remote"
 VERSIONS = ("2", "1", "0")
 REAL_SPEC = "+refs/heads/*:refs/remotes/origin/*"
-# seconds after which a program is ended that doesn't end, and those that a process may stay behind one that ended
+# the seconds after which a program is killed, and the seconds that its processes may outlive it
 TIMEOUT = 60
 GRACE = 6
-# words of git's behind which no process may stay
+# git commands after which no process may run on
 FETCHES = {"clone", "fetch", "ls-remote"}
-# programs that run for a fetch alone
+# programs that run only for a fetch
 PROCESSES = "git-remote-gixp", "index-pack", "rev-list", "cat-file", "show-ref", "remote-http", "http-fetch"
-# what a lock of the user's own has in it
+# the content of a lock that the user made
 USERS = b"mine"
+# a quarantine of the helper or of git, and the copy of a file out of one onto another file system
+LEFTOVER = re.compile(r"tmp_objdir-|tmp_obj_(pack-|[0-9a-f]{38}$)")
 
 
 class Tester:
-    """Tries a case in a folder of its own; the one with jobs begins all others, and counts what they found."""
+    """Tries a case in a folder of its own. The tester with jobs begins the others and counts their results."""
 
     def __init__(self, room, program, remote, only=None, jobs=None, keeps=False):
         self.room, self.program, self.remote, self.only, self.keeps = room, program, remote, only, keeps
@@ -51,13 +54,13 @@ class Tester:
         self.git("config", "--global", "gc.auto", "0")
 
     def begin(self, *words, more=None, at=None, **streams):
-        """Begins a program in a session of its own, so that all that it starts can be found and ended."""
+        """Begins a program in a session of its own, so that its processes can be found and killed."""
         streams = {"stdin": subprocess.DEVNULL, "stdout": subprocess.DEVNULL, "stderr": subprocess.DEVNULL, **streams}
         environment = {**self.environment, **(more or {})}
         return subprocess.Popen([str(word) for word in words], env=environment, cwd=at or self.room, start_new_session=True, **streams)
 
     def run(self, *words, given=None, more=None, at=None):
-        """Runs a program, and gives its status and what it says. The status is -1 where it doesn't end, or leaves a process."""
+        """Runs a program. Returns its status and its output. The status is -1 if it doesn't end or leaves a process."""
         with tempfile.TemporaryFile() as out, tempfile.TemporaryFile() as err:
             source = subprocess.DEVNULL if given is None else subprocess.PIPE
             begun = self.begin(*words, more=more, at=at, stdin=source, stdout=out, stderr=err)
@@ -65,9 +68,9 @@ class Tester:
                 begun.communicate(given, TIMEOUT)
                 status, why = begun.returncode, ""
             except subprocess.TimeoutExpired:
-                status, why = -1, f"no end after {TIMEOUT} s\n"
+                status, why = -1, f"it didn't end within {TIMEOUT} s\n"
             if (why or not FETCHES.isdisjoint(words)) and (stay := end_session(begun, 0 if why else GRACE)):
-                status, why = -1, why + f"these stay: {stay}\n"
+                status, why = -1, why + f"it left processes: {stay}\n"
             return status, read_all(out), why + read_all(err)
 
     def git(self, *words, at=None, given=None, more=None):
@@ -87,7 +90,7 @@ class Tester:
             self.told.append(f"FAILED {name}: {str(told).strip()[:600]}")
 
     def case(self, name, action, *words, **more):
-        """Begins a case, which gets a tester of its own."""
+        """Begins a case with a tester of its own."""
         if not self.only or self.only in name:
             given = name, action, words, more
             self.cases.append((given, self.pool.submit(self.try_case, given)))
@@ -99,7 +102,7 @@ class Tester:
         return one
 
     def finish(self, again):
-        """Waits for all cases, and counts them. Tries one that failed again, if it is to be, once no other is tried."""
+        """Waits for all cases and counts them. With `again`, tries each failed case once more after all others."""
         for number, (given, done) in enumerate(self.cases):
             while concurrent.futures.wait([done], 20).not_done:
                 print(f"{number} of {len(self.cases)} cases", file=sys.stderr, flush=True)
@@ -135,7 +138,7 @@ def read_all(file):
 
 
 def members(session):
-    """What runs in a session: ids and words."""
+    """The processes of a session: ids and command lines."""
     found = {}
     for name in filter(str.isdigit, os.listdir("/proc")):
         try:
@@ -156,7 +159,7 @@ def words_of(process):
 
 
 def end_session(begun, grace=0):
-    """Ends what is left of a program's session after so many seconds, and gives what that was."""
+    """Kills the processes of a program's session that are left after so many seconds. Returns them."""
     until = time.monotonic() + grace
     while (stay := members(begun.pid)) and time.monotonic() < until:
         time.sleep(0.02)
@@ -170,7 +173,7 @@ def end_session(begun, grace=0):
 
 
 def running(word, room):
-    """The processes with this word, or one of these, among theirs that stand in this room, or were started for it."""
+    """The processes with one of these words in their command, whose folder or command line names this room."""
     wanted = (word,) if isinstance(word, str) else word
     found = []
     for process in pathlib.Path("/proc").glob("[0-9]*"):
@@ -188,7 +191,7 @@ def running(word, room):
 
 
 def commits(count, first=1, branch="main", parent=None, begin=1_700_000_000, step=60, merges=False, seed=1):
-    """Text for `git fast-import` with so many commits, and marks from FIRST on."""
+    """Input for `git fast-import` with so many commits, with marks from FIRST on."""
     rng, text, heads = random.Random(seed), [], [parent] if parent else []
     for number in range(first, first + count):
         begin += rng.choice([step, 0, -30]) if merges else step
@@ -218,17 +221,17 @@ def make(t, name, count, merges=False, tags=False, bare=True):
 
 
 def grow(t, repository, count, branch="main", seed=2, back=0):
-    """So many commits more on a branch, after it was set back."""
+    """Adds so many commits to a branch, after moving it back."""
     parent = t.git("rev-parse", f"refs/heads/{branch}~{back}", at=repository).strip()
     text = commits(count, branch=branch, parent=parent, begin=1_800_000_000, seed=seed)
     t.git("fast-import", "--quiet", "--force", "--date-format=raw", given=text, at=repository)
 
 
-# What is compared
+# Comparisons
 
 
 def state(t, repository):
-    """Refs with HEAD, and the boundary."""
+    """The refs with HEAD, and the shallow boundary."""
     git_dir = t.git("rev-parse", "--absolute-git-dir", at=repository).strip()
     shallow = pathlib.Path(git_dir) / "shallow"
     refs = t.run("git", "show-ref", "-d", at=repository)[1]
@@ -237,7 +240,7 @@ def state(t, repository):
 
 
 def is_clean(t, repository):
-    """Whether it is whole, and nothing of the helper is left."""
+    """Whether the repository is whole, and the helper left nothing in it."""
     status, out, err = t.run("git", "fsck", "--strict", "--connectivity-only", at=repository)
     git_dir = pathlib.Path(t.git("rev-parse", "--absolute-git-dir", at=repository).strip())
     left = files_left(git_dir)
@@ -245,27 +248,27 @@ def is_clean(t, repository):
 
 
 def files_left(folder):
-    """What a fetch may leave in a repository, or in one below a folder: folders of a pack, and locks that aren't the user's own."""
-    # a folder that goes away meanwhile is passed over
+    """The files that a fetch may leave below a folder: quarantines, parts of copies, and locks that the user didn't make."""
+    # os.walk passes over a folder that another process removes meanwhile
     names = (pathlib.Path(at) / name for at, folders, files in os.walk(folder) for name in (*folders, *files))
-    found = [path for path in names if path.name.startswith("tmp_objdir-") or path.suffix in (".keep", ".lock")]
+    found = [path for path in names if LEFTOVER.match(path.name) or path.suffix in (".keep", ".lock")]
     return [path for path in found if not (path.is_file() and path.read_bytes() == USERS)]
 
 
 def leaves_nothing(t):
-    """Whether no fetch of a case left files, or a process."""
+    """Whether all fetches of a case left no file and no process."""
     return not files_left(t.room) and not running((*PROCESSES, t.remote.name), t.room)
 
 
 def left_of_packs(t, repository):
-    """What is left beside the packs."""
+    """The leftovers among the packs."""
     objects = pathlib.Path(t.git("rev-parse", "--path-format=absolute", "--git-path", "objects", at=repository).strip())
     left = [found for found in (objects / "pack").iterdir() if found.suffix == ".keep" or found.name.startswith("tmp_")]
     return sorted(found.name.split(".")[-1][:8] for found in left)
 
 
 def counts(t, repository):
-    """What `git count-objects` says: loose objects, packs, objects in packs."""
+    """The counts of `git count-objects`: loose objects, packs, objects in packs."""
     told = dict(line.split(": ") for line in t.git("count-objects", "-v", at=repository).splitlines())
     return int(told["count"]), int(told["packs"]), int(told["in-pack"])
 
@@ -298,7 +301,7 @@ def clones(name, t, server, version, *words, over=None):
 
 
 def is_early(word):
-    """Whether a fetch by this option deepens the history so that its tags come with the next fetch alone (docs/DIFFERENCES.md)."""
+    """Whether this option deepens the history so that its tags come only with the next fetch (docs/DIFFERENCES.md)."""
     return word.startswith(("--deepen", "--unshallow", "--shallow-since"))
 
 
@@ -309,7 +312,7 @@ def without_tags(found):
 
 
 def fetch_again(t, name, by_git, by_us, version="2", more=None):
-    """After such a fetch: all but the tags is the same already, and they are after the next fetch."""
+    """After such a fetch all but the tags is equal. The tags are equal after the next fetch."""
     states = [without_tags(state(t, client)) for client in (by_git, by_us)]
     t.check(f"{name}, before its tags", states[0] == states[1], states)
     t.run("git", "-c", f"protocol.version={version}", "fetch", "-q", at=by_git, more=more)
@@ -317,7 +320,7 @@ def fetch_again(t, name, by_git, by_us, version="2", more=None):
 
 
 def fetches(name, t, prepare, words, version="2", change=None, cloned=(), over=None):
-    """A clone, a change of the server, and a fetch."""
+    """A clone, a change of the server, a fetch."""
     server = prepare(t)
     urls, more = over(server) if over else (None, None)
     by_git, by_us, first, second = clone_both(t, server, *cloned, version=version, urls=urls, more=more)

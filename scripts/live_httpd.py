@@ -1,15 +1,15 @@
 #!/usr/bin/env python3
-"""The web servers of live_web.py, on loopback and over `git http-backend`: nginx with fcgiwrap, lighttpd, and one of our own.
+"""The web servers of live_web.py, on loopback and over `git http-backend`: nginx with fcgiwrap, lighttpd, and a server of our own.
 
-Run as `live_httpd.py serve PORT BACKEND` this file is the last, which runs the program BACKEND by CGI. What a server is told:
+Run as `live_httpd.py serve PORT BACKEND`, this file is the server of our own. It runs the program BACKEND by CGI. Variables:
 
 ACCOUNT    the account that it wants, as NAME:PASSWORD
-PLAIN      it knows no other version than 0
-TO         where it sends each request on to
-SAYS       a status and a text that it answers to everything
-CUT        how many bytes of each answer's body it says before it closes the connection: one of our own does so before any other
+PLAIN      it knows only version 0
+TO         where it redirects each request
+SAYS       a status and a text: its answer to everything
+CUT        how many bytes of each response's body it sends before it closes the connection
 CUT_HEAD   the same, counted from the first byte of the head
-CUT_AT     of which requests: a word in their paths
+CUT_AT     for which requests: a word in their paths
 COOKIE     a cookie that it sets
 ANSWER     a file with its answer to each request that has the word ANSWER_AT in its body
 """
@@ -79,18 +79,18 @@ LIGHTTPD_TO = 'url.redirect = ("" => "{to}${{url.path}}${{qsa}}")'
 
 
 def program(name):
-    """Where a server is, or nothing."""
+    """The path of a server, or None."""
     return shutil.which(name, path=f"{os.environ['PATH']}:/usr/sbin:/usr/local/sbin")
 
 
 def web_servers():
-    """Those that are here."""
+    """The installed servers."""
     needed = {"nginx": ("nginx", "fcgiwrap"), "lighttpd": ("lighttpd",)}
     return [name for name, programs in needed.items() if all(map(program, programs))] or ["ours"]
 
 
 def write_backend(room, folder, wish):
-    """The program that a server runs for each request."""
+    """Writes the program that a server runs for each request."""
     lines = ["#!/bin/sh", f"export GIT_PROJECT_ROOT={shlex.quote(str(folder))} GIT_HTTP_EXPORT_ALL=1"]
     if "SAYS" in wish:
         status, _, text = wish["SAYS"].partition(" ")
@@ -104,7 +104,7 @@ def write_backend(room, folder, wish):
 
 
 def configured(room, port, wish, text, account, to):
-    """The file of a server's configuration."""
+    """Writes a server's configuration."""
     if "ACCOUNT" in wish:
         (room / "users").write_text((NAMED[text] % tuple(wish["ACCOUNT"].split(":"))) + "\n")
     parts = {
@@ -115,7 +115,7 @@ def configured(room, port, wish, text, account, to):
     return room / "conf"
 
 
-# how a file of accounts has one
+# an entry of a file of accounts
 NAMED = {NGINX: "%s:{PLAIN}%s", LIGHTTPD: "%s:%s"}
 
 
@@ -152,7 +152,7 @@ OF = {"nginx": nginx_of, "lighttpd": lighttpd_of, "ours": ours_of}
 
 @contextlib.contextmanager
 def web_of(t, name, folder, **wish):
-    """A web server of this name over what stands in a folder; gives the front of its URLs."""
+    """Runs a web server of this name over a folder. Yields the beginning of its URLs."""
     with contextlib.ExitStack() as begun:
         room, port = t.folder("web"), free_port()
         room.mkdir()
@@ -165,11 +165,11 @@ def web_of(t, name, folder, **wish):
         yield f"http://127.0.0.1:{port}"
 
 
-# Our own
+# The server of our own
 
 
 class Answers(http.server.BaseHTTPRequestHandler):
-    """Answers requests by CGI or by another server, or as the environment has it."""
+    """Answers requests by CGI, by another server, or as the environment says."""
     protocol_version = "HTTP/1.1"
 
     def log_message(self, *words):
@@ -212,7 +212,7 @@ class Answers(http.server.BaseHTTPRequestHandler):
         return self.pass_on(body) if os.environ.get("WEB_THROUGH") else self.run(body)
 
     def pass_on(self, body):
-        """The answer of another server."""
+        """Sends the response of another server."""
         other = http.client.HTTPConnection("127.0.0.1", int(os.environ["WEB_THROUGH"]))
         kept = {name: value for name, value in self.headers.items() if name.lower() not in ("transfer-encoding", "content-length", "expect")}
         other.request(self.command, self.path, body or None, kept)
@@ -223,7 +223,7 @@ class Answers(http.server.BaseHTTPRequestHandler):
         other.close()
 
     def run(self, body):
-        """The answer of a program."""
+        """Sends the output of a program."""
         url = urllib.parse.urlsplit(self.path)
         variables = {
             **os.environ, "PATH_INFO": urllib.parse.unquote(url.path), "QUERY_STRING": url.query, "REQUEST_METHOD": self.command,

@@ -1,4 +1,4 @@
-"""Cases of live.py beside git where a helper could lose something: refs by --prune, history by a boundary, objects, cookies, or its end."""
+"""Cases of live.py, compared with git, in which a helper could lose something: refs by --prune, history by a boundary, objects, or cookies."""
 import shutil
 import time
 
@@ -7,24 +7,24 @@ from live_httpd import web_of
 from live_servers import GREETING, ended_after, frame, saying_ssh, ssh
 from live_web import urls_of
 
-# seconds after which a fetch that ends at once is taken for one that doesn't end
+# a fetch that normally ends at once counts as hanging after so many seconds
 ENDLESS = 30
 # `git pack-objects` of nothing
 NO_OBJECTS = bytes.fromhex("5041434b0000000200000000029d08823bd8a8eab510ad6ac75c823cfd3ed31e")
 
 
 def timed(t, *words, **more):
-    """Runs git, and gives its status, 124 where it doesn't end, and what it says."""
+    """Runs git. Returns its status (124 if it hangs) and its output."""
     return t.run("timeout", ENDLESS, "git", *words, **more)
 
 
 def told_alike(first, second):
-    """Whether git and the helper both did it, or both failed in time."""
+    """Whether git and the helper both succeeded, or both failed in time."""
     return (first[0] == 0) == (second[0] == 0) and second[0] not in (-1, 124)
 
 
 def answering(t, web, server, at, answer):
-    """A web server that gives this answer to each request with a word."""
+    """A web server that sends this answer to each request with a word."""
     path = t.folder("answer")
     path.write_bytes(answer)
     return web_of(t, web, server.parent, ANSWER=path, ANSWER_AT=at)
@@ -34,7 +34,7 @@ def answering(t, web, server, at, answer):
 
 
 def mirrors(t, server):
-    """Two mirrors of a server, which is then reached in another way."""
+    """Two mirrors of a server, which then gets another URL."""
     found = [t.folder("mirror") for _ in range(2)]
     for mirror in found:
         t.git("clone", "-q", "--mirror", f"file://{server}", mirror)
@@ -42,7 +42,7 @@ def mirrors(t, server):
 
 
 def prunes(t, name, server, urls, more=None):
-    """A fetch with --prune into mirrors, over a list that isn't whole: an error, and each ref stays."""
+    """A fetch with --prune into mirrors, over an incomplete list: an error, and each ref stays."""
     both, wanted = mirrors(t, server), refs_of(t, server)
     ends = [timed(t, "fetch", "-q", "--prune", url, "+refs/*:refs/*", at=mirror, more=more) for mirror, url in zip(both, urls)]
     left = [refs_of(t, mirror) for mirror in both]
@@ -51,7 +51,7 @@ def prunes(t, name, server, urls, more=None):
 
 
 def cut_lists(name, t, web):
-    """Over HTTP an answer to ls-refs that ends too early."""
+    """Over HTTP a response to ls-refs that ends too early."""
     server = make(t, "server", 20, tags=True)
     line = frame(refs_of(t, server)[0].split()[1].encode() + b" refs/heads/alias\n")
     for number, answer in enumerate((b"00", b"0032", line + b"00", line, line[:-9], b"", line + b"0001", line + b"0002")):
@@ -60,7 +60,7 @@ def cut_lists(name, t, web):
 
 
 def cut_streams(name, t):
-    """A list that a delimiter packet or the end of the stream cuts."""
+    """A list that ends at a delimiter packet or at the end of the stream."""
     server, said = make(t, "server", 20, tags=True), t.folder("said")
     line = frame(refs_of(t, server)[0].split()[1].encode() + b" refs/heads/alias\n")
     for number, answer in enumerate((b"0001", line + b"0001", line + b"0001" + line + b"0000", line + b"0002", line, b"")):
@@ -68,11 +68,11 @@ def cut_streams(name, t):
         prunes(t, f"{name} {number}", server, by_both("/x"), saying_ssh(t, said))
 
 
-# Answers over HTTP that end too early
+# Responses over HTTP that end too early
 
 
 def cut_fetches(name, t, web):
-    """An answer to a fetch that ends at a packet line, or inside one."""
+    """A response to a fetch that ends after a packet line, or inside one."""
     server = make(t, "server", 20)
     for number, answer in enumerate((b"", b"00", frame(b"packfile\n"), frame(b"ERR upload-pack: no way\n"), frame(b"acknowledgments\n"),
                                      frame(b"shallow-info\n"), frame(b"packfile\n") + frame(b"\1PACK"))):
@@ -82,7 +82,7 @@ def cut_fetches(name, t, web):
 
 
 def lost_object(name, t, web):
-    """A server that lacks an object says so, and its answer ends."""
+    """A server that lacks an object reports it and ends its response."""
     server = make(t, "server", 0, bare=False)
     (server / "f").write_text("x")
     t.git("add", "f", at=server)
@@ -95,7 +95,7 @@ def lost_object(name, t, web):
 
 
 def nothing_selected(name, t, web):
-    """A time that no commit is after."""
+    """A date after all commits."""
     server = make(t, "server", 5)
     with web_of(t, web, server.parent) as front:
         for urls in (urls_of(f"{front}/{server.name}"), by_path(server)):
@@ -107,7 +107,7 @@ def nothing_selected(name, t, web):
 
 
 def false_unshallow(name, t, web):
-    """A server that takes an id out of the boundary, and doesn't send what the commit leads to."""
+    """A server that unshallows an id and doesn't send its parents."""
     server = make(t, "server", 5)
     parent = t.git("rev-parse", "main^", at=server).strip().encode()
     answer = (frame(b"acknowledgments\n") + frame(b"ready\n") + b"0001" + frame(b"shallow-info\n") + frame(b"unshallow " + parent + b"\n")
@@ -124,8 +124,8 @@ def false_unshallow(name, t, web):
 
 
 def shallow_again(name, t):
-    """A fetch that a shallow server's boundary would hide history from leaves nothing in the way of --update-shallow. git takes the refs
-    that its boundary doesn't reach, and the helper none."""
+    """A shallow server's boundary would hide history: the fetch leaves nothing that hinders --update-shallow. git takes the refs that
+    the boundary doesn't reach, the helper takes none."""
     full, server = make(t, "full", 9), t.folder("server")
     t.git("clone", "-q", "--bare", "--depth", "2", f"file://{full}", server)
     tree = t.git("rev-parse", "main^{tree}", at=server).strip()
@@ -141,7 +141,7 @@ def shallow_again(name, t):
 
 
 def fetch_while(t, server, url, change):
-    """A fetch into a shallow clone, with a change of it that is made after the request: its status and words, and the clone."""
+    """A fetch into a shallow clone that changes after the request. Returns the status, the output and the clone."""
     client, said, waits = t.folder("client"), t.folder("said"), t.folder("waits")
     t.git("clone", "-q", "--bare", "--depth", "3", f"file://{server}", client)
     with open(said, "w") as stderr:
@@ -158,7 +158,7 @@ def fetch_while(t, server, url, change):
 
 
 def changed_boundary(name, t):
-    """The boundary is changed while a fetch runs: an error, what was written stays, and nothing is left. git looks at the file's size."""
+    """The boundary changes during a fetch: an error, the change stays, and nothing is left. git compares the file's size."""
     server = make(t, "server", 20)
     mine = t.git("rev-parse", "main", "main~9", at=server)
     for label, change in (("written", lambda client: (client / "shallow").write_text(mine)),
@@ -174,7 +174,7 @@ def changed_boundary(name, t):
 
 
 def promised(name, t):
-    """A partial clone whose ref names an object that is lost: no helper starts another without end."""
+    """A partial clone whose ref names a lost object: helpers don't start helpers without end."""
     server, shim, most = make(t, "server", 3), t.folder("shim"), 12
     for setting in ("allowFilter", "allowAnySHA1InWant"):
         t.git("config", f"uploadpack.{setting}", "true", at=server)
@@ -197,7 +197,7 @@ def promised(name, t):
 
 
 def borrowed(name, t):
-    """What alternates hold doesn't come again: as many objects as by git, or fewer."""
+    """Objects of alternates are not fetched again: the helper fetches as many objects as git, or fewer."""
     original = make(t, "original", 30, tags=True)
     server = t.folder("server")
     t.git("clone", "-q", "--bare", f"file://{original}", server)
@@ -216,7 +216,7 @@ def borrowed(name, t):
 
 
 def packs_kept(name, t):
-    """What comes is unpacked where it is little, or kept, or nothing is kept where nothing came: the same as by git."""
+    """A small pack is unpacked, a large one kept, an empty one dropped, as by git."""
     server = make(t, "server", 30, tags=True)
     for words, cloned, count in (
         ([], [], 5), ([], [], 60), (["-c", "fetch.unpackLimit=1"], [], 5), (["-c", "transfer.unpackLimit=1"], [], 5),
@@ -241,11 +241,11 @@ def packs_kept(name, t):
     t.check(f"{name}: nothing came", found[0] == found[1], found)
 
 
-# What stays of a connection
+# Cookies and passwords
 
 
 def saved_cookies(name, t, web):
-    """Cookies of a server are saved where the user's settings say so."""
+    """A server's cookies are saved if the user's settings say so."""
     server, saved = make(t, "server", 5), []
     with web_of(t, web, server.parent, COOKIE="session=abc; Path=/; Max-Age=3600") as front:
         for url in urls_of(f"{front}/{server.name}"):
@@ -258,7 +258,7 @@ def saved_cookies(name, t, web):
 
 
 def passwords(name, t, web):
-    """A URL with a password, which git can't see after `gixp::`, is refused unless the user allows it; no word of it is shown."""
+    """A URL with a password, which git can't see after `gixp::`, is an error unless the user allows it. The password is never printed."""
     server = make(t, "server", 5)
     with web_of(t, web, server.parent) as front:
         plain, ours = urls_of(f"http://joe:secret@{front.removeprefix('http://')}/{server.name}")
@@ -271,7 +271,7 @@ def passwords(name, t, web):
 
 
 def other_hash(name, t):
-    """A server of another hash function isn't asked for anything."""
+    """A server with another hash function gets no request."""
     server, client = t.folder("server"), make(t, "client", 0)
     t.git("init", "-q", "--object-format=sha256", server)
     t.git("commit", "-q", "--allow-empty", "-m", "x", at=server)

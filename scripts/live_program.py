@@ -1,4 +1,4 @@
-"""Cases of live.py for the program gixp_fetch_pack alone, over two pipes: its report, words and errors, and lists of commits."""
+"""Cases of live.py for gixp_fetch_pack alone, over two pipes: its report, its command line, its errors, and lists of commits."""
 import os
 import shlex
 import sys
@@ -10,7 +10,7 @@ F_SETPIPE_SZ = 1031
 
 
 def fetch_pack(t, command, *words, specs=(REAL_SPEC,)):
-    """Runs the program against a server, and gives its status, what it said, and the folder."""
+    """Runs the program against a server. Returns its status, its output and the folder."""
     room = t.folder("pack")
     room.mkdir()
     with serve(t, room, command):
@@ -23,7 +23,7 @@ def left_in(room):
 
 
 def saying(t, said):
-    """The command of a server that says these bytes, and hears until nothing more comes."""
+    """The command of a server that sends these bytes and then reads its input to the end."""
     path = t.folder("said")
     path.write_bytes(said)
     return f'cat "{path}"; exec > /dev/null; cat > /dev/null'
@@ -59,7 +59,7 @@ def reports(name, t):
 
 
 def unwritten_boundary(name, t):
-    """A boundary that can't be written: the pack isn't kept, since commits of it have parents that are nowhere."""
+    """The boundary can't be written: the pack isn't kept, since some of its commits lack their parents."""
     server, texts = make(t, "server", 9), t.folder("texts")
     (texts / "shallow.new").mkdir(parents=True)
     for version in VERSIONS:
@@ -70,7 +70,7 @@ def unwritten_boundary(name, t):
 
 
 def modes(name, t):
-    """What becomes of local refs, by the texts of a repository that has all commits."""
+    """The updates of local refs, with the lists of a repository that has all commits."""
     server = make(t, "server", 30, tags=True)
     main, old, side, tag = (t.git("rev-parse", ref, at=server).strip() for ref in ("main", "main~3", "side", "v1"))
     texts = t.folder("texts")
@@ -115,7 +115,7 @@ def command_lines(name, t):
 
 
 def objects_in(t, room, repository):
-    """The objects of a pack, in a repository that has nothing else."""
+    """The objects of a pack, from a repository with nothing else."""
     t.git("init", "-q", "--bare", repository)
     t.git("index-pack", "--stdin", "--promisor", given=(room / "pack").read_bytes(), at=repository)
     return objects_of(t, repository)
@@ -126,7 +126,7 @@ def objects_of(t, repository):
 
 
 def filters(name, t):
-    """What a filter leaves out, beside `git fetch-pack`; a server that has no filters."""
+    """What a filter leaves out, compared with `git fetch-pack`. A server without filters."""
     server = make(t, "server", 30)
     specs = ["refs/heads/main:refs/x/main"]
     whole = objects_of(t, server)
@@ -139,7 +139,7 @@ def filters(name, t):
         wanted, found = objects_of(t, client), objects_in(t, room, t.folder("packed")) if status == 0 else []
         t.check(f"{name}: {spec}", found == wanted, f"{status} {err} {len(found)} objects, git has {len(wanted)}")
     status, out, err, room = fetch_pack(t, f'git upload-pack "{server}"', "--filter=nonsense", specs=specs)
-    # upload-pack ends, and says why on its own standard error
+    # upload-pack ends and prints the reason on its own standard error
     is_told = err == "fatal: the remote end hung up unexpectedly\n"
     t.check(f"{name}: one that the server doesn't know", status == 1 and is_told and not left_in(room), f"{status} {err}")
     t.git("config", "uploadpack.allowFilter", "false", at=server)
@@ -150,7 +150,7 @@ def filters(name, t):
 
 
 def unreadable_texts(name, t):
-    """Texts of the repository that aren't readable, by the number of their line."""
+    """Malformed lists of the repository: the error has the number of the line."""
     server, room = make(t, "server", 3), t.folder("texts")
     room.mkdir()
     id = t.git("rev-parse", "main", at=server).strip()
@@ -169,7 +169,7 @@ def unreadable_texts(name, t):
 
 
 def by_list(t, server, lines, *words, specs=(REAL_SPEC,)):
-    """Runs the program with these lines of commits, as with `fetch_pack`, and counts the haves that the server heard."""
+    """Runs the program like `fetch_pack`, with these lines of commits, and counts the haves that the server received."""
     room = t.folder("list")
     room.mkdir()
     (room / "commits").write_text("".join(line + "\n" for line in lines))
@@ -180,7 +180,7 @@ def by_list(t, server, lines, *words, specs=(REAL_SPEC,)):
 
 
 def lists_lazily(name, t):
-    """Commits that are read as they are offered."""
+    """The program reads commits as it offers them."""
     server = make(t, "server", 6000)
     lines = t.git("rev-list", "--all", "--timestamp", "--parents", at=server).splitlines()
     t.git("branch", "side", "main~3000", at=server)
@@ -216,7 +216,7 @@ def lists_lazily(name, t):
 
 
 def witness(t, command, at):
-    """A program that is asked for objects, and the words that name its ends: pipes that hold 4,096 bytes."""
+    """A program that answers for objects over pipes of 4,096 bytes, and the options that name the pipes."""
     room = t.folder("witness")
     room.mkdir()
     for end in ("ask", "answers"):
@@ -227,7 +227,7 @@ def witness(t, command, at):
 
 
 def with_many_branches(t):
-    """A server with a branch at each of its commits, and a client that has all of it."""
+    """A server with a branch at each commit, and a client that has them all."""
     server, client = make(t, "server", 300, tags=True), t.folder("client")
     ids = t.git("rev-list", "main", at=server).split()
     branches = "".join(f"create refs/heads/b{number} {id}\n" for number, id in enumerate(ids))
@@ -239,7 +239,7 @@ def with_many_branches(t):
 
 
 def asks(name, t):
-    """Objects that a program tells of which is asked, once the server has listed its refs."""
+    """The program asks another program about objects once the server has listed its refs."""
     server, client, lines = with_many_branches(t)
     specs = [REAL_SPEC, "refs/tags/*:refs/tags/*"]
 
@@ -273,7 +273,7 @@ def asks(name, t):
 
 
 def ends_at_common(name, t):
-    """Commits of which the server has the older half, beside a history that the client has nothing of: the server is never ready."""
+    """The server has the older half of the client's commits and a history that the client lacks: it is never ready."""
     server = make(t, "server", 3000, merges=True)
     client = t.folder("client")
     t.git("clone", "-q", "--bare", f"file://{server}", client)
@@ -294,36 +294,36 @@ def ends_at_common(name, t):
         t.check(f"{name}, {what}", status == wanted and 0 < haves < 300, f"{status} {haves} {out} {err}")
 
 
-# Servers that die, or say errors and nonsense
+# Servers that die, or send errors or nonsense
 
 
 def recorded(t, server):
-    """All that a server says in a clone by the program."""
+    """All bytes that a server sends during a clone by the program."""
     said, room = t.folder("conversation"), t.folder("pack")
     room.mkdir()
     with serve(t, room, f'git upload-pack "{server}" | tee "{said}"') as begun:
         status, out, err = t.run("timeout", 20, t.program, "--", room / "from", room / "to", room / "pack", REAL_SPEC)
         if status:
             raise RuntimeError(err)
-        # it ends by itself, once all is written down
+        # it ends by itself after it wrote all
         begun.wait(20)
     return said.read_bytes()
 
 
 def dies(name, t):
-    """A server that dies at each of 20 places of what it has to say."""
+    """A server that dies after each of 20 parts of its output."""
     conversation = recorded(t, make(t, "server", 30, tags=True))
     whole = len(conversation)
     for place in sorted({whole * n // 20 for n in range(20)} | {whole - 1, whole - 4, whole - 21}):
         status, out, err, room = fetch_pack(t, saying(t, conversation[:place]))
         left = left_in(room)
-        # where nothing came git says more than a line of it, and so does the program
+        # if it received nothing, git prints more than one line, and so does the program
         is_said = len(err.splitlines()) == 1 if place else err.startswith("fatal: Could not read from remote repository.")
         t.check(f"{name} at {place} of {whole}", status == 1 and is_said and not left, f"{status} {err} {left}")
 
 
 def pack_places(conversation):
-    """Where the bytes of the pack stand in what a server of version 2 says: those of band 1."""
+    """The offsets of the pack's bytes in a version 2 server's output: those of band 1."""
     at, places = conversation.index(b"packfile\n") + len(b"packfile\n"), []
     while conversation[at:at + 4] != b"0000":
         size = int(conversation[at:at + 4], 16)
@@ -345,7 +345,7 @@ def spoiled_pack(name, t):
 
 
 def refuses(name, t):
-    """Servers that say an error, or nonsense."""
+    """Servers that send an error or nonsense."""
     id = t.git("rev-parse", "main", at=make(t, "server", 30)).strip().encode()
     refs = frame(id + b" refs/heads/main\n") + b"0000"
     error, packfile = frame(b"ERR access denied\n"), frame(b"packfile\n")

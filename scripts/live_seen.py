@@ -1,4 +1,4 @@
-"""Cases of live.py for what a user sees in a terminal of 80 columns, beside git."""
+"""Cases of live.py for the output on a terminal of 80 columns, compared with git's."""
 import difflib
 import fcntl
 import os
@@ -13,7 +13,7 @@ RATE = re.compile(r",? [0-9.]+ (bytes|[KMG]iB)(/s)?( \| [0-9.]+ [KMG]?iB/s)?")
 
 
 def seen(t, *words, at=None, name="xterm"):
-    """What a program writes to a terminal of this name: its lines, those that the next one is shown over too."""
+    """The lines that a program writes to a terminal of this name, overwritten ones too."""
     ours, its = pty.openpty()
     fcntl.ioctl(its, termios.TIOCSWINSZ, struct.pack("HHHH", 24, 80, 0, 0))
     begun = t.begin(*words, at=at, more={"TERM": name}, stdin=its, stdout=its, stderr=its)
@@ -23,7 +23,7 @@ def seen(t, *words, at=None, name="xterm"):
         while said := os.read(ours, 1 << 16):
             told += said
     except OSError:
-        # the last one that had the terminal ended
+        # the last process with the terminal ended
         pass
     os.close(ours)
     begun.wait()
@@ -31,7 +31,7 @@ def seen(t, *words, at=None, name="xterm"):
 
 
 def alike(lines, url, *left_out):
-    """The same without what isn't alike in two runs, rates and the order of what two programs write, and without lines of these words."""
+    """The lines without rates, in sorted order, and without lines of these words: two runs differ in these."""
     without = [RATE.sub("", line.replace(url, "URL")) for line in lines]
     return sorted(line for line in without if not any(word in line for word in left_out))
 
@@ -57,7 +57,7 @@ def seen_clones(name, t):
 
 
 def seen_fetches(name, t):
-    """git unpacks a small pack, and here it is kept: but for that the lines are the same."""
+    """git unpacks a small pack and the helper keeps it. All other lines are equal."""
     server, clients = make(t, "server", 30), []
     for url in by_path(server):
         clients.append(t.folder("client"))

@@ -1,6 +1,6 @@
-"""The servers of live.py: those of our own in place of ssh, pipes for the program alone, git daemon and sshd on loopback.
+"""The servers of live.py: our own in place of ssh, pipes for the program alone, git daemon and sshd on loopback.
 
-Run as `live_servers.py as-ssh WORD..` this file is such a server (`as_ssh`).
+Run as `live_servers.py as-ssh WORD..`, this file is the server in place of ssh (`as_ssh`).
 """
 import contextlib
 import getpass
@@ -19,20 +19,20 @@ from live_harness import end_session
 
 
 def as_ssh():
-    """Runs the server that the last word names, as the environment has it.
+    """Runs the server command of the last word, changed by variables:
 
     LIVE_STARTS    a file that gets a line for each start
-    LIVE_VERSION   the version that is spoken, whatever is asked for
-    LIVE_MOST      how many bytes it says before it dies
-    LIVE_PAD       how long a capability is that comes after `version 2`
-    LIVE_BODIES    each request goes to a server of its own, as over HTTP, by version 2
-    LIVE_BOUNDARY  lines about the boundary that stand before the pack, whatever the server has to say of it
-    LIVE_SAYS      a band and a text that stand before the pack's last packet line
-    LIVE_ENDS      it ends right behind the pack
-    LIVE_PACK      a file with the pack that it sends in place of its own
+    LIVE_VERSION   the version that it speaks, whatever the client requests
+    LIVE_MOST      how many bytes it sends before it dies
+    LIVE_PAD       the length of a capability that it adds after `version 2`
+    LIVE_BODIES    a new server process answers each request, as over HTTP, under version 2
+    LIVE_BOUNDARY  the lines `shallow` and `unshallow` that it sends before the pack, in place of the server's own
+    LIVE_SAYS      a band and a text that it sends before the pack's last packet line
+    LIVE_ENDS      it ends right after the pack
+    LIVE_PACK      a file with a pack that it sends in place of its own
     LIVE_URIS      lines of a section `packfile-uris` before the pack, with escapes. A `*` before them leaves out the delimiter packet
-                   after them, and a `!` all that is behind them
-    LIVE_WAITS     a file that it makes before it answers a fetch, which it does once that is gone: with LIVE_BODIES
+                   after them, and a `!` everything after them
+    LIVE_WAITS     a file that it makes before it answers a fetch. It waits until the file is removed. Needs LIVE_BODIES
     """
     path = shlex.split(sys.argv[-1])[1]
     names = "STARTS", "VERSION", "MOST", "PAD", "BODIES", "BOUNDARY", "SAYS", "ENDS", "PACK", "URIS", "WAITS"
@@ -63,7 +63,7 @@ def tell(said):
 
 
 def edited(answer, wish):
-    """An answer with a pack, as the environment has it."""
+    """Changes a response with a pack as the variables say."""
     head = frame(b"packfile\n")
     if head not in answer:
         return answer
@@ -87,7 +87,7 @@ def edited(answer, wish):
 
 
 def answer_bodies(path, edit, waits=None):
-    """Tells what the server is capable of, and then answers each request."""
+    """Sends the capability advertisement, and then answers each request."""
     def answer(word, request):
         if waits and b"command=fetch" in request:
             pathlib.Path(waits).touch()
@@ -104,7 +104,7 @@ def answer_bodies(path, edit, waits=None):
 
 
 def request_of(stream):
-    """The packet lines up to the flush packet, or nothing at the end."""
+    """The packet lines up to the flush packet, or None at the end."""
     request = b""
     while len(size := stream.read(4)) == 4:
         request += size
@@ -115,7 +115,7 @@ def request_of(stream):
 
 
 def ssh(**wish):
-    """What the helper is told, so that it starts such a server."""
+    """The variables with which the helper starts this server."""
     command = f"{sys.executable} {shlex.quote(str(pathlib.Path(__file__).resolve()))} as-ssh"
     return {"GIT_SSH_COMMAND": command, "GIT_SSH_VARIANT": "ssh", **{f"LIVE_{name}": str(value) for name, value in wish.items()}}
 
@@ -125,7 +125,7 @@ def bodies(server):
 
 
 def shell_ssh(t, text):
-    """What the helper is told, so that it starts a shell script with this text in place of ssh."""
+    """The variables with which the helper starts a shell script with this text in place of ssh."""
     tools = t.folder("ssh")
     tools.mkdir()
     script = tools / "ssh"
@@ -135,12 +135,12 @@ def shell_ssh(t, text):
 
 
 def here_ssh(t):
-    """The same that runs the command here."""
+    """The variables with which it runs the command on this machine."""
     return shell_ssh(t, 'for last; do :; done\nunset GIT_DIR\nexec sh -c "$last"')
 
 
 def saying_ssh(t, said):
-    """The same that says what stands in a file, and hears until nothing more comes."""
+    """The variables with which it sends a file, and then reads its input to the end."""
     return {**shell_ssh(t, 'cat "$SAID"; exec > /dev/null; cat > /dev/null'), "SAID": str(said)}
 
 
@@ -155,7 +155,7 @@ GREETING = frame(b"version 2\n") + frame(b"ls-refs=unborn\n") + frame(b"fetch=sh
 
 @contextlib.contextmanager
 def ended_after(begun):
-    """Ends a program and all that it started, once something else is done."""
+    """Kills a program and its processes at the end of a block."""
     try:
         yield begun
     finally:
@@ -163,7 +163,7 @@ def ended_after(begun):
 
 
 def serve(t, room, command):
-    """Begins a server over two pipes of a folder."""
+    """Starts a server over two pipes of a folder."""
     for end in ("from", "to"):
         os.mkfifo(room / end)
     return ended_after(t.begin("sh", "-c", f'exec < "$0/to" > "$0/from"; {command}', room, more={"GIT_PROTOCOL": "version=2"}))
@@ -199,7 +199,7 @@ def wait_for_port(port, begun):
 
 @contextlib.contextmanager
 def daemon_of(t, folder, log=os.devnull):
-    """git daemon over what stands in a folder; gives its port."""
+    """Runs git daemon over a folder. Yields its port."""
     port = free_port()
     words = [f"--port={port}", "--listen=127.0.0.1", "--export-all", f"--base-path={folder}", "--reuseaddr", "--verbose", folder]
     with open(log, "a") as told, ended_after(t.begin("git", "daemon", *words, stderr=told)) as begun:
@@ -208,12 +208,12 @@ def daemon_of(t, folder, log=os.devnull):
 
 
 def sshd_program():
-    """Where sshd is, or nothing."""
+    """The path of sshd, or None."""
     return shutil.which("sshd", path=f"{os.environ['PATH']}:/usr/sbin:/usr/local/sbin") if shutil.which("ssh") else None
 
 
 def sshd_files(t, port):
-    """A folder with a host's key and a user's, and a configuration of sshd that takes no other."""
+    """Makes a folder with a host key, a user key, and a configuration of sshd that accepts no other."""
     room = t.folder("sshd")
     room.mkdir()
     for key in ("host", "user"):
@@ -226,16 +226,16 @@ def sshd_files(t, port):
 
 
 def why_no_sshd(t):
-    """Why sshd can't be tried here, or nothing."""
+    """Why sshd can't run here, or None."""
     if not sshd_program():
-        return "it isn't here"
+        return "it is not installed"
     status, out, err = t.run(sshd_program(), "-t", "-f", sshd_files(t, 1) / "config")
     return err.strip().splitlines()[0] if status else ""
 
 
 @contextlib.contextmanager
 def sshd_of(t):
-    """sshd with keys and a configuration of its own; gives the front of its URLs, and what ssh is told."""
+    """Runs sshd with its own keys and configuration. Yields the beginning of its URLs, and the variables for ssh."""
     port = free_port()
     room = sshd_files(t, port)
     with open(room / "log", "a") as told, ended_after(t.begin(sshd_program(), "-D", "-e", "-f", room / "config", stderr=told)) as begun:

@@ -1,4 +1,4 @@
-"""Cases of live.py with packs that the server names by URIs (git-config, "fetch.uriProtocols"), beside git."""
+"""Cases of live.py with packs that the server names by URIs (git-config, "fetch.uriProtocols"), compared with git."""
 import contextlib
 import signal
 import socket
@@ -13,7 +13,7 @@ ZEROS = "0" * 40
 
 @contextlib.contextmanager
 def packs_of(t):
-    """A web server of packs: its folder, and the front of its URLs."""
+    """A web server of packs: its folder, and the beginning of its URLs."""
     folder, port = t.folder("packs"), free_port()
     folder.mkdir()
     with ended_after(t.begin(sys.executable, "-m", "http.server", "--bind", "127.0.0.1", port, at=folder)) as begun:
@@ -22,7 +22,7 @@ def packs_of(t):
 
 
 def server_with(t, files):
-    """A repository with these files in its last commit, which may name packs by URIs."""
+    """A repository with these files in its last commit. It may name packs by URIs."""
     server = make(t, "server", 4)
     work = t.folder("work")
     t.git("clone", "-q", server, work)
@@ -36,7 +36,7 @@ def server_with(t, files):
 
 
 def name_pack(t, server, file, folder, front, name=None, uri=None):
-    """Has a server name a pack with the contents of this file by a URI. Gives the name of the pack."""
+    """Has a server name a pack with this file's content by a URI. Returns the name of the pack."""
     blob = t.git("rev-parse", f"main:{file}", at=server).strip()
     made = t.git("pack-objects", "-q", folder / "p", at=server, given=f"{blob}\n".encode()).strip()
     line = f"{blob} {name or made} {uri or f'{front}/p-{made}.pack'}"
@@ -66,7 +66,7 @@ def alike(t, name, came):
 
 
 def uri_clones(name, t, words, wanted):
-    """Clones: a file and another come by packs of their own."""
+    """Clones in which two files come in packs of their own."""
     with packs_of(t) as (folder, front):
         server = server_with(t, {"one": "one\n", "two": "two\n", "three": "three\n"})
         t.git("config", "uploadpack.allowFilter", "true", at=server)
@@ -79,7 +79,7 @@ def uri_clones(name, t, words, wanted):
 
 
 def uri_fetches(name, t):
-    """A fetch into a repository that has commits, and no setting, and one more without a URI."""
+    """A fetch into a repository with commits: without the setting, with it, and once more without a URI."""
     with packs_of(t) as (folder, front):
         server = server_with(t, {"one": "one\n"})
         clients = both(t, server, config=("fetch.uriProtocols=",))
@@ -97,7 +97,7 @@ def uri_fetches(name, t):
 
 
 def uri_checks(name, t):
-    """What is checked of objects, where a `.gitmodules` is in another pack than its tree."""
+    """The checks of objects if a `.gitmodules` is in another pack than its tree."""
     for label, text, is_good in (("good", '[submodule "x"]\npath = x\nurl = git://host/x.git\n', True),
                                  ("bad", '[submodule ".."]\npath = x\nurl = git://host/x.git\n', False)):
         with packs_of(t) as (folder, front):
@@ -110,7 +110,7 @@ def uri_checks(name, t):
 
 
 def uri_refusals(name, t):
-    """A wrong name, a pack that isn't there, one that is none, and a protocol that the user doesn't allow."""
+    """A wrong name, a missing pack, a file that is no pack, and a protocol that the user doesn't allow."""
     for label, change, says in (
         ("a wrong name", {"name": ZEROS}, f"does not match expected hash {ZEROS}"),
         ("no pack there", {"uri": "/missing.pack"}, "expected keep then TAB"),
@@ -129,7 +129,7 @@ def uri_refusals(name, t):
 
 
 def uri_lines(name, t):
-    """Lines of a server that lies. git takes a URI of any protocol that curl has and is allowed; the helper refuses it."""
+    """Malformed lines of a server. git accepts a URI of any allowed protocol of curl. The helper refuses others than the setting's."""
     good = f"{ZEROS} http://127.0.0.1:1/x"
     for label, lines, git_says, says in (
         ("no URI", "nonsense", "expected '<hash> <uri>'", "expected '<hash> <uri>'"),
@@ -156,7 +156,7 @@ def uri_lines(name, t):
 
 
 def uri_ends(name, t):
-    """A download that never ends: it goes with git, whatever ends that."""
+    """A download that never ends: it ends with git, whatever ends git."""
     for end in (signal.SIGTERM, signal.SIGINT, signal.SIGKILL):
         with socket.create_server(("127.0.0.1", 0)) as silent, packs_of(t) as (folder, front):
             silent.settimeout(30)

@@ -1,4 +1,4 @@
-"""Cases of live.py over HTTP, beside git: web servers on loopback, by `git http-backend`."""
+"""Cases of live.py over HTTP, compared with git: web servers on loopback, over `git http-backend`."""
 from live_harness import clone_both, fetch_again, grow, is_clean, is_early, leaves_nothing, make, same, state
 from live_httpd import web_of, web_servers
 from live_servers import free_port
@@ -9,7 +9,7 @@ def urls_of(url):
 
 
 def server_of(t, count=30, **more):
-    """A repository that others may ask for single objects and with filters."""
+    """A repository that serves single objects and filters."""
     server = make(t, "server", count, tags=True, **more)
     t.git("config", "uploadpack.allowFilter", "true", at=server)
     t.git("config", "uploadpack.allowAnySHA1InWant", "true", at=server)
@@ -36,7 +36,7 @@ def web_fetches(name, t, web, words, change, cloned=()):
 
 
 def web_lists(name, t, web):
-    """Lists, also of many refs, and of a repository without any."""
+    """Lists: of some refs, of many, and of none."""
     for count, branches in ((0, 0), (3, 0), (2, 50_000)):
         server = make(t, "server", count)
         tip = t.git("rev-parse", "main", at=server).strip() if count else ""
@@ -49,7 +49,7 @@ def web_lists(name, t, web):
 
 
 def web_haves(name, t, web):
-    """Many commits that the server lacks: its answers go on over some requests."""
+    """Many commits that the server lacks: the negotiation takes several requests."""
     server = server_of(t, 40)
     with web_of(t, web, server.parent) as front:
         by_git, by_us, first, second = clone_both(t, server, urls=urls_of(f"{front}/{server.name}"))
@@ -61,7 +61,7 @@ def web_haves(name, t, web):
 
 
 def words_alike(t, name, urls, more=None, given=()):
-    """A clone that fails by git and by us, in the same words."""
+    """A clone that fails with git and with the helper, with the same error."""
     by_git, by_us = t.folder("git"), t.folder("us")
     first, second = (t.run("git", *given, "clone", "-q", url, to, more=more) for url, to in zip(urls, (by_git, by_us)))
     is_same = first[0] and second[0] and first[2] == second[2] and not by_us.exists() and leaves_nothing(t)
@@ -94,7 +94,7 @@ def web_accounts(name, t, web):
 
 
 def web_troubles(name, t, web):
-    """Servers that aren't there, or say no git."""
+    """Missing servers, and servers that are not git's."""
     server = server_of(t, 9)
     words_alike(t, f"{name}: nobody listens", urls_of(f"http://127.0.0.1:{free_port()}/x"))
     words_alike(t, f"{name}: no such host", urls_of("http://no.such.invalid/x"))
@@ -111,7 +111,7 @@ def web_troubles(name, t, web):
     for said in ("500 oh", "403 no"):
         with web_of(t, web, server.parent, SAYS=said) as front:
             words_alike(t, f"{name}: {said}", urls_of(f"{front}/{server.name}"))
-    # a page has no refs for git, where it has no line
+    # for git, a page without a line has no refs
     with web_of(t, web, server.parent, SAYS="200 <html>") as front:
         same(t, f"{name}: a page", *clone_both(t, server, urls=urls_of(f"{front}/{server.name}")))
         status, out, err = t.run("git", "ls-remote", f"gixp::{front}/{server.name}")
@@ -124,7 +124,7 @@ def web_troubles(name, t, web):
 
 
 def web_cuts(name, t, web):
-    """Answers that end too early: what git says of them, or an error in words, and nothing is left."""
+    """Responses that end too early: git's error or our own sentence, and nothing is left."""
     server = server_of(t, 300)
     for cut in (1, 30, 60, 100, 300):
         with web_of(t, web, server.parent, CUT_HEAD=cut) as front:
@@ -140,12 +140,12 @@ def web_cuts(name, t, web):
 
 
 def missing(t, client):
-    """How many objects that refs lead to aren't there."""
+    """How many objects that refs reach are missing."""
     return t.git("rev-list", "--objects", "--all", "--missing=print", at=client).count("\n?")
 
 
 def web_partial(name, t, web):
-    """Partial clones, and what is fetched later, by ids."""
+    """Partial clones, and later fetches by ids."""
     server = t.folder("server")
     t.git("init", "-q", "--bare", server)
     blobs = "".join(f"M 100644 inline f{number}\ndata {len(str(number))}\n{number}\n" for number in range(3000))
@@ -191,6 +191,6 @@ def try_server(t, web):
 
 
 def try_web(t):
-    """All cases, over each web server that is here, else over one of our own."""
+    """All cases, over each installed web server, else over our own."""
     for web in web_servers():
         try_server(t, web)

@@ -1,20 +1,20 @@
 #!/usr/bin/env python3
-"""Lists, clones and fetches from the servers of other clients' libraries, by git and by gixp::, and prints a table of what works.
+"""Lists, clones and fetches from the servers of other clients' libraries, by git and by gixp::, and prints a table of the results.
 
 Usage: peers_live.py [--remote PATH] [--program PATH] [--only WORD] [--jobs N]
 
-The PATHs are the programs gixp_remote and gixp_fetch_pack, else what `rt run` left in their crates' out/. Servers are git's own,
-dulwich's, JGit's and go-git's, over a pipe in place of ssh, and those that have one over git://; one that isn't installed is left
-out (Debian: python3-dulwich, jgit-cli with java, golang-github-go-git-go-git-dev with golang-github-jessevdk-go-flags-dev and
-golang-go). git does each action on the same server. A place of the table says
+The PATHs name the programs gixp_remote and gixp_fetch_pack. Without them the programs are those that `rt run` left in their crates' out/
+folders. The servers are git's own, dulwich's, JGit's and go-git's, over a pipe in place of ssh, and over git:// if they can. A server
+that isn't installed is left out (Debian: python3-dulwich, jgit-cli with java, golang-github-go-git-go-git-dev with
+golang-github-jessevdk-go-flags-dev and golang-go). git does each action on the same server. An entry of the table is
 
-    yes       both did, and left the same refs, boundary and objects; the program alone: a pack came
+    yes       both succeeded and left the same refs, boundary and objects; for gixp_fetch_pack: a pack was received
     neither   both failed
-    git       git did, and gixp:: failed
-    ours      gixp:: did, and git failed
-    differs   both did, and left something else
+    git       git succeeded, and gixp:: failed
+    ours      gixp:: succeeded, and git failed
+    differs   both succeeded and left something else
 
-Behind it stands a line for each that isn't `yes`, with what was said. The status is 1 where one is `git` or `differs`.
+A line for each entry other than `yes` follows, with the output. The status is 1 if an entry is `git` or `differs`.
 """
 import argparse
 import concurrent.futures
@@ -32,12 +32,12 @@ from live_harness import CRATE, REAL_SPEC, REMOTE, Tester, by_both, clone_both, 
 from live_program import fetch_pack
 from live_servers import ended_after, free_port, has_loopback, shell_ssh, wait_for_port
 
-# seconds after which a server over a pipe is ended, that doesn't end where git has nothing more to ask
+# a server over a pipe that doesn't end after git's last request is killed after so many seconds
 PATIENCE = 45
 JAVA = pathlib.Path("/usr/share/java")
 JARS = ("org.eclipse.jgit.pgm", "org.eclipse.jgit.lfs", "org.eclipse.jgit", "org.eclipse.jgit.http.apache", "org.eclipse.jgit.ui", "args4j",
         "slf4j-api", "slf4j-nop", "httpclient", "httpcore")
-# its command `daemon` can't find a repository: it joins a path of bytes to one of letters
+# its command `daemon` can't find a repository: it joins a path of bytes to a path of text
 DULWICH = """
 import sys
 from dulwich.repo import Repo
@@ -51,7 +51,7 @@ GO_PACKAGES = pathlib.Path("/usr/share/gocode")
 GO_GIT = "github.com/go-git/go-git/cli/go-git"
 
 
-# Servers: the command of one over a pipe, and that of one that listens at a port, where there is such; nothing where it isn't here
+# Servers: the command over a pipe, and the command that listens at a port, if there is one; None if it isn't installed
 
 
 def git_words(room):
@@ -85,7 +85,7 @@ PEERS = {"git": git_words, "dulwich": dulwich_words, "JGit": jgit_words, "go-git
 
 
 class Way:
-    """One server by one way. It listens where a command for that is told."""
+    """One server over one transport. It listens if it has a command for that."""
 
     def __init__(self, name, pipe, listens=None):
         self.name, self.pipe, self.listens = name, pipe, listens
@@ -105,7 +105,7 @@ class Way:
 
 
 def ways_of(room, only):
-    """The ways to all servers that are here, but for those that no action is picked of."""
+    """All installed servers with their transports, without those that no picked action uses."""
     for name, words in PEERS.items():
         if name not in only and any(other in only for other in PEERS):
             continue
@@ -115,10 +115,10 @@ def ways_of(room, only):
             if listens and has_loopback():
                 yield Way(f"{name}, git://", pipe, listens)
         else:
-            print(f"{name} isn't here", flush=True)
+            print(f"{name} is not installed", flush=True)
 
 
-# Actions: each gives what git's and our own ended with, and whether both left the same
+# Actions: each returns the results of git and of the helper, and whether both left the same
 
 
 def lists(t, server, urls, more):
@@ -181,9 +181,9 @@ ALONE = "the program alone"
 
 
 def try_action(t, way, action):
-    """A place of the table, and what was said."""
+    """An entry of the table, and the output."""
     server = make(t, "server", 300, merges=True, tags=True)
-    # git 2.39 doesn't end where a server of version 0 has two symbolic refs, as dulwich's does
+    # git 2.39 doesn't end if a server of version 0 has two symbolic refs, as dulwich's has
     t.git("symbolic-ref", "-d", "refs/heads/alias", at=server)
     if action == ALONE:
         status, out, err, room = fetch_pack(t, shlex.join([*way.pipe, str(server)]), specs=[REAL_SPEC, "refs/tags/*:refs/tags/*"])
@@ -207,7 +207,7 @@ def place(room, given, number, way, action):
 
 
 def show(ways, found):
-    """Prints the table, and what was said where something isn't `yes`."""
+    """Prints the table, and the output of each entry other than `yes`."""
     print("| | " + " | ".join(way.name for way in ways) + " |")
     print("|---" * (len(ways) + 1) + "|")
     for action in [action for action in (*ACTIONS, ALONE) if any(action == one for _, one in found)]:
@@ -223,12 +223,12 @@ def main():
     parser = argparse.ArgumentParser(description=__doc__.splitlines()[0])
     parser.add_argument("--program", type=pathlib.Path, default=CRATE / "out" / "gixp_fetch_pack")
     parser.add_argument("--remote", type=pathlib.Path, default=REMOTE / "out" / "gixp_remote")
-    parser.add_argument("--only", default="", help="only what has this in its way and action, as `dulwich, a pipe: clone`")
-    parser.add_argument("--jobs", type=int, default=os.cpu_count(), help="how many actions at once")
+    parser.add_argument("--only", default="", help="only entries with this text in their server and action, as `dulwich, a pipe: clone`")
+    parser.add_argument("--jobs", type=int, default=os.cpu_count(), help="how many actions run at once")
     given = parser.parse_args()
     for one in (given.program, given.remote):
         if not os.access(one, os.X_OK):
-            sys.exit(f"no program {one}: `rt run` in crates/{one.name} builds it")
+            sys.exit(f"there is no program {one}: `rt run` in crates/{one.name} builds it")
     with tempfile.TemporaryDirectory() as temporary, concurrent.futures.ThreadPoolExecutor(given.jobs) as pool:
         room = pathlib.Path(temporary).resolve()
         live_harness.TIMEOUT = 3 * PATIENCE

@@ -1,11 +1,11 @@
 #!/usr/bin/env python3
-"""Makes docs/REFERENCE.md: every public name of gix_protocol, with its path, its purpose, its signature and its traits. The methods of
-traits have their contracts, since whoever implements a trait owes them; those of functions stand in the source.
+"""Makes docs/reference/PUBLIC.md: every public name of gix_protocol, with its path, its purpose, its signature and its traits. Methods of
+traits have their contracts, since an implementation owes them. The contracts of functions are in the source.
 
 Usage: reference.py [--write]
 
-Without `--write` it compares, and prints the first line that differs. It also prints which Rust of README and USING stands in no file
-of the crates, but for contracts, comments and names that aren't imported. The status is 1 where there is something wrong.
+Without `--write` it compares the page, and prints the first line that differs. It also prints the Rust code of README and USING that no
+file of the crates has, leaving out contracts, comments and names that aren't imported. The status is 1 for any difference.
 """
 import functools
 import re
@@ -14,10 +14,10 @@ from pathlib import Path
 
 TOP = Path(__file__).resolve().parent.parent
 CRATES = TOP / "crates"
-REFERENCE = TOP / "docs" / "REFERENCE.md"
-HEAD = """# Reference
+REFERENCE = TOP / "docs" / "reference" / "PUBLIC.md"
+HEAD = """# Public names
 
-Every public name of `gix_protocol`, with its path, its purpose and its signature; `impl` has the traits of a type, but `From`. The methods of a trait have their contracts, which an implementation owes. All other contracts and comments stand in the file that is named. `scripts/reference.py --write` makes this page.
+Every public name of `gix_protocol`, with its path, its purpose and its signature. `impl` lists the traits of a type, except `From`. Methods of a trait have their contracts, since an implementation owes them. All other contracts and comments are in the file that is named. [CLAIMS](CLAIMS.md) lists what the contracts cite. `scripts/reference.py --write` makes this page.
 """
 QUOTING = "README.md", "docs/USING.md"
 ITEM = r"pub (?:const )?(?:fn|struct|enum|trait|type|const) {name}\b"
@@ -353,14 +353,19 @@ def compare():
     if "--write" in sys.argv[1:]:
         REFERENCE.write_text(page)
         return 0
-    stands = REFERENCE.read_text() if REFERENCE.is_file() else ""
-    if stands == page:
+    return differs(REFERENCE, page)
+
+
+def differs(path, page):
+    """Whether a file isn't this page; prints the first line that differs."""
+    name, stored = path.relative_to(TOP), path.read_text() if path.is_file() else ""
+    if stored == page:
         return 0
-    for number, (is_line, line) in enumerate(zip(stands.split("\n"), page.split("\n")), 1):
+    for number, (is_line, line) in enumerate(zip(stored.split("\n"), page.split("\n")), 1):
         if is_line != line:
-            print(f"docs/REFERENCE.md:{number}: is {is_line!r}, and is to be {line!r}")
+            print(f"{name}:{number}: is {is_line!r}, and is to be {line!r}")
             return 1
-    print("docs/REFERENCE.md has another length")
+    print(f"{name} has another length")
     return 1
 
 

@@ -1,18 +1,24 @@
 #!/usr/bin/env python3
-"""Makes the rows of crates/gixp_url_rows: URLs, and what git reads in each.
+"""Makes the test vectors of URLs, and records what git reads in each URL.
 
-Usage: urls.py
+Usage: urls.py [--check]
 
-Writes stdin, a URL a line, and stdout: by `git fetch-pack --diag-url` the protocol, the host, the port (NONE) and the path with
-tabs between them, and then `password` where git sees one (git-config, "transfer.credentialsInUrl"); or `refused` where git reads
-none or `git ls-remote` refuses to go there. Of a web server git reads nothing but the scheme, and hands the URL to a program: the
-path is what that is given.
+Writes crates/gixp_replay/data/urls, a test vector for each URL, and models/urls.tsv, a line for each: the URL, and git's answer, with
+tabs between its parts. The answer is the protocol, the host, the port (NONE) and the path that `git fetch-pack --diag-url` prints,
+and `password` where git finds one (git-config, "transfer.credentialsInUrl"). It is `refused` where git finds no protocol, or where
+`git ls-remote` refuses the URL. For a web server git reads the scheme alone and passes the URL to a program: the path is what that
+program is given.
+`--check` writes nothing. The status is 1 where a file isn't as it would be written.
 """
+import argparse
 import subprocess
+import sys
 import tempfile
 from pathlib import Path
 
-CRATE = Path(__file__).resolve().parent.parent / "crates" / "gixp_url_rows"
+TOP = Path(__file__).resolve().parent.parent
+VECTORS = TOP / "crates" / "gixp_replay" / "data" / "urls"
+ANSWERS = TOP / "models" / "urls.tsv"
 HOSTS = [
     "host", "u@host", "host:22", "u@host:22", "host:", "host:abc", "host:65535", "host:65536", "host:000022", "[::1]", "u@[::1]",
     "[::1]:22", "u@[::1]:22", "[::1]:", "[::1]x", "[host]", "[host:22]", "u@[host:22]", "[u@host:22]", "[::1", "a:b@host",
@@ -34,27 +40,27 @@ URLS = [
 
 
 def is_blocked(url, room):
-    """Whether git takes the host or the path for an option."""
+    """Whether git would read the host or the path as an option."""
     variables = {"PATH": "/usr/bin:/bin", "GIT_SSH_COMMAND": "false", "GIT_SSH_VARIANT": "ssh"}
     asked = subprocess.run(["git", "ls-remote", "--", url], cwd=room, capture_output=True, text=True, env=variables)
     return "blocked" in asked.stderr
 
 
 def web_reading(url, room):
-    """What git starts for a web server, or nothing."""
-    told = Path(room) / "told"
-    told.write_text("")
+    """The scheme and the URL that git passes to the program for a web server, or nothing."""
+    answer = Path(room) / "answer"
+    answer.write_text("")
     for scheme in ("http", "https"):
         program = Path(room) / f"git-remote-{scheme}"
-        program.write_text(f'#!/bin/sh\nprintf "{scheme}\\t\\tNONE\\t%s" "$2" > "{told}"\n')
+        program.write_text(f'#!/bin/sh\nprintf "{scheme}\\t\\tNONE\\t%s" "$2" > "{answer}"\n')
         program.chmod(0o755)
     variables = {"PATH": "/usr/bin:/bin", "GIT_EXEC_PATH": room, "GIT_SSH_COMMAND": "false", "GIT_SSH_VARIANT": "ssh"}
     subprocess.run(["git", "ls-remote", "--", url], cwd=room, capture_output=True, env=variables, check=False)
-    return told.read_text()
+    return answer.read_text()
 
 
 def has_password(url, room):
-    """Whether git sees a password in it."""
+    """Whether git finds a password in the URL."""
     words = "-c", "transfer.credentialsInUrl=die", "-c", f"remote.x.url={url}", "remote", "get-url", "x"
     return "plaintext credentials" in subprocess.run(["git", *words], cwd=room, capture_output=True, text=True).stderr
 
@@ -68,27 +74,43 @@ def reading_alone(url, room):
     if url.lower().startswith("http") and (found := web_reading(url, room)):
         return found
     ran = subprocess.run(["git", "fetch-pack", "--diag-url", url], cwd=room, capture_output=True, text=True)
-    said = dict(line.removeprefix("Diag: ").split("=", 1) for line in ran.stdout.splitlines() if line.startswith("Diag: "))
-    if "protocol" not in said:
+    found = dict(line.removeprefix("Diag: ").split("=", 1) for line in ran.stdout.splitlines() if line.startswith("Diag: "))
+    if "protocol" not in found:
         return "refused"
-    if said["protocol"] == "ssh" and is_blocked(url, room):
+    if found["protocol"] == "ssh" and is_blocked(url, room):
         return "refused"
-    host = said.get("userandhost", said.get("hostandport"))
-    return "\t".join([said["protocol"], host, said.get("port", "NONE"), said["path"]])
+    host = found.get("userandhost", found.get("hostandport"))
+    return "\t".join([found["protocol"], host, found.get("port", "NONE"), found["path"]])
+
+
+def vector(number, url):
+    """The test vector of a URL; a backslash is one by its number."""
+    escaped = url.replace("\\", "\\5c")
+    return f"url/{number} url\n|{escaped}\\\n"
 
 
 def main():
+    parser = argparse.ArgumentParser(description=__doc__.splitlines()[0])
+    parser.add_argument("--check", action="store_true", help="write nothing, and compare")
+    checks = parser.parse_args().check
     before_colon = [host for host in HOSTS if ":" not in host or host.startswith("[")]
     urls = [*URLS, *(f"ssh://{host}/a" for host in HOSTS), *(f"{host}:a" for host in before_colon),
             *(f"git://{host}/a" for host in HOSTS if "-" not in host)]
+    # git takes a word that begins with a dash for an option
+    urls = [url for url in dict.fromkeys(urls) if not url.startswith("-")]
     with tempfile.TemporaryDirectory() as room:
         subprocess.run(["git", "init", "-q", room], check=True)
-        # a word that git takes for an option of its own has no reading there
-        urls = [url for url in dict.fromkeys(urls) if not url.startswith("-")]
-        rows = [reading(url, room) for url in urls]
-    (CRATE / "stdin").write_text("".join(url + "\n" for url in urls))
-    (CRATE / "stdout").write_text("".join(row + "\n" for row in rows))
+        answers = [reading(url, room) for url in urls]
+    status = 0
+    for path, text in ((VECTORS, "\n".join(vector(number, url) for number, url in enumerate(urls, 1))),
+                       (ANSWERS, "".join(f"{url}\t{answer}\n" for url, answer in zip(urls, answers)))):
+        if checks and path.read_text() != text:
+            print(f"{path.relative_to(TOP)} isn't as git answers")
+            status = 1
+        elif not checks:
+            path.write_text(text)
+    return status
 
 
 if __name__ == "__main__":
-    main()
+    sys.exit(main())

@@ -1,5 +1,5 @@
-/* Each export once, with buffers of exactly the length that is told, so that valgrind sees a byte too many. Built with
- * `--wrap=malloc` and `--wrap=realloc`, so that each allocation can be refused in turn. */
+/* Calls each export with buffers of exactly the length that is passed, so that valgrind reports each access beyond them. Built with
+ * `--wrap=malloc` and `--wrap=realloc`, so that each allocation can be made to fail in turn. */
 #include <assert.h>
 #include <stdio.h>
 #include <stdlib.h>
@@ -7,7 +7,7 @@
 
 #include "gixp.h"
 
-static long allowed = -1; /* how many allocations are left before one is refused; -1: all */
+static long allowed = -1; /* the number of allocations before one fails; -1: none fails */
 
 void *__real_malloc(size_t size);
 void *__real_realloc(void *old, size_t size);
@@ -31,7 +31,7 @@ static int passed, failed;
 
 #define CHECK(what) ((what) ? (void)passed++ : (void)(failed++, printf("line %d: %s\n", __LINE__, #what)))
 
-/* A copy with no byte behind it. */
+/* A copy in memory that ends with the text. */
 static uint8_t *copy(const char *text, size_t len)
 {
     uint8_t *bytes = __real_malloc(len ? len : 1);
@@ -86,7 +86,7 @@ static void refs(void)
 #define OTHER "89abcdef0123456789abcdef0123456789abcdef"
 #define CAPS "symref=HEAD:refs/heads/main agent=git/2"
 
-/* An advertisement of version 1, of which each line is 4 bytes longer than its text. */
+/* An advertisement of version 1. */
 static const char FIRST[] = "000eversion 1\n" "005a" ID " HEAD\0" CAPS "\n" "003d" ID " refs/heads/main\n"
                             "003a" OTHER " refs/tags/v1\n" "003d" ID " refs/tags/v1^{}\n" "0035shallow " OTHER "\n" "0000";
 
@@ -200,7 +200,7 @@ static void maps(void)
     CHECK(mapped("a:b:c", 4, records, 2, names, 19, &counts) >= GIXP_BAD_SPEC && counts.mappings == 0);
     CHECK(mapped("HEAD:refs/x\nrefs/heads/main:refs/x", 4, records, 2, names, 19, &counts) == GIXP_CONFLICT && counts.mappings == 1);
     CHECK(records[0].item == 2 && is_text(names, records[0].local, "refs/x"));
-    /* a name without slashes is one of a branch; a pattern's local name is taken as it is, and taken out where it is no ref's */
+    /* a local name without slashes means a branch; that of a pattern is unchanged, and its mapping is removed if it isn't a ref's name */
     CHECK(mapped("refs/heads/main:x", 4, records, 2, names, 19, &counts) == GIXP_OK && counts.mappings == 1 && counts.fixes == 0);
     CHECK(records[0].has_local == 1 && is_text(names, records[0].local, "refs/heads/x"));
     CHECK(mapped("refs/heads/*:x/*", 4, records, 2, names, 19, &counts) == GIXP_OK && counts.mappings == 0 && counts.fixes == 1);
@@ -251,7 +251,7 @@ static void prefixes(void)
 static const char GREETING[] = "000eversion 2\n0013ls-refs=unborn\n0012fetch=shallow\n0000";
 static const char SPEC[] = "refs/heads/*:refs/remotes/origin/*";
 
-/* What comes after these answers. */
+/* The step after these responses. */
 static uint32_t next(const char *answers, const size_t *ends, size_t count, uint8_t *request, size_t room, gixp_step *step)
 {
     size_t len = count ? ends[count - 1] : 0;
@@ -302,7 +302,7 @@ static void session(void)
     ends[1] = ends[0] - 1;
     CHECK(next(answers, ends, 2, room, 4096, &step) == GIXP_BAD_PLACE);
     ends[1] = ends[0] + strlen(LISTED);
-    /* each allocation refused in turn: the call fails, or it gets by with a smaller one and makes the same step */
+    /* each allocation fails in turn: the call fails, or it succeeds with a smaller allocation and the same step */
     uint32_t code = GIXP_NO_MEMORY;
     long tried = 0, failures = 0;
     for (; tried < 1000; tried++) {

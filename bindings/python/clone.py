@@ -11,7 +11,7 @@ SPECS = [b"+refs/heads/*:refs/remotes/origin/*", b"+refs/tags/*:refs/tags/*"]
 
 
 def ask(url, request=None):
-    """Asks the server for its service, or sends it a request: the answer, to be read."""
+    """Requests the server's advertisement, or sends a request. Returns the response, which the caller reads."""
     headers = {"Git-Protocol": "version=2"}
     if request is None:
         url += "/info/refs?service=git-upload-pack"
@@ -22,7 +22,7 @@ def ask(url, request=None):
 
 
 def receive(folder, pieces):
-    """Hands the pack to git, with a line of progress."""
+    """Passes the pack to git, and shows the progress."""
     index = ["git", "-C", folder, "index-pack", "--stdin", "--fix-thin"]
     git = subprocess.Popen(index, stdin=subprocess.PIPE, stdout=subprocess.DEVNULL)
     size, said = 0, ""
@@ -42,7 +42,7 @@ def receive(folder, pieces):
 
 
 def write_refs(folder, refs):
-    """Writes the refs of the server as those of `origin`."""
+    """Writes the server's branches as remote-tracking branches of `origin`, and its tags."""
     lines = [b"update %s %s\n" % (ref.name.replace(b"refs/heads/", b"refs/remotes/origin/", 1), ref.id.hex().encode())
              for ref in refs if ref.id and ref.name.startswith((b"refs/heads/", b"refs/tags/"))]
     subprocess.run(["git", "-C", folder, "update-ref", "--stdin"], input=b"".join(lines), check=True)

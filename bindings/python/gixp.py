@@ -1,6 +1,6 @@
-"""The client side of git's fetch protocol, over a library whose every function is proved: bytes in, values out.
+"""The client side of git's fetch protocol: bytes in, values out. Each function of the library below is proved.
 
-Nothing is kept between calls, and nothing is sent or received: sockets, pipes and HTTP are the caller's. The library is
+No state is kept between calls, and nothing is sent or received: the caller does this, by sockets, pipes or HTTP. The library is
 `libgixp.so`, in the folder that GIXP_LIB names or where `scripts/bindings.sh` puts it.
 
     for ref in gixp.refs(answer): print(ref.id.hex(), ref.name)
@@ -86,7 +86,7 @@ def _text(code: int) -> str:
 
 
 class GixpError(Exception):
-    """Why an answer is refused: its number, its kind, and the server's own words, if it sent any."""
+    """The error of all calls: its number, its kind, and the server's message, if it sent one."""
 
     def __init__(self, code: int, words: bytes = b""):
         self.code, self.words = code, words
@@ -100,8 +100,8 @@ def _of(data: bytes, span: _Span) -> bytes:
 
 @dataclass(frozen=True)
 class Ref:
-    """A ref of a server: its name; the object that it names, of a tag the tag itself, and none where its target isn't there yet;
-    what a tag leads to; and the name of the ref that it names, if it does."""
+    """A ref of a server: its name; its object, for a tag the tag itself, and none if its target is unborn; the peeled object of a
+    tag; and the target of a symbolic ref."""
     name: bytes
     id: Optional[bytes]
     peeled: Optional[bytes] = None
@@ -128,21 +128,21 @@ def _read(reader, answer: bytes) -> Iterator[Ref]:
 
 
 def refs(answer: bytes) -> Iterator[Ref]:
-    """The refs of an `ls-refs` answer of version 2, in its order (gitprotocol-v2, "ls-refs"). Raises GixpError after the last
-    one unless the answer is whole."""
+    """The refs of a version 2 `ls-refs` response, in order (gitprotocol-v2, "ls-refs"). Raises GixpError after the last one if the
+    response is incomplete or malformed."""
     return _read(_lib.gixp_refs, answer)
 
 
 def advertised(answer: bytes) -> Iterator[Ref]:
-    """The refs of a reference advertisement of version 0 or 1 (gitprotocol-pack, "Reference Discovery"): one for each ref line, a tag
-    with the id of its peeled line. Raises GixpError after the last one unless the advertisement is whole."""
+    """The refs of a version 0 or 1 reference advertisement (gitprotocol-pack, "Reference Discovery"): one per ref line, a tag with the
+    id of its peeled line. Raises GixpError after the last one if the advertisement is incomplete or malformed."""
     return _read(_lib.gixp_advertised, answer)
 
 
 @dataclass(frozen=True)
 class Mapping:
-    """A mapping: the place of the name among those that were handed in, or none where the refspec names an object; the place of the
-    refspec; and the local name, if there is one. That isn't checked: the server chose what a pattern puts for its asterisk."""
+    """A mapping: the index of the name in the argument, or none if the refspec names an object; the index of the refspec; and the
+    local name, if there is one. The local name isn't checked: the server chose the part that replaces the asterisk of a pattern."""
     item: Optional[int]
     spec: int
     local: Optional[bytes]
@@ -150,15 +150,15 @@ class Mapping:
 
 @dataclass(frozen=True)
 class Mappings:
-    """What refspecs map, and the local names of what was taken out since they are no names of refs. Where local names have two
-    different sources, they are the conflicts, and nothing is mapped."""
+    """The mappings of refs by refspecs, and the local names of removed mappings, which aren't names of refs. Local names with two
+    different sources are the conflicts. If there are any, nothing is mapped."""
     mappings: List[Mapping]
     removed: List[bytes]
     conflicts: List[bytes]
 
 
 def map_refs(names: Iterable[bytes], specs: Iterable[bytes]) -> Mappings:
-    """Maps refs of these full names by refspecs (git-fetch, "<refspec>"). Raises GixpError."""
+    """Maps refs with these full names by refspecs (git-fetch, "<refspec>"). Raises GixpError."""
     names, text = list(names), b"\n".join(specs)
     whole, at, records = b"".join(names), 0, (_Ref * max(len(names), 1))()
     for record, name in zip(records, names):
@@ -182,7 +182,7 @@ def map_refs(names: Iterable[bytes], specs: Iterable[bytes]) -> Mappings:
 
 
 def prefixes(specs: Iterable[bytes]) -> List[bytes]:
-    """The prefixes that a server is asked for, for these refspecs (gitprotocol-v2, `ref-prefix`). Raises GixpError."""
+    """The ref prefixes of these refspecs (gitprotocol-v2, `ref-prefix`). Raises GixpError."""
     text, size, length = b"\n".join(specs), 256, c_size_t()
     while True:
         buffer = ctypes.create_string_buffer(size)
@@ -196,21 +196,21 @@ def prefixes(specs: Iterable[bytes]) -> List[bytes]:
 
 
 class Band(enum.Enum):
-    """What a piece of a pack is."""
+    """The band of a packet line of a pack."""
     STOP, CONTENT, PROGRESS, ERROR = range(4)
 
 
 @dataclass(frozen=True)
 class Piece:
-    """A piece of a pack, or a message of the server between its pieces, and the place after it."""
+    """A packet line of a pack: bytes of the pack or a message of the server, and the offset after it."""
     band: Band
     text: bytes
     next: int
 
 
 def piece(answer: bytes, place: int) -> Piece:
-    """The piece at a place of an answer (gitprotocol-pack, "Packfile Data"). Raises GixpError; of the kind INCOMPLETE where more
-    of the answer is to come."""
+    """The packet line at an offset of a response (gitprotocol-pack, "Packfile Data"). Raises GixpError, of the kind INCOMPLETE if the
+    response is incomplete."""
     answer, found = bytes(answer), _Piece()
     if not 0 <= place <= len(answer):
         raise GixpError(3)
@@ -221,7 +221,7 @@ def piece(answer: bytes, place: int) -> Piece:
 
 
 def pieces(answer: bytes, place: int = 0) -> Iterator[Piece]:
-    """The pieces of a pack from a place of a whole answer on, up to the stop."""
+    """The packet lines of a pack from an offset of a complete response on, up to the end of the pack."""
     while True:
         found = piece(answer, place)
         if found.band is Band.STOP:
@@ -231,8 +231,8 @@ def pieces(answer: bytes, place: int = 0) -> Iterator[Piece]:
 
 
 def read_pieces(data: bytes, place: int, read: Callable[[int], bytes]) -> Iterator[Piece]:
-    """The pieces of a pack of which a beginning is there, and `read` gives more: at most as many bytes as it is asked for, and
-    none at the end. No more than one piece is held."""
+    """The packet lines of a pack whose start is in `data`. `read` returns the rest: at most the requested number of bytes, and none at
+    the end. Only one packet line is kept in memory."""
     while True:
         try:
             found = piece(data, place)
@@ -250,24 +250,24 @@ def read_pieces(data: bytes, place: int, read: Callable[[int], bytes]) -> Iterat
 
 @dataclass(frozen=True)
 class Request:
-    """Send these bytes: what comes back is the next answer."""
+    """Send these bytes. The server's reply is the next response."""
     data: bytes
 
 
 @dataclass(frozen=True)
 class Pack:
-    """Take the pack out of the last answer, of which it begins at this place."""
+    """Take the pack from the last response, where it begins at this offset."""
     place: int
 
 
 @dataclass(frozen=True)
 class Nothing:
-    """Nothing is to be asked for."""
+    """There is nothing to request."""
 
 
 class Session:
-    """A fetch, as its answers so far: the first is what the server says when it is asked for `git-upload-pack`. Each step is of
-    all the answers, so a session may be kept, copied or thrown away at any place."""
+    """A fetch, as the responses so far. The first one is the server's advertisement for `git-upload-pack`. Each step is computed from
+    all responses, so a session may be stored, copied or dropped at any time."""
 
     def __init__(self, specs: Iterable[bytes], haves: Iterable[bytes] = (), shallow: Iterable[bytes] = (), depth: int = 0):
         if not 0 <= depth < 2 ** 32:
@@ -277,16 +277,16 @@ class Session:
         self.answers: List[bytes] = []
 
     def answer(self, data: bytes) -> None:
-        """Adds the answer to the handshake, or to the last request."""
+        """Adds the server's advertisement, or the response to the last request."""
         self.answers.append(bytes(data))
 
     def more(self, data: bytes) -> None:
-        """Adds more of the last answer, where it came in parts."""
+        """Adds more bytes of the last response, if it arrives in parts."""
         self.answers[-1] += data
 
     def read_step(self, read: Callable[[int], bytes]) -> Union[Request, Pack, Nothing]:
-        """Reads as much of the next answer as the next step takes: `read` gives at most as many bytes as it is asked for, and none
-        at the end. Raises GixpError."""
+        """Reads as much of the next response as the next step needs. `read` returns at most the requested number of bytes, and none at
+        the end. Raises GixpError."""
         self.answer(read(1 << 16))
         while True:
             try:
@@ -298,13 +298,13 @@ class Session:
                 self.more(more)
 
     def step(self) -> Union[Request, Pack, Nothing]:
-        """What the client does next. Of the last answer a beginning will do that reaches to the pack; of a shorter one the error
-        is of the kind INCOMPLETE. Raises GixpError."""
+        """The caller's next action. The last response may be incomplete if it reaches to the pack. Raises GixpError, of the kind
+        INCOMPLETE if more of the last response is needed."""
         data, end, ends = b"".join(self.answers), 0, []
         for answer in self.answers:
             end += len(answer)
             ends.append(end)
-        # A want for each ref of the answers and a have for each id fit, so that mostly one call does.
+        # There is room for a want of each ref in the responses and for a have of each id, so one call is mostly enough.
         places, room, step = (c_size_t * max(len(ends), 1))(*ends), 4096 + len(data) + 3 * len(self.haves), _Step()
         wishes = _Wishes(self.specs, len(self.specs), self.haves, len(self.haves), self.shallow, len(self.shallow), self.depth)
         while True:
@@ -322,7 +322,7 @@ class Session:
 
 
 def without_service(answer: bytes) -> bytes:
-    """The first answer without what a server over HTTP puts in front of it: `# service=git-upload-pack` and a flush
+    """The first response without the lines that a server over HTTP sends before it: `# service=git-upload-pack` and a flush packet
     (gitprotocol-http, "Smart Server Response")."""
     if answer[4:14] != b"# service=":
         return answer

@@ -1,5 +1,6 @@
 #!/usr/bin/env python3
-"""Tests of gixp.py: the rows of gixp_replay against the definitions of models/, and a clone over HTTP from git's own server."""
+"""Tests of gixp.py: the test vectors of gixp_replay against the reference implementations in models/, and a clone over HTTP from git's
+own server."""
 import collections
 import http.server
 import os
@@ -15,18 +16,18 @@ HERE = pathlib.Path(__file__).resolve().parent
 TOP = HERE.parent.parent
 sys.path[:0] = [str(HERE), str(TOP / "models")]
 
-sys.setrecursionlimit(100_000)  # of the definitions, which group the lines of an advertisement by recursion
+sys.setrecursionlimit(100_000)  # definitions.py groups the lines of an advertisement by recursion
 
 import definitions  # noqa: E402
 import gixp  # noqa: E402
 import rows  # noqa: E402
 
-# The number of each error of the definitions.
+# The number of each error in definitions.py.
 CODES = {"Io": 10, "HexDecode": 11, "DataLengthLimitExceeded": 12, "DataIsEmpty": 13, "InvalidLineLength": 14, "Server": 15,
          "UnexpectedFrame": 16, "Id": 20, "MalformedV2RefLine": 21, "UnknownAttribute": 22, "InvariantViolation": 23}
 
 
-# Those of what a server says first.
+# The same for the start of an advertisement.
 FIRST_CODES = {name: CODES[name] for name in CODES if name not in ("MalformedV2RefLine", "UnknownAttribute", "InvariantViolation")}
 FIRST_CODES.update({"MalformedV1RefLine": 21, "InvariantViolation": 24, "MalformedSymref": 25, "MissingDelimitingNullByte": 46,
                     "UnsupportedProtocolVersion": 48})
@@ -43,7 +44,7 @@ def packet(text):
 
 
 def read_all(call, data):
-    """What a call yields of some bytes, and the number and words of the error after it: 0 and none where there is none."""
+    """The results of a call for some bytes, and the number and the message of the error after them; 0 and no message without an error."""
     found = []
     try:
         found.extend(call(data))
@@ -54,7 +55,7 @@ def read_all(call, data):
 
 class Refs(unittest.TestCase):
     def test_rows(self):
-        """Every row of bytes is read as an `ls-refs` answer, as the definitions read it."""
+        """Reads each test vector as an `ls-refs` response, with the same result as definitions.py."""
         codes = collections.Counter()
         for row in all_rows():
             found, code, words = read_all(gixp.refs, row.data)
@@ -94,7 +95,7 @@ class Refs(unittest.TestCase):
 
 class Advertisements(unittest.TestCase):
     def test_rows(self):
-        """Every row of bytes is read as what a server says first, as the definitions read it."""
+        """Reads each test vector as an advertisement, with the same result as definitions.py."""
         codes = collections.Counter()
         for row in all_rows():
             found, code, words = read_all(gixp.advertised, row.data)
@@ -161,7 +162,7 @@ class Sessions(unittest.TestCase):
         self.assertEqual(self.session(self.greeting, self.listed, haves=[bytes(19) + b"\5"]).step(), gixp.Nothing())
 
     def test_beginnings(self):
-        """Of each answer but its whole a beginning is told as one."""
+        """Each proper prefix of a response is reported as incomplete."""
         pack = packet(b"acknowledgments\n") + packet(b"NAK\n") + packet(b"ready\n") + b"0001" + packet(b"packfile\n")
         for before, answer in [((), self.greeting), ((), self.advertised), ((), packet(b"version 1\n") + self.advertised),
                                ((self.greeting,), self.listed), ((self.greeting, self.listed), pack)]:
@@ -191,7 +192,7 @@ class Sessions(unittest.TestCase):
 
 class Maps(unittest.TestCase):
     def test_rows(self):
-        """The rows of refspecs over names are mapped as the definitions map them."""
+        """Maps the names of each test vector by its refspecs, with the same result as definitions.py."""
         count = 0
         for row in all_rows():
             if row.mode != "matches":
@@ -222,7 +223,7 @@ class Maps(unittest.TestCase):
 
 
 class Backend(http.server.BaseHTTPRequestHandler):
-    """git's own server behind a web server of Python."""
+    """git's own server, run by a web server in Python."""
     def serve(self, body=b""):
         path, _, query = self.path.partition("?")
         env = dict(os.environ, GIT_PROJECT_ROOT=self.server.root, GIT_HTTP_EXPORT_ALL="1", PATH_INFO=path, QUERY_STRING=query,
@@ -265,7 +266,7 @@ class Clones(unittest.TestCase):
             git("commit", "-qm", str(n), folder=work)
         git("tag", "-am", "one", "v1", folder=work)
         git("branch", "other", "HEAD~10", folder=work)
-        # More refs than one read takes.
+        # More refs than one read returns.
         lines = b"".join(b"create refs/heads/%s/%d HEAD\n" % (b"a" * 60, n) for n in range(1000))
         git("update-ref", "--stdin", folder=work, input=lines)
         git("clone", "-q", "--bare", work, os.path.join(self.folder, "served.git"))

@@ -1,4 +1,4 @@
-//! Times the refs of an answer against a plain parser that makes the same values, and the steps of a session with many rounds:
+//! Compares the time to read the refs of a response with that of a plain parser, and times the steps of a session with many rounds:
 //! `cargo run --release --example bench -- refs FILE [RUNS]`, `.. -- rounds REFS ROUNDS`. `bench/languages.py` runs it.
 use gixp::{refs, Id, Ref, Session, Step};
 
@@ -27,7 +27,7 @@ fn cut(text: &[u8], byte: u8) -> Option<(&[u8], &[u8])> {
     Some((&text[..at], &text[at + 1..]))
 }
 
-/// The ref of a line, as one would write it.
+/// The ref of a line, parsed in the usual way.
 fn plain_ref(line: &[u8]) -> Option<Ref<'_>> {
     let line = line.trim_ascii_end();
     let (first, rest) = cut(line, b' ')?;
@@ -51,7 +51,7 @@ fn plain_ref(line: &[u8]) -> Option<Ref<'_>> {
     })
 }
 
-/// The refs of an answer, and none for one that is refused.
+/// Reads the refs of a response. Returns `None` if it is malformed.
 fn plain(mut answer: &[u8], mut each: impl FnMut(Ref<'_>)) -> Option<()> {
     loop {
         let size = usize::from_str_radix(std::str::from_utf8(answer.get(..4)?).ok()?, 16).ok()?;
@@ -73,7 +73,7 @@ fn weigh(sum: u64, found: Ref<'_>) -> u64 {
     sum.wrapping_mul(31).wrapping_add(id + found.name().len() as u64)
 }
 
-/// The seconds that this process has run on a processor, as Linux says.
+/// The CPU time of this process in seconds, from Linux.
 fn processor_time() -> f64 {
     let said = std::fs::read_to_string("/proc/self/schedstat").unwrap();
     said.split(' ').next().unwrap().parse::<f64>().unwrap() / 1e9
@@ -105,7 +105,7 @@ fn packet(text: &str) -> String {
     format!("{:04x}{text}", text.len() + 4)
 }
 
-/// Forty digits of no order, as of an id.
+/// Forty pseudorandom digits, like those of an id.
 fn digits(n: u64) -> String {
     let mut state = n;
     let mut next = || {
@@ -118,8 +118,8 @@ fn digits(n: u64) -> String {
     format!("{:016x}{:016x}{:08x}", next(), next(), next() as u32)
 }
 
-/// A session of version 2 whose server acknowledges nothing, so that each round offers more haves, until the pack comes: the seconds
-/// of all steps, and of the last.
+/// Runs a session of version 2 whose server acknowledges nothing until the pack, so that each round offers more haves. Returns the
+/// seconds of all steps, and of the last.
 fn session(refs: u64, haves: u64, rounds: usize) -> (f64, f64) {
     let greeting = ["version 2\n", "ls-refs=unborn\n", "fetch=shallow\n"].map(packet).concat() + "0000";
     let listed: String = (0..refs).map(|n| packet(&format!("{} refs/heads/{n}\n", digits(n)))).collect();
@@ -144,7 +144,8 @@ fn session(refs: u64, haves: u64, rounds: usize) -> (f64, f64) {
     (all, last)
 }
 
-/// The steps of a session, beside the last one, and what that takes for the refs, for the haves and for the rounds after the first.
+/// Compares all steps of a session with the last one. Splits the time of the last one into the shares of the refs, of the haves,
+/// and of the rounds after the first.
 fn time_rounds(refs: u64, rounds: usize) {
     const HAVES: u64 = 1 << 16;
     let mut times = [f64::MAX; 4];

@@ -7,7 +7,7 @@ use std::fs::File;
 use std::io::Write;
 use upload_pack::upload_pack;
 
-/// Writes the pack of an answer to a file, and what the server says meanwhile to standard error.
+/// Writes the pack of a response to a file, and the server's progress to standard error.
 fn write_pack(answer: &[u8], place: usize, to: &str) -> Result<usize, Box<dyn std::error::Error>> {
     let mut file = File::create(to)?;
     let mut count = 0;

@@ -1,4 +1,4 @@
-//! Why an answer is refused.
+//! The error of all calls.
 use crate::sys;
 use std::fmt;
 
@@ -6,37 +6,37 @@ use std::fmt;
 #[derive(Clone, Copy, Debug, PartialEq, Eq, Hash)]
 #[non_exhaustive]
 pub enum Kind {
-    /// A place or a length doesn't fit the bytes.
+    /// An offset or a length doesn't match the bytes.
     BadPlace,
     /// An allocation failed.
     NoMemory,
-    /// The answer ends before it is whole.
+    /// The response is incomplete.
     Incomplete,
-    /// Four bytes begin no packet line.
+    /// The length of a packet line is invalid.
     Malformed,
-    /// The server sent an error: [`Error::words`] has its own words.
+    /// The server sent an error. [`Error::words`] returns its message.
     Server,
-    /// A packet line without a payload stands where none may.
+    /// A packet without a payload is out of place.
     Unexpected,
-    /// A packet line belongs to no band.
+    /// The band of a packet line is unknown.
     UnknownBand,
-    /// A line stands for no ref.
+    /// A ref line is malformed.
     BadRef,
-    /// A refspec is none.
+    /// A refspec is invalid.
     BadSpec,
-    /// The handshake was refused.
+    /// The handshake failed.
     Handshake,
-    /// The refs weren't listed, or their mappings don't go together.
+    /// The refs couldn't be listed, or their mappings conflict.
     Refs,
     /// The fetch failed.
     Fetch,
-    /// There are no answers, or more than requests.
+    /// There are no responses, or more responses than requests.
     Answers,
-    /// A number that this crate doesn't know.
+    /// An unknown number.
     Other,
 }
 
-/// Why an answer is refused.
+/// The error of all calls.
 #[derive(Clone, PartialEq, Eq)]
 pub struct Error {
     code: u32,
@@ -48,17 +48,16 @@ impl Error {
         Error { code, words: words.to_vec() }
     }
 
-    /// Its number.
+    /// The number, as in `include/gixp.h`.
     pub fn code(&self) -> u32 {
         self.code
     }
 
-    /// The server's own words, if there are any.
+    /// The server's message, empty if there is none.
     pub fn words(&self) -> &[u8] {
         &self.words
     }
 
-    /// Its kind.
     pub fn kind(&self) -> Kind {
         match self.code {
             3 => Kind::BadPlace,
@@ -81,7 +80,7 @@ impl Error {
     fn text(&self) -> String {
         let mut text = [0; 128];
         let mut len = 0;
-        // SAFETY: the buffer has the length that is passed, and nothing else leads to it or to the length.
+        // SAFETY: the buffer has the length that is passed. No other pointer leads to it or to the length.
         let code = unsafe { sys::gixp_error_text(self.code, text.as_mut_ptr(), text.len(), &mut len) };
         match text.get(..len) {
             Some(text) if code == sys::OK => String::from_utf8_lossy(text).into_owned(),

@@ -1,8 +1,7 @@
-//! The client side of git's fetch protocol, over a library whose every function is proved: slices in, values out. Nothing is
-//! kept between calls, and nothing is sent or received: sockets, pipes and HTTP are the caller's.
+//! The client side of git's fetch protocol: slices in, values out. Each function of the library below is proved. No state is kept
+//! between calls, and nothing is sent or received: the caller does this, by sockets, pipes or HTTP.
 //!
-//! Every safe call is defined for every argument: what an export requires is true of slices by their type, and is tested
-//! where it isn't.
+//! Every safe call is defined for all arguments. What an export requires holds for slices by their type, and is checked otherwise.
 #![forbid(unsafe_op_in_unsafe_fn)]
 
 mod error;
@@ -23,7 +22,7 @@ pub use session::{without_service, Session, Step};
 pub struct Id(pub [u8; 20]);
 
 impl Id {
-    /// The id of 40 hexadecimal digits.
+    /// Parses 40 hexadecimal digits.
     pub fn from_hex(text: &[u8]) -> Option<Id> {
         let digit = |b: u8| char::from(b).to_digit(16).map(|d| d as u8);
         let mut bytes = [0; 20];

@@ -1,26 +1,26 @@
-//! The mappings of refspecs over refs.
+//! The mappings of refs by refspecs.
 use crate::sys::{self, Mapped, MappingRecord, RefRecord, Span};
 use crate::Error;
 
-/// What refspecs map.
+/// The mappings of refs by refspecs.
 #[derive(Clone, Debug, Default, PartialEq, Eq)]
 pub struct Mappings {
-    /// First those of object ids, then by refspec and then by ref; no two have the same source and local name.
+    /// The mappings: first those of object ids, then ordered by refspec and by ref. No two have the same source and local name.
     pub mappings: Vec<Mapping>,
-    /// The local names of mappings that were taken out, since they are neither `HEAD` nor begin with `refs/`.
+    /// The local names of removed mappings. They aren't `HEAD` and don't begin with `refs/`.
     pub removed: Vec<Vec<u8>>,
-    /// The local names with two different sources: nothing is mapped then.
+    /// The local names with two different sources. If there are any, nothing is mapped.
     pub conflicts: Vec<Vec<u8>>,
 }
 
 /// A mapping.
 #[derive(Clone, Debug, PartialEq, Eq)]
 pub struct Mapping {
-    /// The place of the name among those that were handed in; none where the refspec names an object.
+    /// The index of the name in the argument, `None` if the refspec names an object.
     pub item: Option<usize>,
-    /// The place of the refspec.
+    /// The index of the refspec.
     pub spec: usize,
-    /// The local name. It isn't checked: what a pattern puts for its asterisk was chosen by the server.
+    /// The local name. It isn't checked: the server chose the part that replaces the asterisk of a pattern.
     pub local: Option<Vec<u8>>,
 }
 
@@ -33,7 +33,7 @@ fn lines<S: AsRef<[u8]>>(specs: impl IntoIterator<Item = S>) -> Vec<u8> {
     text
 }
 
-/// Maps refs of these full names by refspecs (git-fetch, "<refspec>").
+/// Maps refs with these full names by refspecs (git-fetch, "<refspec>").
 pub fn map<N: AsRef<[u8]>, S: AsRef<[u8]>>(
     names: impl IntoIterator<Item = N>,
     specs: impl IntoIterator<Item = S>,
@@ -49,7 +49,7 @@ pub fn map<N: AsRef<[u8]>, S: AsRef<[u8]>>(
     let mut locals = vec![0; text.len() + 64];
     loop {
         let mut counts = Mapped::default();
-        // SAFETY: all are whole slices, of which those that are written are this call's alone, as is `counts`.
+        // SAFETY: all are whole slices. Those that are written, and `counts`, belong only to this call.
         let code = unsafe {
             sys::gixp_map(
                 text.as_ptr(),
@@ -93,13 +93,13 @@ pub fn map<N: AsRef<[u8]>, S: AsRef<[u8]>>(
     }
 }
 
-/// The prefixes that a server is asked for, for these refspecs (gitprotocol-v2, `ref-prefix`).
+/// The ref prefixes of these refspecs (gitprotocol-v2, `ref-prefix`).
 pub fn prefixes<S: AsRef<[u8]>>(specs: impl IntoIterator<Item = S>) -> Result<Vec<Vec<u8>>, Error> {
     let specs = lines(specs);
     let mut text = vec![0; 256];
     loop {
         let mut len = 0;
-        // SAFETY: both are whole slices, of which the text is this call's alone, as is `len`.
+        // SAFETY: both are whole slices. The text and `len` belong only to this call.
         let code = unsafe { sys::gixp_prefixes(specs.as_ptr(), specs.len(), text.as_mut_ptr(), text.len(), &mut len) };
         match code {
             sys::NO_ROOM => text = vec![0; len],

@@ -1,34 +1,34 @@
-//! A pack out of its bands.
+//! The bands of a pack.
 use crate::sys::{self, PieceRecord};
 use crate::Error;
 
-/// What a packet line of a pack says.
+/// The content of a packet line of a pack.
 #[derive(Clone, Copy, Debug, PartialEq, Eq)]
 pub enum Piece<'a> {
     /// Bytes of the pack.
     Content(&'a [u8]),
-    /// A line of progress.
+    /// A progress message.
     Progress(&'a [u8]),
-    /// An error of the server. Git stops there; the pack may still go on.
+    /// An error message of the server. git stops at it. The pack may continue after it.
     Error(&'a [u8]),
 }
 
-/// The pieces of a pack. After an error there is no more.
+/// The packet lines of a pack. After an error there are no more.
 pub struct Pieces<'a> {
     answer: &'a [u8],
     next: usize,
     ended: bool,
 }
 
-/// The pieces of a pack that begins at this place of an answer (gitprotocol-pack, "Packfile Data"), up to its stop. The last
-/// item is an error unless the answer is whole. Of one that isn't, it is [`Kind::Incomplete`](crate::Kind::Incomplete), and
-/// [`Pieces::place`] is where to go on once more of it is there.
+/// The packet lines of a pack that begins at this offset of a response, up to the end of the pack (gitprotocol-pack, "Packfile
+/// Data"). If the response is incomplete, the last item is the error [`Kind::Incomplete`](crate::Kind::Incomplete).
+/// [`Pieces::place`] is then the offset at which to continue once more bytes were received.
 pub fn pieces(answer: &[u8], from: usize) -> Pieces<'_> {
     Pieces { answer, next: from, ended: false }
 }
 
 impl Pieces<'_> {
-    /// The place after the pieces that were taken, and after the stop once the last was.
+    /// The offset after the packet lines read so far. At the end of the pack, the offset after that.
     pub fn place(&self) -> usize {
         self.next
     }
@@ -42,7 +42,7 @@ impl<'a> Iterator for Pieces<'a> {
             return None;
         }
         let mut piece = PieceRecord::default();
-        // SAFETY: the answer is a whole slice, and nothing else leads to the record.
+        // SAFETY: the answer is a whole slice. No other pointer leads to the record.
         let code = unsafe { sys::gixp_piece(self.answer.as_ptr(), self.answer.len(), self.next, &mut piece) };
         self.ended = code != sys::OK || piece.band == 0;
         if code != sys::OK {

@@ -1,17 +1,17 @@
-//! The refs of an answer.
+//! The refs of a response.
 use crate::sys::{self, Found, RefRecord};
 use crate::{Error, Id};
 
-/// A ref of a server. Its texts are parts of the answer.
+/// A ref of a server. Its texts borrow the response.
 #[derive(Clone, Copy, Debug, PartialEq, Eq, Hash)]
 pub enum Ref<'a> {
-    /// It names an object.
+    /// A ref to an object.
     Direct { name: &'a [u8], object: Id },
-    /// It names a tag, which leads to an object.
+    /// A ref to a tag, with its peeled object.
     Peeled { name: &'a [u8], tag: Id, object: Id },
-    /// It names another ref, which names an object, maybe by a tag.
+    /// A symbolic ref. Its object may be a tag.
     Symbolic { name: &'a [u8], target: &'a [u8], tag: Option<Id>, object: Id },
-    /// It names another ref, which isn't there yet.
+    /// A symbolic ref whose target is unborn.
     Unborn { name: &'a [u8], target: &'a [u8] },
 }
 
@@ -23,7 +23,7 @@ impl<'a> Ref<'a> {
         }
     }
 
-    /// The object that it names: of a tag the tag itself.
+    /// The object of the ref. For a tag, the tag itself.
     pub fn id(&self) -> Option<Id> {
         match *self {
             Ref::Direct { object, .. } => Some(object),
@@ -45,13 +45,12 @@ impl<'a> Ref<'a> {
     }
 }
 
-// So many records are read by one call, and stay in the processor's cache.
+// The number of records per call. They fit into the processor's cache.
 const ROOM: usize = 128;
 
-// What reads them.
 type Reader = unsafe extern "C" fn(*const u8, usize, usize, *mut RefRecord, usize, *mut Found) -> u32;
 
-/// The refs of an answer, in its order. After an error there is no more.
+/// The refs of a response, in order. After an error there are no more.
 pub struct Refs<'a> {
     reader: Reader,
     answer: &'a [u8],
@@ -63,14 +62,14 @@ pub struct Refs<'a> {
     count: usize,
 }
 
-/// The refs of an `ls-refs` answer of version 2 (gitprotocol-v2, "ls-refs"). The last item is an error unless the answer is
-/// whole; of one that isn't, it is [`Kind::Incomplete`](crate::Kind::Incomplete).
+/// The refs of a version 2 `ls-refs` response (gitprotocol-v2, "ls-refs"). If the response can't be read completely, the last item
+/// is an error. It is [`Kind::Incomplete`](crate::Kind::Incomplete) if the response is incomplete.
 pub fn refs(answer: &[u8]) -> Refs<'_> {
     Refs::new(sys::gixp_refs, answer)
 }
 
-/// The refs of a reference advertisement of version 0 or 1 (gitprotocol-pack, "Reference Discovery"): one for each ref line, a tag
-/// with the id of its peeled line. The last item is an error unless the advertisement is whole, as of [`refs`].
+/// The refs of a version 0 or 1 reference advertisement (gitprotocol-pack, "Reference Discovery"): one per ref line, a tag with the
+/// id of its peeled line. Errors are as of [`refs`].
 pub fn advertised(answer: &[u8]) -> Refs<'_> {
     Refs::new(sys::gixp_advertised, answer)
 }
@@ -89,14 +88,14 @@ impl<'a> Refs<'a> {
         }
     }
 
-    /// How many bytes of the answer were read: all up to its stop, once the last ref is taken.
+    /// The number of bytes read. After the last ref these are all bytes up to the stop.
     pub fn place(&self) -> usize {
         self.next
     }
 
     fn read(&mut self) {
         let mut found = Found::default();
-        // SAFETY: answer and records are whole slices, of which the records are this call's alone, as is `found`.
+        // SAFETY: answer and records are whole slices. The records and `found` belong only to this call.
         self.code = unsafe {
             (self.reader)(
                 self.answer.as_ptr(),

@@ -2,20 +2,20 @@
 use crate::sys::{self, StepRecord, Wishes};
 use crate::{Error, Id};
 
-/// What a client does next.
+/// The caller's next action.
 #[derive(Clone, Debug, PartialEq, Eq)]
 pub enum Step {
-    /// It sends these bytes, and what comes back is the next answer.
+    /// Send these bytes. The server's reply is the next response.
     Request(Vec<u8>),
-    /// It takes the pack out of the last answer, of which it begins at this place: see [`pieces`](crate::pieces()).
+    /// Take the pack from the last response, where it begins at this offset: see [`pieces`](crate::pieces()).
     Pack(usize),
-    /// It is done: there is nothing to ask for.
+    /// Nothing: there is nothing to request.
     Nothing,
 }
 
-/// A fetch, as its answers so far: the first is what the server says when it is asked for `git-upload-pack`.
+/// A fetch, as the responses so far. The first one is the server's advertisement for `git-upload-pack`.
 ///
-/// Each step is of all the answers, so a session may be kept, copied or thrown away at any place.
+/// Each step is computed from all responses, so a session may be stored, copied or dropped at any time.
 #[derive(Clone, Debug, Default)]
 pub struct Session {
     answers: Vec<u8>,
@@ -27,7 +27,7 @@ pub struct Session {
 }
 
 impl Session {
-    /// A fetch by these refspecs.
+    /// A fetch with these refspecs.
     pub fn new<S: AsRef<[u8]>>(specs: impl IntoIterator<Item = S>) -> Session {
         let mut session = Session::default();
         for spec in specs {
@@ -37,57 +37,57 @@ impl Session {
         session
     }
 
-    /// Offers an object that is there, after the ones before it. It isn't asked for.
+    /// Adds an object that exists locally. It is offered as a have, after those before it, and never requested.
     pub fn have(&mut self, id: Id) -> &mut Session {
         self.haves.extend_from_slice(&id.0);
         self
     }
 
-    /// Tells a commit of the boundary of a shallow repository.
+    /// Adds a commit of the local repository's shallow boundary.
     pub fn shallow(&mut self, id: Id) -> &mut Session {
         self.boundary.extend_from_slice(&id.0);
         self
     }
 
-    /// Asks for so many commits of each ref; 0, as at first, leaves the boundary as it is.
+    /// Requests this number of commits of each ref. 0, the default, leaves the boundary unchanged.
     pub fn depth(&mut self, depth: u32) -> &mut Session {
         self.depth = depth;
         self
     }
 
-    /// Adds the answer to the handshake, or to the last request.
+    /// Adds the server's advertisement, or the response to the last request.
     pub fn answer(&mut self, bytes: &[u8]) -> &mut Session {
         self.answers.extend_from_slice(bytes);
         self.ends.push(self.answers.len());
         self
     }
 
-    /// Adds more of the last answer, where it came in parts.
+    /// Adds more bytes of the last response, if it arrives in parts.
     pub fn more(&mut self, bytes: &[u8]) -> &mut Session {
         let _ = self.ends.pop();
         self.answer(bytes)
     }
 
-    /// How many answers there are.
+    /// The number of responses.
     pub fn count(&self) -> usize {
         self.ends.len()
     }
 
-    /// The answer of this number, from 0 on.
+    /// The response with this index.
     pub fn nth(&self, number: usize) -> Option<&[u8]> {
         let start = number.checked_sub(1).map_or(0, |before| self.ends.get(before).copied().unwrap_or(0));
         Some(&self.answers[start..*self.ends.get(number)?])
     }
 
-    /// The last answer.
+    /// The last response.
     pub fn last(&self) -> &[u8] {
         self.ends.len().checked_sub(1).and_then(|last| self.nth(last)).unwrap_or(&[])
     }
 
-    /// What the client does next. Of the last answer a beginning will do that reaches to the pack; of a shorter one the error
-    /// is [`Kind::Incomplete`](crate::Kind::Incomplete).
+    /// The caller's next action. The last response may be incomplete if it reaches to the pack. Otherwise the error is
+    /// [`Kind::Incomplete`](crate::Kind::Incomplete).
     pub fn step(&self) -> Result<Step, Error> {
-        // A want for each ref of the answers and a have for each id fit, so that mostly one call does.
+        // There is room for a want of each ref in the responses and for a have of each id, so one call is mostly enough.
         let mut request = vec![0; 4096 + self.answers.len() + 3 * self.haves.len()];
         let wishes = Wishes {
             specs: self.specs.as_ptr(),
@@ -100,7 +100,7 @@ impl Session {
         };
         loop {
             let mut step = StepRecord::default();
-            // SAFETY: all are whole slices, also those of the wishes, of which the request is this call's alone, as is `step`.
+            // SAFETY: all are whole slices, also those of the wishes. The request and `step` belong only to this call.
             let code = unsafe {
                 sys::gixp_next(
                     self.answers.as_ptr(),
@@ -130,7 +130,7 @@ impl Session {
     }
 }
 
-/// The first answer without what a server over HTTP puts in front of it: `# service=git-upload-pack` and a flush
+/// The first response without the lines that a server over HTTP sends before it: `# service=git-upload-pack` and a flush packet
 /// (gitprotocol-http, "Smart Server Response").
 pub fn without_service(answer: &[u8]) -> &[u8] {
     let len = answer.get(..4).and_then(|digits| std::str::from_utf8(digits).ok());

@@ -7,7 +7,7 @@ pub(crate) struct Span {
 }
 
 impl Span {
-    /// The text, which the library's contract puts inside the bytes.
+    /// The text. The contract of the library guarantees that it is within the bytes.
     pub(crate) fn of(self, bytes: &[u8]) -> &[u8] {
         &bytes[self.at..][..self.len]
     }

@@ -1,4 +1,4 @@
-//! What the library says of answers, without a network.
+//! Tests of responses, without a network.
 use gixp::{advertised, pieces, refs, Error, Id, Kind, Piece, Ref, Session, Step};
 
 fn packet(text: &[u8]) -> Vec<u8> {
@@ -15,7 +15,7 @@ fn line(last: u8, rest: &str) -> Vec<u8> {
     packet(format!("{} {rest}\n", id(last)).as_bytes())
 }
 
-/// The refs in front of an error, and the error.
+/// The refs before an error, and the error.
 fn read(answer: &[u8]) -> (Vec<Ref<'_>>, Option<Error>) {
     let mut error = None;
     let found = refs(answer).map_while(|r| r.map_err(|e| error = Some(e)).ok()).collect();

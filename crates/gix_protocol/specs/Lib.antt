@@ -180,7 +180,7 @@ pub use Rattle.gixp_refmap.specs.MapMessage
 pub use Rattle.gixp_refmap.specs.SafeNames
 pub use Rattle.gixp_handshake.specs.HandshakeMessage
 pub use Rattle.gixp_fetch.specs.FetchMessage
--- The types that they speak of.
+-- The types of these definitions.
 pub use Rattle.gixp_hash.specs.declared.object_id.ObjectId as ObjectIdType
 pub use Rattle.gixp_refs.specs.declared.handshake.refs.parse.Error as RefsError
 pub use Rattle.gixp_matching.specs.declared.match_group.validate.Fix as FixType

@@ -1,5 +1,5 @@
-//! A client of a server: a handshake, its refs, what refspecs map of them, and fetches, over one session. The Rust crate has this
-//! in gix, as `Remote::connect`, `prepare_fetch` and `receive`.
+//! A client's session with a server: the handshake, its refs, ref maps and fetches. In gitoxide this is part of gix:
+//! `Remote::connect`, `prepare_fetch` and `receive`.
 pub use gixp_client::{
     Boundary, ClientName, Conflict, Error, ErrorClass, Fetched, Filtered, FilteredNegotiation,
     Heard, Kept, ListedRefs, Listener, LocalChange, MOST_HAVES, PackError, RemoteLines, Repository,

@@ -1,4 +1,4 @@
-//! The fetch of a pack: requests, answers, ref maps, the negotiation, and the whole.
+//! Fetching a pack: requests, responses, ref maps, the negotiation, and the whole fetch.
 pub mod negotiate;
 
 pub use gixp_fetch::consume::{ConsumePack, CopyError, CopyPack, ReadToEnd};

@@ -1,8 +1,8 @@
 //! The client side of git's fetch protocol, versions 0, 1 and 2, under the paths of the Rust crate
 //! `gix-protocol`.
 //!
-//! A client begins with `client::Session`, over any transport: it shakes hands, lists and maps refs, and fetches a pack into a
-//! consumer. The other modules have the parts that a session is made of, which serve one by one too.
+//! A client begins with `client::Session`, over any transport. A session performs the handshake, lists and maps refs, and fetches a
+//! pack into a consumer. The other modules have the parts of a session, which can also be used alone.
 #![tactic(auto)]
 
 pub mod client;

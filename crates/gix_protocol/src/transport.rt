@@ -1,4 +1,4 @@
-//! Streams, and the lines and bands on them.
+//! Streams, and their lines and bands.
 pub mod client;
 
 pub use gixp_capabilities::{Capabilities, Capability, CapabilityIter};
@@ -14,6 +14,6 @@ pub use gixp_wire::{
     Service, SetServiceResponse, Transport, fits_line,
 };
 
-/// A reader of bands whose transport and interrupt are lent for the same time. A consumer of a pack is lent
-/// `gix_protocol::fetch::WithSidebands`, which is this type with the progress reporter that shows the server's texts.
+/// A reader of bands whose transport and interrupt have the same lifetime. A consumer of a pack receives
+/// `gix_protocol::fetch::WithSidebands`, which is this type with the progress reporter that shows the server's messages.
 pub type WithSidebands<'a, T, P, I> = gixp_sidebands::WithSidebands<'a, 'a, T, P, I>;

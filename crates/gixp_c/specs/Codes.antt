@@ -1,4 +1,4 @@
--- The number of each outcome, as the header has it.
+-- The number of each result, as in the header.
 use Rattle.std.specs.Prelude.{ℕ}
 use Rattle.gixp_refspec.specs.declared.parse.Error.{Error as SpecError}
 use Rattle.gixp_refspec.specs.declared.parse.Error.TheVariants.{NegativeWithDestination, NegativeObjectHash, NegativePartialName, PatternUnbalanced, PatternUnsupported, InvalidName}
@@ -44,7 +44,7 @@ abbrev pub refs_code : RefsRefused → ℕ
 refs_code (Packet e) = packet_code e
 refs_code (Line e) = line_code e
 
--- how a call that reads refs ended
+-- the end of a call that reads refs
 abbrev pub end_code : RefsEnd → ℕ
 end_code Stop = 0
 end_code Full = 1
@@ -64,7 +64,7 @@ advertised_code VersionTwo = 47
 advertised_code UnknownVersion = 48
 advertised_code Memory = 4
 
--- how a call that reads refs of an advertisement ended
+-- the end of a call that reads refs of an advertisement
 abbrev pub advertised_end_code : AdvertisedEnd → ℕ
 advertised_end_code StopAdvertised = 0
 advertised_end_code FullAdvertised = 1
@@ -78,18 +78,18 @@ spec_code PatternUnbalanced = 35
 spec_code PatternUnsupported = 36
 spec_code InvalidName = 37
 
--- why a text has no refspecs
+-- the error of reading refspecs
 abbrev pub specs_code : SpecsRefused → ℕ
 specs_code (NoSpecs e) = spec_code e
 specs_code NoSpecMemory = 4
 
--- how refs were mapped
+-- the result of a call that maps refs
 abbrev pub map_end_code : MapEnd → ℕ
 map_end_code Mapped = 0
 map_end_code Conflicts = 51
 map_end_code NoRoom = 2
 
--- why none were
+-- the error of a call that maps refs
 abbrev pub map_refused_code : MapRefused → ℕ
 map_refused_code Place = 3
 map_refused_code (NoMapSpec e) = spec_code e

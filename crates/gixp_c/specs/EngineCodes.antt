@@ -1,4 +1,4 @@
--- The number of each error of a session, as the header has it.
+-- The number of each error of a session, as in the header.
 use Rattle.std.specs.Prelude.{ℕ}
 use Rattle.std.specs.declared.alloc.AllocError.{AllocError}
 use Rattle.std.specs.declared.io.ErrorKind.{ErrorKind}
@@ -22,7 +22,7 @@ use Rattle.gixp_engine.specs.declared.error.EngineError.{EngineError}
 use Rattle.gixp_engine.specs.declared.error.EngineError.TheVariants as engine
 use Rattle.gixp_c.specs.Codes.{packet_code, spec_code}
 
--- that the bytes end is told as such, whatever was read
+-- a premature end of the bytes always has the same number
 abbrev pub cut_or : ErrorKind → ℕ → ℕ
 cut_or UnexpectedEof code = 10
 cut_or _ code = code

@@ -1,4 +1,4 @@
--- What the exports say, over the contracts of what they call.
+-- The results of the exports, by the contracts of the functions that they call.
 use Rattle.std.specs.Prelude.{◌≡◌, ◌⊎◌, ◌≤◌, ◌<◌, ◌++◌, ℕ, Bool, true, false, List, [], length, drop, Ok, Err}
 use Rattle.gixp_text.specs.Lines.{text_lines}
 use Rattle.gixp_refspec.specs.Spec.{Spec}
@@ -29,16 +29,16 @@ use Rattle.gixp_c.specs.declared.refs.FoundRecord.{FoundRecord}
 use Rattle.gixp_c.specs.declared.bands.PieceRecord.{PieceRecord}
 use Rattle.gixp_c.specs.Codes.{packet_code, end_code, advertised_end_code, map_end_code, map_refused_code, specs_code}
 
--- where there is no text
+-- no text
 abbrev pub no_span : Span
 no_span = record { at = 0; len = 0 }
 
--- where the server's words stand
+-- the span of the server's message
 abbrev pub words_of : RefsEnd → Span
 words_of (Refused (Packet (Server words))) = words
 words_of _ = no_span
 
--- the place is behind the bytes, or there is no record; or refs were read
+-- the offset is beyond the bytes, or there is no record; or refs were read
 pub data ExportsRefs (answer : List ℕ) (from : ℕ) (old : List RefRecord) (was : FoundRecord) (code : ℕ) (new : List RefRecord)
     (now : FoundRecord) : Type 0 where
   misplaced : length answer < from → code ≡ 3 → new ≡ old → now ≡ was → ExportsRefs answer from old was code new now
@@ -51,7 +51,7 @@ abbrev pub advertised_words : AdvertisedEnd → Span
 advertised_words (RefusedAdvertised (NoPacket (Server words))) = words
 advertised_words _ = no_span
 
--- the place is behind the bytes, or there is no record; or refs of an advertisement were read
+-- the offset is beyond the bytes, or there is no record; or refs of an advertisement were read
 pub data ExportsAdvertised (answer : List ℕ) (from : ℕ) (old : List RefRecord) (was : FoundRecord) (code : ℕ) (new : List RefRecord)
     (now : FoundRecord) : Type 0 where
   advertised_misplaced : length answer < from → code ≡ 3 → new ≡ old → now ≡ was
@@ -75,16 +75,16 @@ piece_text (Content text) = text
 piece_text (Progress text) = text
 piece_text (Error text) = text
 
--- where the server's words stand, or else another text
+-- the span of the server's message, or else another text
 abbrev pub words_or : PacketRefused → Span → Span
 words_or (Server words) other = words
 words_or _ other = other
 
--- what a refusal leaves
+-- the record after an error
 abbrev pub refused_piece : PacketRefused → PieceRecord → PieceRecord
 refused_piece e old = record old { text = words_or e old.text }
 
--- the place is behind the bytes; or a piece was read, or none is there
+-- the offset is beyond the bytes; or a packet line was read; or it has an error
 pub data ExportsPiece (answer : List ℕ) (from : ℕ) (old : PieceRecord) (code : ℕ) (new : PieceRecord) : Type 0 where
   misplaced : length answer < from → code ≡ 3 → new ≡ old → ExportsPiece answer from old code new
   read : (piece : BandPiece) (next : ℕ) → from ≤ length answer → IsNextPiece answer from (Ok (piece, next)) → code ≡ 0
@@ -92,7 +92,7 @@ pub data ExportsPiece (answer : List ℕ) (from : ℕ) (old : PieceRecord) (code
   refused : (e : PacketRefused) → from ≤ length answer → IsNextPiece answer from (Err e) → code ≡ packet_code e
       → new ≡ refused_piece e old → ExportsPiece answer from old code new
 
--- the refs of records were mapped by the refspecs of a text, or there is too little room, or nothing is mapped
+-- the refs were mapped by the refspecs of a text, or a buffer is too small, or there is an error
 pub data ExportsMap (answer : List ℕ) (refs : List RefRecord) (text : List ℕ) (old : MapBuffers) (code : ℕ)
     (new : MapBuffers) : Type 0 where
   maps : (end : MapEnd) → MapsRecords answer refs (text_lines text) old new (Ok end) → code ≡ map_end_code end
@@ -100,21 +100,21 @@ pub data ExportsMap (answer : List ℕ) (refs : List RefRecord) (text : List ℕ
   maps_not : (e : MapRefused) → MapsRecords answer refs (text_lines text) old new (Err e) → code ≡ map_refused_code e
       → ExportsMap answer refs text old code new
 
--- a text is put to the front of a buffer
+-- a text is copied to the start of a buffer
 abbrev pub put : List ℕ → List ℕ → List ℕ
 put text buffer = text ++ drop (length text) buffer
 
--- a text is put to the front of a buffer, or has too little room there, by whether it has room
+-- a text is copied to the start of a buffer that is large enough, or the buffer is too small
 abbrev pub PutsBy : List ℕ → List ℕ → List ℕ → Bool → Type 0
 PutsBy text old new true = (length text ≤ length old) × (new ≡ put text old)
 PutsBy text old new false = (length old < length text) × (new ≡ old)
 
--- a text is put to the front of a buffer, and how long it is is told; or it has too little room there, and only its length is told
+-- a text is copied to the start of a buffer; or the buffer is too small; in both cases its length is written
 abbrev pub PutsText : List ℕ → List ℕ → ℕ → List ℕ → ℕ → Type 0
 PutsText text old code new now = (now ≡ length text)
     × (((code ≡ 0) × PutsBy text old new true) ⊎ ((code ≡ 2) × PutsBy text old new false))
 
--- the prefixes of a text's refspecs are in the buffer, or it has too little room for them, or there are none
+-- the prefixes of a text's refspecs are in the buffer, or it is too small, or there is an error
 pub data ExportsPrefixes (text old : List ℕ) (was code : ℕ) (new : List ℕ) (now : ℕ) : Type 0 where
   prefixes : (specs : List Spec) → specs_of_lines (text_lines text) ≡ Ok specs → PutsText (prefix_lines specs) old code new now
       → ExportsPrefixes text old was code new now

@@ -10,7 +10,7 @@ use gixp_records::{
 };
 use std::alloc::Global;
 
-// The number of an end, and where the server's words stand.
+// The number of an end, and the span of the server's message.
 fn code_of(end: AdvertisedEnd) -> (u32, Span)
     ensures code { result.0 ≡ advertised_end_code end }
     ensures words { result.1 ≡ advertised_words end }
@@ -28,12 +28,17 @@ fn code_of(end: AdvertisedEnd) -> (u32, Span)
     }
 }
 
-/// Reads refs of an advertisement of version 0 or 1 from a place on, as many as there are records for (gitprotocol-pack,
-/// "Reference Discovery"). The bytes begin with what the server says first; the first call reads from place 0.
+/// Reads refs of a version 0 or 1 advertisement from an offset on, until the records are full (gitprotocol-pack, "Reference
+/// Discovery"). `answer` begins with the server's first packet line. The first call reads from offset 0.
 ///
-/// 0 where the advertisement's stop was read, and 1 where the next call is to go on at `next`. 2 where there is no record, and 3
-/// where the place is after the bytes: nothing else is changed then. Any other number says what stands at `next` or after it,
-/// and 10 that the advertisement goes on in bytes that aren't there yet; the refs before it are in the records.
+/// Returns:
+///
+/// - 0 if the advertisement's stop was read;
+/// - 1 if the next call has to continue at `next`;
+/// - 2 if `records` is empty: only `count` is changed, to 1;
+/// - 3 if `from` is beyond the bytes: nothing is changed;
+/// - another number for an error at `next` or after it, 10 if the advertisement continues after the end of `answer`. The records
+///   have the refs before the error.
 #[unsafe(no_mangle)]
 pub extern "C" fn gixp_advertised(
     alloc: Global,

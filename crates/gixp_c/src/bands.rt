@@ -5,19 +5,18 @@ ghost use Rattle.gixp_c.specs.Exports.{ExportsPiece, piece_band, piece_text, wor
 use crate::code::{BAD_PLACE, OK, packet_code};
 use gixp_records::{BandPiece, PacketRefused, Span, next_piece};
 
-/// What a packet line of a pack says.
+/// A packet line of a pack.
 #[repr(C)]
 #[derive(Clone, Copy)]
 pub struct PieceRecord {
-    /// 0 at the stop after the pack, 1 for bytes of the pack, 2 for a line of progress, 3 for an error of the server.
+    /// 0 for the packet after the pack, 1 for bytes of the pack, 2 for a progress message, 3 for an error message.
     pub band: u32,
-    /// Where it stands; of an answer that is an error, where the server's own words stand.
+    /// The span of the bytes or the message. If the server sent an error instead, the span of its message.
     pub text: Span,
-    /// The place after it.
+    /// The offset after the packet line.
     pub next: usize,
 }
 
-// The band of a piece.
 fn band_of(piece: BandPiece) -> u32
     ensures { result ≡ piece_band piece }
 {
@@ -29,7 +28,6 @@ fn band_of(piece: BandPiece) -> u32
     }
 }
 
-// Where it stands.
 fn text_of(piece: BandPiece) -> Span
     ensures { result ≡ piece_text piece }
 {
@@ -39,7 +37,7 @@ fn text_of(piece: BandPiece) -> Span
     }
 }
 
-// Where the server's words stand, or else another text.
+// The span of the server's message, or else another text.
 fn words_or(e: PacketRefused, other: Span) -> Span
     ensures { result ≡ words_or e other }
 {
@@ -49,12 +47,12 @@ fn words_or(e: PacketRefused, other: Span) -> Span
     }
 }
 
-/// Reads the packet line at a place of an answer, after its sections, as a piece of the pack or a message of the server
+/// Reads the packet line at an offset of a response, after the sections, as bytes of the pack or a message of the server
 /// (gitprotocol-pack, "Packfile Data").
 ///
-/// 0 where there is one, and the next one stands at `next`. 3 where the place is after the bytes. Any other number says what
-/// stands there, and 10 that the answer goes on in bytes that aren't there yet. Only where the server sent an error is the
-/// record changed beside these: its text is the server's words.
+/// Returns 0 if it was read: the next one begins at `next`. Returns 3 if `from` is beyond the bytes. Any other number is the error,
+/// 10 if the response continues after the end of `answer`. Then the record is unchanged, unless the server sent an error: its text
+/// is the server's message.
 #[unsafe(no_mangle)]
 pub extern "C" fn gixp_piece(answer: &[u8], from: usize, piece: &mut PieceRecord) -> u32
     ensures { ExportsPiece answer.now from piece.old result piece.new }

@@ -1,4 +1,4 @@
-//! The number of each outcome.
+//! The number of each result.
 ghost use Rattle.std.specs.Prelude.{◌≡◌, ◌<◌};
 ghost use Rattle.gixp_c.specs.Codes.{packet_code, line_code, refs_code, advertised_line_code, advertised_code, spec_code};
 ghost use Rattle.gixp_c.specs.EngineCodes.{cut_or, client_code, ref_code, list_code, answer_code, handshake_code, map_code, fetch_code, engine_code};
@@ -18,25 +18,24 @@ use gixp_response::fetch::response;
 use std::alloc::AllocError;
 use std::io::ErrorKind;
 
-/// All went well, and nothing is left.
+/// Success, and everything was read.
 pub(crate) const OK: u32 = 0;
-/// All went well, and the next call goes on.
+/// Success, and the next call continues.
 pub(crate) const MORE: u32 = 1;
-/// A buffer has too little room, and the room that is needed was written.
+/// A buffer is too small, and the required size was written.
 pub(crate) const NO_ROOM: u32 = 2;
-/// A place or a length doesn't fit the bytes.
+/// An offset or a length doesn't match the bytes.
 pub(crate) const BAD_PLACE: u32 = 3;
 
 /// An allocation failed.
 pub(crate) const NO_MEMORY: u32 = 4;
-// The bytes end before what is read does.
+// The bytes end too early.
 const INCOMPLETE: u32 = 10;
-/// Two mappings go to one local name.
+/// Two mappings have one local name.
 pub(crate) const CONFLICT: u32 = 51;
 /// The server sent an error.
 pub(crate) const SERVER: u32 = 15;
 
-// Of a packet line.
 pub(crate) fn packet_code(e: PacketRefused) -> u32
     ensures code { result ≡ packet_code e }
     ensures high { 2 < result }
@@ -53,7 +52,6 @@ pub(crate) fn packet_code(e: PacketRefused) -> u32
     }
 }
 
-// Of a line.
 fn line_code(e: LineRefused) -> u32
     ensures { result ≡ line_code e }
 {
@@ -65,7 +63,6 @@ fn line_code(e: LineRefused) -> u32
     }
 }
 
-// Of refs.
 pub(crate) fn refs_code(e: RefsRefused) -> u32
     ensures { result ≡ refs_code e }
 {
@@ -75,7 +72,6 @@ pub(crate) fn refs_code(e: RefsRefused) -> u32
     }
 }
 
-// Of a line of an advertisement.
 fn advertised_line_code(e: AdvertisedLineRefused) -> u32
     ensures { result ≡ advertised_line_code e }
 {
@@ -87,7 +83,6 @@ fn advertised_line_code(e: AdvertisedLineRefused) -> u32
     }
 }
 
-// Of an advertisement.
 pub(crate) fn advertised_code(e: AdvertisedRefused) -> u32
     ensures { result ≡ advertised_code e }
 {
@@ -101,7 +96,6 @@ pub(crate) fn advertised_code(e: AdvertisedRefused) -> u32
     }
 }
 
-// Of a refspec.
 pub(crate) fn spec_code(e: &parse::Error) -> u32
     ensures code { result ≡ spec_code e.now }
     ensures high { 2 < result }
@@ -116,7 +110,7 @@ pub(crate) fn spec_code(e: &parse::Error) -> u32
     }
 }
 
-// Of a read: that the bytes end is told as such, whatever was read.
+// The number of a failed read. A premature end of the bytes always has the same number.
 fn cut_or(kind: ErrorKind, code: u32) -> u32
     ensures code { result ≡ cut_or kind code }
     ensures high { 2 < code → 2 < result }
@@ -127,7 +121,6 @@ fn cut_or(kind: ErrorKind, code: u32) -> u32
     }
 }
 
-// Of the transport.
 fn client_code(e: &client::Error, code: u32) -> u32
     ensures code { result ≡ client_code e.now code }
     ensures high { 2 < code → 2 < result }
@@ -138,7 +131,7 @@ fn client_code(e: &client::Error, code: u32) -> u32
     }
 }
 
-// Of refs that are read.
+// The number of an error of the reader of refs.
 fn ref_code(e: &refs::parse::Error, code: u32) -> u32
     ensures code { result ≡ ref_code e.now code }
     ensures high { 2 < code → 2 < result }
@@ -149,7 +142,7 @@ fn ref_code(e: &refs::parse::Error, code: u32) -> u32
     }
 }
 
-// Of a list of refs.
+// The number of an error of `ls-refs`.
 fn list_code(e: &ls_refs::Error) -> u32
     ensures code { result ≡ list_code e.now }
     ensures high { 2 < result }
@@ -162,7 +155,6 @@ fn list_code(e: &ls_refs::Error) -> u32
     }
 }
 
-// Of an answer to a fetch.
 fn answer_code(e: &response::Error) -> u32
     ensures code { result ≡ answer_code e.now }
     ensures high { 2 < result }
@@ -174,7 +166,6 @@ fn answer_code(e: &response::Error) -> u32
     }
 }
 
-// Of a handshake.
 fn handshake_code(e: &handshake::Error) -> u32
     ensures code { result ≡ handshake_code e.now }
     ensures high { 2 < result }
@@ -190,7 +181,7 @@ fn handshake_code(e: &handshake::Error) -> u32
     }
 }
 
-// Of a ref map.
+// The number of an error of a ref map.
 fn map_code(e: &refmap::init::Error) -> u32
     ensures code { result ≡ map_code e.now }
     ensures high { 2 < result }
@@ -203,7 +194,6 @@ fn map_code(e: &refmap::init::Error) -> u32
     }
 }
 
-// Of a fetch.
 fn fetch_code(e: &FetchError<AllocError, Left>) -> u32
     ensures code { result ≡ fetch_code e.now }
     ensures high { 2 < result }
@@ -223,7 +213,6 @@ fn fetch_code(e: &FetchError<AllocError, Left>) -> u32
     }
 }
 
-// Of a session.
 pub(crate) fn engine_code(e: &EngineError) -> u32
     ensures code { result ≡ engine_code e.now }
     ensures high { 2 < result }

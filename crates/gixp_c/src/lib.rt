@@ -1,5 +1,5 @@
-//! The exports for programs in C, Rust and other languages: bytes in, numbers out. No call keeps anything, and each buffer is
-//! the caller's.
+//! The exports for programs in C, Rust and other languages: bytes in, numbers out. No call keeps state, and each buffer belongs to
+//! the caller.
 #![tactic(auto)]
 
 mod advertised;

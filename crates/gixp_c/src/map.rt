@@ -1,4 +1,4 @@
-//! The mappings of refspecs over refs, and their prefixes.
+//! The mappings of refs by refspecs, and the prefixes of refspecs.
 ghost use Rattle.std.specs.Prelude.{◌≡◌};
 ghost use Rattle.gixp_records.specs.Told.{buffers};
 ghost use Rattle.gixp_c.specs.Exports.{ExportsMap, ExportsPrefixes};
@@ -12,7 +12,6 @@ use gixp_records::{
 };
 use std::alloc::Global;
 
-// How refs were mapped.
 fn end_code(end: MapEnd) -> u32
     ensures { result ≡ map_end_code end }
 {
@@ -23,7 +22,6 @@ fn end_code(end: MapEnd) -> u32
     }
 }
 
-// Why none were.
 fn refused_code(e: MapRefused) -> u32
     ensures { result ≡ map_refused_code e }
 {
@@ -34,7 +32,6 @@ fn refused_code(e: MapRefused) -> u32
     }
 }
 
-// Why there are no refspecs.
 fn specs_code(e: SpecsRefused) -> u32
     ensures { result ≡ specs_code e }
 {
@@ -44,12 +41,15 @@ fn specs_code(e: SpecsRefused) -> u32
     }
 }
 
-/// Maps refs by refspecs, which stand one on a line (git-fetch, "<refspec>"). The names of the refs stand in the answer.
+/// Maps refs by refspecs, one per line (git-fetch, "<refspec>"). The names of the refs are spans of `answer`.
 ///
-/// 0 where the mappings are in the records, after them those that were taken out, and their local names in the buffer. 51 where
-/// mappings conflict: the records are then the conflicts. 2 where one of the buffers has too little room: how much is needed is
-/// reported, and nothing else is changed. 3 where a name doesn't stand in the answer, 4 where an allocation failed, and any other
-/// number for a line that is no refspec: nothing is changed then.
+/// Returns:
+///
+/// - 0 if the records are the mappings, then the removed ones, and the buffer has their local names;
+/// - 51 if mappings conflict: the records are the conflicts;
+/// - 2 if a buffer is too small: `counts` has the required sizes, and nothing else is changed;
+/// - 3 if a name isn't within `answer`, 4 if an allocation failed, another number for a line that isn't a valid refspec. Then
+///   nothing is changed.
 #[unsafe(no_mangle)]
 pub extern "C" fn gixp_map(
     alloc: Global,
@@ -69,11 +69,13 @@ pub extern "C" fn gixp_map(
     }
 }
 
-/// Writes the prefixes that a server is asked for, for refspecs which stand one on a line, each with an LF after it, and how
-/// long they are (gitprotocol-v2, `ref-prefix`).
+/// Writes the ref prefixes of refspecs, one per line, each followed by an LF, and their length (gitprotocol-v2, `ref-prefix`).
 ///
-/// 0 where they are in the buffer. 2 where that has too little room: only the length is written. 4 where an allocation failed, and
-/// any other number for a line that is no refspec: nothing is changed then.
+/// Returns:
+///
+/// - 0 if the buffer has them;
+/// - 2 if the buffer is too small: only the length is written;
+/// - 4 if an allocation failed, another number for a line that isn't a valid refspec. Then nothing is changed.
 #[unsafe(no_mangle)]
 pub extern "C" fn gixp_prefixes(
     alloc: Global,

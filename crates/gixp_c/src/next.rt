@@ -21,33 +21,32 @@ use gixp_sidebands::{Interrupt, NeverInterrupt};
 use std::alloc::{AllocError, Global};
 use std::num::NonZeroU32;
 
-/// What a client wants.
+/// The arguments of a session.
 #[repr(C)]
 #[derive(Clone, Copy)]
 pub struct WishesRecord<'a> {
-    /// The refspecs, one on a line.
+    /// The refspecs, one per line.
     pub specs: &'a [u8],
-    /// The ids of objects that are there, of 20 bytes each. They are offered in this order, and none is asked for.
+    /// The ids of objects that exist locally, 20 bytes each. They are offered as haves in this order, and never requested.
     pub haves: &'a [u8],
-    /// The ids of the boundary of a shallow repository, of 20 bytes each.
+    /// The ids of the shallow boundary of the local repository, 20 bytes each.
     pub boundary: &'a [u8],
-    /// How many commits of each ref; 0 leaves the boundary as it is.
+    /// The number of commits to fetch from each ref. 0 leaves the boundary unchanged.
     pub depth: u32,
 }
 
-/// What a client does next.
+/// The caller's next action.
 #[repr(C)]
 #[derive(Clone, Copy)]
 pub struct StepRecord {
-    /// 0 where there is nothing to ask for, 1 to send a request, 2 to take the pack.
+    /// 0 for nothing, 1 to send the request, 2 to take the pack.
     pub kind: u32,
-    /// How long the request is, or the server's own words.
+    /// The length of the request, or of the server's message.
     pub length: usize,
-    /// Where the pack begins in the answers.
+    /// The offset of the pack in the responses.
     pub place: usize,
 }
 
-// How much of the history a depth asks for.
 fn shallow_of(depth: u32) -> Shallow
     ensures { shallow_value result ≡ depth_value depth }
 {
@@ -57,7 +56,6 @@ fn shallow_of(depth: u32) -> Shallow
     }
 }
 
-// What a client wants.
 fn wishes_of(alloc: Global, told: &WishesRecord<'_>) -> Result<Wishes, EngineError>
     ensures { ReadsWishes told.now result }
 {
@@ -80,7 +78,6 @@ fn wishes_of(alloc: Global, told: &WishesRecord<'_>) -> Result<Wishes, EngineErr
     }
 }
 
-// What comes next.
 fn step_of(
     alloc: Global,
     answers: &[u8],
@@ -102,7 +99,7 @@ fn step_of(
     }
 }
 
-// Puts the step into the buffer and the record.
+// Writes the step into the buffer and the record.
 fn tell_step(found: &Step, request: &mut [u8], step: &mut StepRecord) -> u32
     ensures told { TellsEngineStep found.now request.old step.old result request.new step.new }
     ensures no_room { result ≡ 2 → (request.new ≡ request.old) × (step.new ≡ record step.old { length = step.new.length })
@@ -138,7 +135,7 @@ fn tell_step(found: &Step, request: &mut [u8], step: &mut StepRecord) -> u32
     }
 }
 
-// Puts the server's own words into the buffer, if it has room for them, and returns the number.
+// Copies the server's message into the buffer if that is large enough, and returns the number of the error.
 fn tell_refusal(e: &EngineError, request: &mut [u8], step: &mut StepRecord) -> u32
     ensures told { TellsWords (engine_message e.now) e.now request.old step.old result request.new step.new }
     ensures code { 2 < result }
@@ -157,14 +154,17 @@ fn tell_refusal(e: &EngineError, request: &mut [u8], step: &mut StepRecord) -> u
     }
 }
 
-/// Writes what a client does next, from the answers so far: the first, which a server gives when it is asked for its service, and
-/// those to each request that this function wrote (gitprotocol-v2; gitprotocol-pack, "Packfile Negotiation"). They stand one after
-/// another and end at these places. Refspecs stand one on a line; ids are 20 bytes each. A depth of 0 leaves the boundary
-/// as it is.
+/// Writes the caller's next action, from the server's responses so far: first its advertisement, then the response to each request
+/// that this function wrote (gitprotocol-v2; gitprotocol-pack, "Packfile Negotiation"). `answers` has them one after another, and
+/// `ends` the offsets at which they end. The refspecs are one per line. Ids are 20 bytes each. A depth of 0 leaves the boundary
+/// unchanged.
 ///
-/// 0 where the step is written. 2 where the request has too little room: its length is written, and nothing else is changed. Any other
-/// number says why there is none: 15 that the server sent an error, and `length` is then how long its own words are, which are in
-/// the buffer if it has room.
+/// Returns:
+///
+/// - 0 if the step was written;
+/// - 2 if the buffer is too small for the request: the required length is written, and nothing else is changed;
+/// - 15 if the server sent an error: `length` is the length of its message, and the buffer has the message if it is large enough;
+/// - another number for another error.
 #[unsafe(no_mangle)]
 pub extern "C" fn gixp_next(
     alloc: Global,

@@ -1,4 +1,4 @@
-//! The refs of an answer.
+//! The refs of an `ls-refs` response.
 ghost use Rattle.std.specs.Prelude.{◌≡◌, ◌<◌, length};
 ghost use Rattle.gixp_c.specs.Exports.{words_of, ExportsRefs};
 ghost use Rattle.gixp_c.specs.Codes.{end_code};
@@ -6,19 +6,19 @@ ghost use Rattle.gixp_c.specs.Codes.{end_code};
 use crate::code::{BAD_PLACE, MORE, NO_ROOM, OK, refs_code};
 use gixp_records::{PacketRefused, RefRecord, RefsEnd, RefsRefused, Span, read_refs};
 
-/// How far a call came.
+/// The result of a call.
 #[repr(C)]
 #[derive(Clone, Copy)]
 pub struct FoundRecord {
-    /// How many records were written; of a buffer with too little room, how many it needs.
+    /// The number of records written. If there was no record, the number required at least.
     pub count: usize,
-    /// The place after what was read.
+    /// The offset after what was read.
     pub next: usize,
-    /// Where the server's own words stand, if it sent an error.
+    /// The span of the server's message, if the server sent an error.
     pub words: Span,
 }
 
-// The number of an end, and where the server's words stand.
+// The number of an end, and the span of the server's message.
 fn code_of(end: RefsEnd) -> (u32, Span)
     ensures code { result.0 ≡ end_code end }
     ensures words { result.1 ≡ words_of end }
@@ -36,12 +36,16 @@ fn code_of(end: RefsEnd) -> (u32, Span)
     }
 }
 
-/// Reads refs of an `ls-refs` answer of version 2 from a place on, as many as there are records for (gitprotocol-v2,
-/// "ls-refs").
+/// Reads refs of a version 2 `ls-refs` response from an offset on, until the records are full (gitprotocol-v2, "ls-refs").
 ///
-/// 0 where the answer's stop was read, and 1 where the next call is to go on at `next`. 2 where there is no record, and 3 where
-/// the place is after the bytes: nothing else is changed then. Any other number says what stands at `next`, and 10 that the
-/// answer goes on in bytes that aren't there yet; the refs before it are in the records.
+/// Returns:
+///
+/// - 0 if the response's stop was read;
+/// - 1 if the next call has to continue at `next`;
+/// - 2 if `records` is empty: only `count` is changed, to 1;
+/// - 3 if `from` is beyond the bytes: nothing is changed;
+/// - another number for an error at `next`, 10 if the response continues after the end of `answer`. The records have the refs
+///   before the error.
 #[unsafe(no_mangle)]
 pub extern "C" fn gixp_refs(
     answer: &[u8],

@@ -5,7 +5,6 @@ ghost use Rattle.gixp_c.specs.Exports.{PutsBy, PutsText};
 
 use crate::code::{NO_ROOM, OK};
 
-// The text of a number.
 fn text_of(code: u32) -> &'static str {
     match code {
         0 => "all is read",
@@ -57,7 +56,7 @@ fn text_of(code: u32) -> &'static str {
     }
 }
 
-// Copies a text to the front of a buffer, if it has room for it.
+// Copies a text to the start of a buffer if that is large enough.
 pub(crate) fn copy_text(text: &[u8], buffer: &mut [u8]) -> bool
     ensures fits { OnTrue result (buffer.new ≡ text.now ++ drop (length text.now) buffer.old) }
     ensures short { result ≡ false → buffer.new ≡ buffer.old }
@@ -71,7 +70,7 @@ pub(crate) fn copy_text(text: &[u8], buffer: &mut [u8]) -> bool
     true
 }
 
-// Puts a text to the front of a buffer, and tells how long it is.
+// Copies a text to the start of a buffer, and writes its length.
 pub(crate) fn put_text(text: &[u8], buffer: &mut [u8], len: &mut usize) -> u32
     ensures { PutsText text.now buffer.old result buffer.new len.new }
 {
@@ -79,9 +78,9 @@ pub(crate) fn put_text(text: &[u8], buffer: &mut [u8], len: &mut usize) -> u32
     if copy_text(text, buffer) { OK } else { NO_ROOM }
 }
 
-/// Writes the text of a number that an export returned to the front of a buffer, and how long it is.
+/// Writes the text of a number that an export returned to the start of a buffer, and its length.
 ///
-/// 0 where it is there. 2 where it has too little room: nothing else is changed then.
+/// Returns 0, or 2 if the buffer is too small. Then only the length is written.
 #[unsafe(no_mangle)]
 pub extern "C" fn gixp_error_text(code: u32, buffer: &mut [u8], len: &mut usize) -> u32
     ensures told { result ≡ 0 → (text : List ℕ) × (length text ≡ len.new) × (buffer.new ≡ text ++ drop (length text) buffer.old) }

@@ -1,4 +1,4 @@
--- Texts between blanks, as a loop that cuts them off finds them.
+-- The texts between blanks, as a loop that cuts them off one by one.
 use Rattle.std.proofs.Common.{◌≡◌, ℕ, ◌+◌, ◌<◌, ◌≤◌, ◌==◌, ◌⊎◌, inl, inr, Bool, true, false, List, [], ◌∷◌, ◌++◌, length, drop, map, refl, ap, sym, ◌∙◌, arith, Option, Some, None, append_assoc, length-drop, nat_lt}
 use Rattle.std.specs.Prelude.{filter}
 use Rattle.std.specs.Option.{option_copied}
@@ -16,7 +16,7 @@ abbrev pub parts_behind : ℕ → Option (List ℕ) → List (List ℕ)
 parts_behind b None = []
 parts_behind b (Some rest) = slice_split (λ x. x == b) rest
 
--- the first part is what comes before the first separator
+-- the first part is the text before the first separator
 parts_by : (b : ℕ) (text : List ℕ) → (position_or_len (λ x. x == b) text < length text) ⊎ (length text ≤ position_or_len
     (λ x. x == b) text) → slice_split (λ x. x == b) text ≡ (cut b text).0 ∷ parts_behind b (cut b text).1
 parts_by b text (inl lt) =
@@ -32,17 +32,17 @@ parts_by b text (inr le) =
 pub parts_of_cut : (b : ℕ) (text : List ℕ) → slice_split (λ x. x == b) text ≡ (cut b text).0 ∷ parts_behind b (cut b text).1
 parts_of_cut b text = parts_by b text (cases_lt (position_or_len (λ x. x == b) text) (length text))
 
--- the capabilities that are still to come
+-- the capabilities still to come
 abbrev pub words_left : Option (Bor (List ℕ)) → List CapabilityValue
 words_left None = []
 words_left (Some text) = capabilities_of_words text.now
 
--- how much text is left, with one for each piece
+-- the length of the rest of the text, with one more for its separator
 abbrev pub text_left : Option (Bor (List ℕ)) → ℕ
 text_left None = 0
 text_left (Some text) = length text.now + 1
 
--- the capability of a piece, if it isn't empty
+-- the capability of a piece, unless the piece is empty
 abbrev pub of_piece : List ℕ → List CapabilityValue
 of_piece [] = []
 of_piece (x ∷ xs) = capability_of (x ∷ xs) ∷ []
@@ -55,7 +55,7 @@ of_parts [] (Some text) = refl
 of_parts (x ∷ xs) None = refl
 of_parts (x ∷ xs) (Some text) = refl
 
--- the capabilities of a text, once its first piece is cut off
+-- the capabilities of a text whose first piece is cut off
 words_of_cut : (text word : List ℕ) (rest : Option (Bor (List ℕ))) → cut 32 text ≡ (word, option_copied rest)
     → capabilities_of_words text ≡ of_piece word ++ words_left rest
 unfolding capabilities_of_words
@@ -63,7 +63,7 @@ words_of_cut text word rest e =
     ap (λ ws. map capability_of (filter has_bytes ws))
     (parts_of_cut 32 text ∙ ap (λ (c : List ℕ × Option (List ℕ)). c.0 ∷ parts_behind 32 c.1) e) ∙ of_parts word rest
 
--- a piece that isn't empty was appended
+-- a nonempty piece was appended
 pub word_more : (now all : List CapabilityValue) (text word : List ℕ) (rest : Option (Bor (List ℕ)))
     → cut 32 text ≡ (word, option_copied rest) → (length word == 0) ≡ false → now ++ capabilities_of_words text ≡ all
     → (now ++ capability_of word ∷ []) ++ words_left rest ≡ all
@@ -71,13 +71,13 @@ word_more now all text [] rest e n h = cc
 word_more now all text (x ∷ xs) rest e n h = append_assoc now (capability_of (x ∷ xs) ∷ []) (words_left rest)
     ∙ (ap (λ (ws : List CapabilityValue). now ++ ws) (sym (words_of_cut text (x ∷ xs) rest e)) ∙ h)
 
--- an empty piece was passed over
+-- an empty piece was skipped
 pub word_none : (now all : List CapabilityValue) (text word : List ℕ) (rest : Option (Bor (List ℕ))) → cut 32 text
     ≡ (word, option_copied rest) → (length word == 0) ≡ true → now ++ capabilities_of_words text ≡ all → now ++ words_left rest ≡ all
 word_none now all text [] rest e n h = ap (λ (ws : List CapabilityValue). now ++ ws) (sym (words_of_cut text [] rest e)) ∙ h
 word_none now all text (x ∷ xs) rest e n h = absurd (omega (arith, eqb-true (length (x ∷ xs)) 0 n))
 
--- what is after a place is shorter
+-- the text after a separator is shorter
 behind_shorter : (b : ℕ) (text : List ℕ) → (position_or_len (λ x. x == b) text < length text)
     ⊎ (length text ≤ position_or_len (λ x. x == b) text) → (rest : List ℕ) → (cut b text).1 ≡ Some rest → length rest < length text
 behind_shorter b text (inl lt) rest e =
@@ -90,7 +90,7 @@ behind_shorter b text (inr le) rest e =
     false_from_ne_true _ (λ t. let x = ltb-true (position_or_len (λ x. x == b) text) (length text) t in absurd (omega arith)) in
     let wrong = rw none at e in cc
 
--- a name and a value, once they are cut apart
+-- a name and a value that were cut apart
 pub capability_from_cut : (text name : List ℕ) (value : Option (List ℕ)) → cut 61 text ≡ (name, value)
     → capability_of text ≡ record { name = name; value = value }
 unfolding capability_of

@@ -1,4 +1,4 @@
--- What comes before and after the first place of a byte.
+-- The text before and after the first occurrence of a byte.
 use Rattle.std.proofs.Common.{◌≡◌, ℕ, ◌+◌, ◌-◌, ◌<◌, ◌==◌, Bool, true, false, nat_lt, List, length, take, drop, refl, ap, ◌∙◌, arith, Option, Some, None, take_all, length-drop}
 use Rattle.std.specs.Prelude.{position}
 use Rattle.std.specs.List.{position_or_len}
@@ -8,7 +8,7 @@ use Rattle.std.proofs.lemmas.List.Sums.{position_or_len_is}
 use Rattle.bstr.specs.Find.{IsFirstByte, is_byte}
 use Rattle.gixp_capabilities.specs.Cut.{cut, parts_at}
 
--- the first place of a byte, as the definition has it
+-- the first offset of a byte, as the definition computes it
 place_is : (b : ℕ) (xs : List ℕ) (r : Option ℕ) → IsFirstByte (is_byte b) xs r → position (λ x. x == b) xs ≡ r
 place_is b xs None h =
     let p : ℕ → Bool = λ x. x == b in
@@ -26,11 +26,10 @@ place_is b xs (Some k) h =
     let some : nat_lt k (length xs) ≡ true = lt-ltb k (length xs) within in
     rw (at, some) refl
 
--- a byte that isn't there
 pub cut_nowhere : (b : ℕ) (text : List ℕ) → IsFirstByte (is_byte b) text None → cut b text ≡ (text, None)
 cut_nowhere b text h = ap (parts_at text) (place_is b text None h)
 
--- a byte at its first place, round which the text is split
+-- the text is cut at the first occurrence of the byte
 pub cut_at_place : (b : ℕ) (text front rest : List ℕ) (i : ℕ) → front ≡ take i text → rest ≡ drop i text
     → IsFirstByte (is_byte b) text (Some i)
     → cut b text ≡ (front, Some (take (length rest - 1) (drop 1 rest)))

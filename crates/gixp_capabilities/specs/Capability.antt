@@ -1,4 +1,4 @@
--- A capability that is lent, as plain data.
+-- A borrowed capability, as plain data.
 use Rattle.std.specs.Prelude.{List, map}
 use Rattle.std.specs.Option.{option_map}
 use Rattle.bstr.specs.BStr.{bstr_bytes}
@@ -10,6 +10,6 @@ use Rattle.gixp_capabilities.specs.Capabilities.{CapabilityValue, capability_of}
 abbrev pub capability_value : Capability → CapabilityValue
 capability_value c = record { name = bstr_bytes c.name; value = option_map bstr_bytes c.value }
 
--- those that an iterator has left
+-- the capabilities that an iterator has not yet returned
 abbrev pub capabilities_left : CapabilityIter → List CapabilityValue
 capabilities_left it = map (λ s. capability_of (bstring_bytes s)) it.lines.now

@@ -1,4 +1,4 @@
--- What a call that speaks to a server may answer in place of a value.
+-- The errors of a call to a server.
 use Rattle.std.specs.Prelude.{ℕ, List}
 use Rattle.std.specs.declared.io.ErrorKind.{ErrorKind}
 use Rattle.bstr.specs.Owned.{bstring_bytes}
@@ -7,7 +7,7 @@ use Rattle.gixp_capabilities.specs.declared.client.Error.TheVariants.{Io, Read, 
 use Rattle.gixp_packetline.specs.Pieces.{Refusal, io, memory}
 use Rattle.gixp_packetline.specs.Reading.{refusal_of}
 
--- a refusal, as it is compared
+-- an error, as contracts compare it
 pub data ClientRefusal : Type 0 where
   failed : ErrorKind → ClientRefusal
   reader : Refusal → ClientRefusal
@@ -17,7 +17,7 @@ pub data ClientRefusal : Type 0 where
   no_null_byte : ClientRefusal
   no_memory : ClientRefusal
 
--- the refusal that an error is
+-- an error, as contracts compare it
 abbrev pub client_refusal : Error → ClientRefusal
 client_refusal (Io kind) = failed kind
 client_refusal (Read e) = reader (refusal_of e)
@@ -27,7 +27,7 @@ client_refusal (UnsupportedProtocolVersion line) = unsupported_version (bstring_
 client_refusal MissingDelimitingNullByte = no_null_byte
 client_refusal Memory = no_memory
 
--- a reader's refusal, as one that speaks to a server answers it
+-- the error of a call to a server that passes on a reader's error
 abbrev pub client_from : Refusal → ClientRefusal
 client_from (io kind) = failed kind
 client_from memory = no_memory

@@ -1,4 +1,4 @@
-//! What a server says that it can do.
+//! Capability lists of a server.
 ghost use Rattle.std.specs.Prelude.{◌≡◌, [], ◌∷◌, ◌++◌, map, IfOk, OnOk, OnErr, MatchResult};
 ghost use Rattle.std.specs.Io.BufRead.{strip_last};
 ghost use Rattle.std.specs.List.{list_any};
@@ -15,13 +15,13 @@ use bstr::{BStr, BString, ByteSlice};
 use std::alloc::{AllocError, Global};
 use std::marker::Model;
 
-/// What a server says that it can do: a list of names, some of which have a value (gitprotocol-pack,
-/// "Reference Discovery"; gitprotocol-v2, "Capability Advertisement").
+/// The capabilities of a server: a list of names, some of which have a value (gitprotocol-pack, "Reference Discovery";
+/// gitprotocol-v2, "Capability Advertisement").
 ///
-/// A name may come more than once.
+/// A name may occur more than once.
 #[derive(Debug, Drop)]
 pub struct Capabilities {
-    // Each one's name, with `=` and its value where it has one.
+    // Each has a name, and `=` with a value if it has one.
     lines: Vec<BString>,
 }
 
@@ -48,7 +48,7 @@ impl Clone for Capabilities {
 }
 
 impl Capabilities {
-    /// No capabilities.
+    /// An empty list.
     pub fn empty(alloc: Global) -> Capabilities
         ensures { result ≡ [] }
     {
@@ -57,14 +57,12 @@ impl Capabilities {
         }
     }
 
-    /// The capabilities of a first ref line, which come after its first NUL, with blanks between
-    /// them, and the place of that NUL (gitprotocol-pack, "Reference Discovery").
-    ///
-    /// One LF at the line's end is no part of them.
+    /// The capabilities of the first ref line, and the offset of its first NUL. They follow this NUL, separated by
+    /// blanks (gitprotocol-pack, "Reference Discovery"). One LF at the end of the line is ignored.
     ///
     /// # Errors
     ///
-    /// `MissingDelimitingNullByte` where there is no NUL, and else `Memory`.
+    /// `MissingDelimitingNullByte` where the line has no NUL; otherwise only `Memory`.
     pub fn from_bytes(alloc: Global, bytes: &[u8]) -> Result<(Capabilities, usize), client::Error>
         ensures { IsOfLine (capabilities_of_line bytes.now) result }
     {
@@ -78,13 +76,12 @@ impl Capabilities {
         }
     }
 
-    /// The capabilities of lines, one a line (gitprotocol-v2, "Capability Advertisement").
-    ///
-    /// One LF at a line's end is no part of it. An empty line is a capability with an empty name.
+    /// The capabilities of these lines, one on each line (gitprotocol-v2, "Capability Advertisement"). One LF at the
+    /// end of a line is ignored. An empty line is a capability with an empty name.
     ///
     /// # Errors
     ///
-    /// `Memory` alone.
+    /// Only `Memory`.
     pub fn from_lines(alloc: Global, lines: &[BString]) -> Result<Capabilities, client::Error>
         ensures { MatchResult result (λ found. found ≡ capabilities_of_lines (map bstring_bytes lines.now)) (λ e. e ≡ Memory) }
     {
@@ -97,7 +94,7 @@ impl Capabilities {
         Ok(found)
     }
 
-    /// One capability after the other, in their order.
+    /// Iterates over the capabilities in their order.
     pub fn iter(&self) -> CapabilityIter<'_>
         ensures { capabilities_left result ≡ self.now }
     {
@@ -106,7 +103,7 @@ impl Capabilities {
         }
     }
 
-    /// Whether there is a capability of this name.
+    /// Whether the list has a capability of this name.
     pub fn contains(&self, name: &[u8]) -> bool
         ensures { result ≡ has_named name.now self.now }
     {
@@ -122,11 +119,11 @@ impl Capabilities {
             .find(|capability| capability.name.as_bytes() == name)
     }
 
-    /// Appends the capability that a line stands for, without one LF at its end.
+    /// Appends the capability of a line. One LF at its end is ignored.
     ///
     /// # Errors
     ///
-    /// An allocation failed. Nothing was changed.
+    /// An allocation failed. The list is unchanged.
     pub fn push_line(&mut self, line: &[u8]) -> Result<(), AllocError>
         ensures ok { OnOk result (self.new ≡ self.old ++ capability_of_line line.now ∷ []) }
         ensures err { OnErr result (self.new ≡ self.old) }
@@ -134,7 +131,7 @@ impl Capabilities {
         self.push(without_line_end(line))
     }
 
-    // Appends the capability that a text stands for. Nothing changes where an allocation fails.
+    // Appends the capability of this text. If an allocation fails, nothing changes.
     fn push(&mut self, text: &[u8]) -> Result<(), AllocError>
         ensures ok { OnOk result (self.new ≡ self.old ++ capability_of text.now ∷ []) }
         ensures err { OnErr result (self.new ≡ self.old) }
@@ -144,7 +141,7 @@ impl Capabilities {
         Ok(())
     }
 
-    // Appends the capabilities that stand in a text with blanks between them.
+    // Appends the capabilities of a text, which are separated by blanks.
     fn push_words(&mut self, text: &[u8]) -> Result<(), AllocError>
         ensures { OnOk result (self.new ≡ self.old ++ capabilities_of_words text.now) }
     {
@@ -160,7 +157,6 @@ impl Capabilities {
     }
 }
 
-// The line without one LF at its end.
 fn without_line_end(line: &[u8]) -> &[u8]
     ensures { result.now ≡ strip_last 10 line.now }
 {
@@ -170,7 +166,7 @@ fn without_line_end(line: &[u8]) -> &[u8]
     }
 }
 
-/// A capability of a server, lent from a list of them.
+/// A capability of a server, borrowed from a list.
 #[derive(Clone, Copy, Debug)]
 pub struct Capability<'a> {
     name: BStr<'a>,
@@ -178,21 +174,25 @@ pub struct Capability<'a> {
 }
 
 impl<'a> Capability<'a> {
-    /// The name: what comes before the first `=`.
+    /// The name: the text before the first `=`.
     pub fn name(&self) -> BStr<'a>
         ensures { bstr_bytes result ≡ (capability_value self.now).name }
     {
         self.name
     }
 
-    /// The value: what comes after the first `=`, if there is one.
+    /// The value: the text after the first `=`, if there is one.
     pub fn value(&self) -> Option<BStr<'a>>
         ensures { option_map bstr_bytes result ≡ (capability_value self.now).value }
     {
         self.value
     }
 
-    /// The pieces of the value between its blanks, the empty ones too, if there is a value.
+    /// The pieces of the value between blanks, empty ones included. `None` without a value.
+    ///
+    /// # Errors
+    ///
+    /// An allocation failed.
     pub fn values(&self, alloc: Global) -> Result<Option<Vec<BStr<'a>>>, AllocError>
         ensures { IfOk result (λ found. option_map (λ v. map bstr_bytes v.items) found ≡ values_of (capability_value self.now).value) }
     {
@@ -202,7 +202,7 @@ impl<'a> Capability<'a> {
         }
     }
 
-    /// Whether this is one of the pieces of the value between its blanks; none without a value.
+    /// Whether `word` is one of the pieces of the value between blanks. `None` without a value.
     pub fn supports(&self, word: &[u8]) -> Option<bool>
         ensures { result ≡ supports_word word.now (capability_value self.now).value }
     {
@@ -213,7 +213,7 @@ impl<'a> Capability<'a> {
     }
 }
 
-// The pieces of a text between its blanks.
+// The pieces of a text between blanks.
 fn words<'a>(alloc: Global, text: &'a [u8]) -> Result<Vec<BStr<'a>>, AllocError>
     ensures { IfOk result (λ found. map bstr_bytes found.items ≡ words_of text.now) }
 {
@@ -222,14 +222,13 @@ fn words<'a>(alloc: Global, text: &'a [u8]) -> Result<Vec<BStr<'a>>, AllocError>
         .collect(alloc)
 }
 
-// Whether a word is among the pieces of a text between its blanks.
+// Whether `word` is one of the pieces of a text between blanks.
 fn has_word(text: &[u8], word: &[u8]) -> bool
     ensures { result ≡ list_any (λ w. is_text w word.now) (words_of text.now) }
 {
     text.split(|byte| *byte == b' ').any(|piece| piece == word)
 }
 
-// The capability that a text stands for.
 fn capability_in(text: &[u8]) -> Capability<'_>
     ensures { capability_value result ≡ capability_of text.now }
 {
@@ -245,7 +244,7 @@ fn capability_in(text: &[u8]) -> Capability<'_>
     }
 }
 
-/// The capabilities of a list that are still to come, in their order.
+/// An iterator over the capabilities of a list, in their order.
 #[derive(Clone, Copy, Debug)]
 pub struct CapabilityIter<'a> {
     lines: &'a [BString],

@@ -1,4 +1,4 @@
-//! Why a call that speaks to a server is refused.
+//! Why a call to a server fails.
 ghost use Rattle.std.specs.Prelude.{◌≡◌};
 
 use bstr::{BStr, BString};
@@ -7,30 +7,29 @@ use std::alloc::{AllocError, AllocFailed};
 use std::io::ErrorKind;
 use thiserror::Error as DeriveError;
 
-/// Why a call that speaks to a server is refused.
+/// Why a call to a server fails.
 ///
-/// After `LineTooLong` nothing was written. After a failed write nothing is said of what went out,
-/// and every later request over the same connection returns the same `Io`.
+/// After `LineTooLong` nothing was written. After a failed write it is unknown which bytes were sent, and every later
+/// request on the same connection returns the same `Io`.
 #[derive(Debug, Drop, DeriveError)]
 pub enum Error {
     /// A read or write failed with this kind, or the stream ended (`UnexpectedEof`).
     #[error("Io")]
     Io(ErrorKind),
-    /// The reader was refused otherwise than by a failed read or an allocation failure.
+    /// The reader failed, but not by an I/O error or an allocation failure.
     #[error("Read")]
     Read(read::Error),
     /// A line doesn't fit into a packet (gitprotocol-common, "pkt-line Format").
     #[error("LineTooLong")]
     LineTooLong,
-    /// This transport takes no account.
+    /// This transport doesn't support authentication.
     #[error("AuthenticationUnsupported")]
     AuthenticationUnsupported,
-    /// The server names a version other than 1 and 2, in this line without the white space at its
-    /// end (gitprotocol-pack, "Extra Parameters").
+    /// The server named a version other than 1 and 2 in this line, here without the white space at its end
+    /// (gitprotocol-pack, "Extra Parameters").
     #[error("UnsupportedProtocolVersion")]
     UnsupportedProtocolVersion(BString),
-    /// The first ref line has no NUL in front of the capabilities (gitprotocol-pack, "Reference
-    /// Discovery").
+    /// The first ref line has no NUL before the capabilities (gitprotocol-pack, "Reference Discovery").
     #[error("MissingDelimitingNullByte")]
     MissingDelimitingNullByte,
     /// An allocation failed.

@@ -1,4 +1,4 @@
-//! What a server says that it can do, and why a call that speaks to it is refused.
+//! The capabilities of a server, and the errors of calls to it.
 #![tactic(auto)]
 
 mod capabilities;

@@ -1,11 +1,11 @@
-//! Texts round a separator.
+//! Texts with a separator.
 ghost use Rattle.std.specs.Prelude.{◌≡◌};
 ghost use Rattle.std.specs.Option.{option_copied};
 ghost use Rattle.gixp_capabilities.specs.Cut.{cut};
 
 use bstr::ByteSlice;
 
-/// What comes before the first such byte, and what comes after it; all of the text where there is none.
+/// The text before the first such byte, and the text after it. `None` and the whole text where the byte doesn't occur.
 #[inline(always)]
 pub fn cut(text: &[u8], byte: u8) -> (&[u8], Option<&[u8]>)
     ensures { cut byte text.now ≡ (result.0.now, option_copied result.1) }

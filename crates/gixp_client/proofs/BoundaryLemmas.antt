@@ -1,4 +1,4 @@
--- Ids and the set of them.
+-- A list of ids and their set.
 use Rattle.std.proofs.Common.{◌≡◌, true, ◌∙◌}
 use Rattle.std.specs.Prelude.{◌||◌}
 use Rattle.std.specs.BTreeSet.{BTreeSet, Updates, contains}
@@ -7,7 +7,6 @@ use Rattle.gixp_hash.specs.ObjectId.{id_cmp}
 use Rattle.gixp_hash.specs.declared.object_id.ObjectId.{ObjectId}
 use Rattle.gixp_client.proofs.ChangeLemmas.{cond_or}
 
--- the set with an id more
 pub id_added : (old new : BTreeSet ObjectId) (id q : ObjectId) → Updates id_cmp old new id true
     → contains id_cmp new q ≡ (eq_by_cmp id_cmp id q || contains id_cmp old q)
 id_added old new id q u = u.0 q ∙ cond_or (eq_by_cmp id_cmp id q) (contains id_cmp old q)

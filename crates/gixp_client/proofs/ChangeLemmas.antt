@@ -1,4 +1,4 @@
--- The names that mappings go to, and the set of them.
+-- The local names of mappings, and their set.
 use Rattle.std.proofs.Common.{◌≡◌, ℕ, Bool, true, false, cond, List, refl, ap, ◌∙◌}
 use Rattle.std.specs.Prelude.{◌||◌}
 use Rattle.std.specs.Borrow.{Bor}
@@ -9,12 +9,10 @@ use Rattle.std.specs.Cmp.Lexicographic.{slice_cmp}
 use Rattle.std.proofs.lemmas.Map.Text.{is_eq-slice_cmp}
 use Rattle.gixp_client.specs.Changes.{has_key}
 
--- a choice of a test that holds
 pub cond_or : (b c : Bool) → cond b true c ≡ (b || c)
 cond_or true c = refl
 cond_or false c = refl
 
--- the set with a name more
 pub name_added : (keys new : BTreeSet (Bor (List ℕ))) (k : Bor (List ℕ)) (text name : List ℕ)
     → Updates (λ (x y : Bor (List ℕ)). slice_cmp nat_cmp x.now y.now) keys new k true → k.now ≡ text
     → has_key new name ≡ (bytes_eq text name || has_key keys name)

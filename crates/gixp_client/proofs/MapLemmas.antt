@@ -1,4 +1,4 @@
--- Which refs a session lists, and which its ref maps are made of, by its handshake.
+-- The refs that a session lists, and those from which it makes a ref map.
 use Rattle.std.proofs.Common.{rules, ◌≡◌, ◌≢◌, ◌⊎◌, Bool, true, List, Option, Some, None, Result, Ok, Err, subst, sym, ap, ◌∙◌, inl, inr}
 use Rattle.std.specs.Prelude.{Vec, unwrap_or}
 use Rattle.std.specs.declared.alloc.Global.{Global}
@@ -28,12 +28,11 @@ use Rattle.gixp_client.specs.declared.state.State.{State}
 use Rattle.gixp_client.specs.ClientMaps.{MapsRefsHere, ListsForMap, listing_for}
 use Rattle.gixp_client.specs.declared.request.Request.{Request}
 
--- where a session stands behind a ref map
 pub state_behind_map : (b b' : Bool) (version : Protocol) (e e' : Error) (s : State) → s ≡ behind_map b version e → b ≡ b' → e ≡ e'
     → s ≡ behind_map b' version e'
 state_behind_map b b' version e e' s h k l = h ∙ (ap (λ (x : Bool). behind_map x version e) k ∙ ap (behind_map b' version) l)
 
--- all refs were listed, or weren't, by git's table and this name
+-- listing without prefixes, with git's table and this agent
 pub as_lists : (table : TableValue) (agent name : FeatureValue) (caps : List CapabilityValue) (l : Listing) (plain : Bool)
     (old new : Reading) (r r' : Result (Vec Ref Global) ListError) → table ≡ git_table → agent ≡ name
     → l ≡ listing table None caps agent → r ≡ r' → Lists l plain old new r
@@ -44,23 +43,22 @@ as_lists table agent name caps l plain old new r r' t a e f h =
     (subst (λ (x : Listing). Lists x plain old new r') e
     (subst (λ (x : Result (Vec Ref Global) ListError). Lists l plain old new x) f h)))
 
--- why a list is refused, by where it ends
+-- the error of a list depends only on where the list ends
 pub refused_by : (listed : Result (Vec Ref Global) ListError) (b b' : Bool) (e : Error) → Err e ≡ whole_refs listed b → b ≡ b'
     → whole_refs listed b' ≡ Err e
 refused_by listed b b' e h k = ap (whole_refs listed) (sym k) ∙ sym h
 
--- why there is no ref map, by whether its refs are whole
+-- the error of a ref map depends only on whether its refs are complete
 pub unmapped_by : (made : Result RefMap MapError) (b : Bool) (here here' : Bool) (stopped : Option MessageKind) (e : Error)
     → Err e ≡ whole_map made b → b ≡ are_whole here stopped → here ≡ here' → whole_map made (are_whole here' stopped) ≡ Err e
 unmapped_by made b here here' stopped e h k l =
     ap (λ (x : Bool). whole_map made (are_whole x stopped)) (sym l) ∙ (ap (whole_map made) (sym k) ∙ sym h)
 
--- its refs are whole
 pub whole_by : (b : Bool) (here here' : Bool) (stopped : Option MessageKind) → b ≡ true → b ≡ are_whole here stopped → here ≡ here'
     → are_whole here' stopped ≡ true
 whole_by b here here' stopped h k l = ap (λ (x : Bool). are_whole x stopped) (sym l) ∙ (sym k ∙ h)
 
--- by what was prepared of these refs
+-- if the session has refs, the ref map is made from them
 pub made_of_refs : (table : TableValue) (agent : FeatureValue) (context : Context) (caps : List CapabilityValue) (refs : Vec Ref Global)
     (plain : Bool) (old new : Reading) (r : Result RefMap MapError) (prepared : Result ObtainRefMap MapError)
     → PreparesBy (Some refs) table true agent context caps prepared → ObtainsBy prepared plain old new r
@@ -71,7 +69,7 @@ made_of_refs table agent context caps refs plain old new r (Ok (LsRefsCommand co
 made_of_refs table agent context caps refs plain old new r (Err e) p o =
     (o.0, subst (λ (x : Result RefMap MapError). MakesMap caps context refs.items x) (sym o.1) p)
 
--- and by that of none
+-- if the session has none, the server lists them
 pub made_of_none : (table : TableValue) (agent : FeatureValue) (context : Context) (shaken : Handshake) (plain : Bool)
     (old new : Reading) (r : Result RefMap MapError) (prepared : Result ObtainRefMap MapError)
     → PreparesBy None table true agent context shaken.capabilities prepared → ObtainsBy prepared plain old new r
@@ -103,7 +101,7 @@ lists_for_map request agent shaken plain old new r e m = record {
       m.obtains.prepared) e m.obtains.prepares) m.obtains.obtains;
 }
 
--- the refs that are lent, by whether refs were here
+-- the refs that `Session::refs` returns, by whether the session had refs
 pub gives_by : (agent : FeatureValue) (shaken : Handshake) (plain : Bool) (old new : Reading) (kept : Handshake) (found : Vec Ref Global)
     (refs : List Ref) (here : Option (Vec Ref Global)) → shaken.refs ≡ here
     → ((v : Vec Ref Global) → shaken.refs ≡ Some v → kept ≡ shaken)

@@ -26,7 +26,7 @@ use Rattle.gixp_client.specs.declared.name.ClientName.{ClientName}
 use Rattle.gixp_client.specs.declared.request.Request.{Request}
 use Rattle.gixp_client.specs.declared.watched.Watched.{Watched}
 
--- a handshake, a ref map of it and a fetch of what is mapped, with what the law promises
+-- a handshake, a ref map and a fetch of the mapped refs, with the promise of the law
 pub one_run : {N I A C P X : Type 0} (parties : Parties (Watched N) I A ShallowMemory C P X) (map_of : Watched N → RefMap)
     (knows : Watched N → Knowledge)
     → ((call : FetchCall) (context : Context) (start : Reading) (made : RefMap) (old : World (Watched N) I ShallowMemory C)
@@ -86,11 +86,11 @@ nothing_either : (has : Bool) → (if has then own_features None else []) ≡ []
 nothing_either true = refl
 nothing_either false = refl
 
--- a client without a session id says nothing of itself beside its name
+-- without a session id a client sends no feature except `agent`
 nothing_more : (name : ClientName) (caps : List CapabilityValue) → name.session_id ≡ None → id_features caps name.session_id ≡ []
 nothing_more name caps i = ap (id_features caps) i ∙ nothing_either (has_named (codes "session-id") caps)
 
--- the same by the name of the client, which the session holds
+-- the same with the agent that the session stores
 pub named_run : {N I A C P X : Type 0} (parties : Parties (Watched N) I A ShallowMemory C P X) (map_of : Watched N → RefMap)
     (knows : Watched N → Knowledge)
     → ((parameters : List Parameter) (agent : FeatureValue) (more : List FeatureValue) (request : Request)

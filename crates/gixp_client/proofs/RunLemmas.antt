@@ -1,4 +1,4 @@
--- What a session hands to the calls below.
+-- The arguments that a session passes to the lower calls.
 use Rattle.std.proofs.Common.{◌≡◌, Bool, true, false, List, [], ◌∷◌, Option, Some, None, Result, Ok, Err, Vec, inl, refl, subst, sym, ap, ◌∙◌}
 use Rattle.std.specs.declared.alloc.Global.{Global}
 use Rattle.gixp_response.specs.Answer.{update_items}
@@ -39,7 +39,7 @@ use Rattle.gixp_client.specs.declared.state.State.{State}
 use Rattle.gixp_client.specs.declared.watched.Watched.{Watched}
 use Rattle.gixp_packetline.specs.declared.protocol.Protocol.{Protocol}
 
--- a fetch with these parts is one with those of the session
+-- a fetch with equal arguments is the session's fetch
 pub as_session : {N I S A C P X : Type 0} (parties : Parties N I A S C P X) (table : TableValue) (agent agent' : FeatureValue)
     (more more' : List FeatureValue) (shaken : Handshake) (request : Request) (old : World N I S C)
     (came : Result (Option Outcome) (FetchError A X)) (new : World N I S C) (progress : P)
@@ -57,12 +57,12 @@ as_session parties table agent agent' more more' shaken request old came new pro
       request.rejects_shallow) old came new progress) a f));
 }
 
--- so is one for which there was no room
+-- a fetch that failed to allocate its arguments is a fetch, too
 pub unbegun : {N I S A C P X : Type 0} (parties : Parties N I A S C P X) (call : FetchCall) (world : World N I S C) (progress : P)
     → CarriesFetch parties call world (Err Memory) world progress
 unbegun parties call world progress = record { fetched = inl (unprepared (no_room refl) refl) }
 
--- so is a ref map
+-- a ref map with equal arguments is the session's ref map
 pub as_obtained : (table table' : TableValue) (agent name : FeatureValue) (context : Context) (h : Handshake) (plain : Bool)
     (old new : Reading) (r r' : Result RefMap MapError) → table ≡ table' → agent ≡ name → r ≡ r'
     → Obtains table agent context h plain old new r → Obtains table' name context h plain old new r'
@@ -71,7 +71,6 @@ as_obtained table table' agent name context h plain old new r r' t a e o =
     (subst (λ (x : FeatureValue). Obtains table x context h plain old new r') a
     (subst (λ (x : Result RefMap MapError). Obtains table agent context h plain old new x) e o))
 
--- what a negotiation knows, by its parts
 pub same_knowledge : (t u : Tags) (s r : Shallow) (o p e f : Objects) (l m : LocalRefs) → t ≡ u → s ≡ r → o ≡ p → e ≡ f → l ≡ m
     → (let k : Knowledge = record { tags = t; shallow = s; commits = o; existing = e; refs = l } in k)
     ≡ record { tags = u; shallow = r; commits = p; existing = f; refs = m }
@@ -82,7 +81,7 @@ same_knowledge t u s r o p e f l m a b c d g =
     ∙ ap (λ (x : Objects). record { tags = u; shallow = r; commits = p; existing = x; refs = l }) d
     ∙ ap (λ (x : LocalRefs). record { tags = u; shallow = r; commits = p; existing = f; refs = x }) g
 
--- an update, looked at by two tests of the boundary that say the same
+-- equal tests of the boundary find the same unknown id in an update
 unknown_alike : (f g : ObjectId → Bool) → ((id : ObjectId) → f id ≡ g id) → (update : ShallowUpdate)
     → unknown_id f update ≡ unknown_id g update
 unknown_alike f g same (ShallowId id) = refl
@@ -103,7 +102,7 @@ alone_alike f g same (Ok None) None = refl
 alone_alike f g same (Ok (Some outcome)) None =
     ap (unless_taken outcome) (unshallow_alike f g same outcome.last_response.shallow_updates)
 
--- what is told of a fetch, by two tests of the boundary that say the same
+-- equal tests of the boundary lead to the same result of a fetch
 tells_alike : {N A X : Type 0} (f g : ObjectId → Bool) (first last : Watched N) (came : Result (Option Outcome) (FetchError A X))
     (told told' : Result (Option Outcome) Error) → ((id : ObjectId) → f id ≡ g id) → told ≡ told'
     → TellsKnown f first last came told → TellsKnown g first last came told'
@@ -115,7 +114,7 @@ tells_alike f g first last came told told' same e t = record {
   tells = sym e ∙ t.tells ∙ alone_alike f g same t.owned last.unknown;
 }
 
--- a fetch from this boundary, as it is told
+-- a fetch that starts from this boundary, and its result
 pub in_session : {N I A C P X : Type 0} (parties : Parties (Watched N) I A ShallowMemory C P X) (map_of : Watched N → RefMap)
     (knows : Watched N → Knowledge) (shaken : Handshake) (request : Request) (made : RefMap) (known : Knowledge)
     (is_in : ObjectId → Bool) (boundary boundary' : List ObjectId) (old : Reading) (consumer : C)
@@ -149,7 +148,7 @@ in_session parties map_of knows shaken request made known is_in boundary boundar
       };
     }
 
--- the same of one that was refused, and where the session stands after it
+-- the same for a failed fetch, and the state after it
 pub refused_in_session : {N I A C P X : Type 0} (parties : Parties (Watched N) I A ShallowMemory C P X) (map_of : Watched N → RefMap)
     (knows : Watched N → Knowledge) (shaken : Handshake) (request : Request) (made : RefMap) (known : Knowledge)
     (is_in : ObjectId → Bool) (boundary boundary' : List ObjectId) (old : Reading) (consumer : C)
@@ -172,7 +171,7 @@ refused_in_session parties map_of knows shaken request made known is_in boundary
       k,
     )
 
--- the call of a session by a copy of the changes of the boundary that came with the handshake
+-- a copy of the shallow updates of the handshake leads to the same call
 pub same_call : (shaken : Handshake) (told : Option (Vec ShallowUpdate Global)) (agent : FeatureValue) (more : List FeatureValue)
     (request : Request) → update_items told ≡ update_items shaken.v1_shallow_updates
     → session_call (record shaken { v1_shallow_updates = told }) agent more request ≡ session_call shaken agent more request
@@ -180,7 +179,7 @@ same_call shaken told agent more request e =
     ap (λ (x : List ShallowUpdate). let call = session_call shaken agent more request in
     record call { wishes = record call.wishes { told = x } }) e
 
--- a fetch by the same call, and where the session stands after it
+-- a fetch with the same call, and the state after it
 pub carried_by : {N I S A C P X : Type 0} (parties : Parties (Watched N) I A S C P X) (map_of : Watched N → RefMap)
     (knows : Watched N → Knowledge) (made : RefMap) (known : Knowledge) (is_in : ObjectId → Bool) (old : Reading) (store : S)
     (consumer : C) (told : Result (Option Outcome) Error) (new : Reading) (store' : S) (consumer' : C) (call call' : FetchCall)
@@ -196,7 +195,7 @@ carried_by parties map_of knows made known is_in old store consumer told new sto
     × (state ≡ behind_fetch f.last.negotiated version told) × (f.last.negotiated ≡ false → kept ≡ shaken)) e
     (f.0, s ∙ ap (λ (b : Bool). behind_fetch b version told) (sym f.1), λ h. k (sym f.1 ∙ h))
 
--- where no round was negotiated, the handshake is what it was
+-- without a negotiated round the handshake is unchanged
 pub kept_whole : (shaken now : Handshake) (told first left : Option (Vec ShallowUpdate Global)) (is_negotiated : Bool)
     → now ≡ record shaken { v1_shallow_updates = told } → first ≡ shaken.v1_shallow_updates
     → left ≡ (if is_negotiated then None else first) → is_negotiated ≡ false → record now { v1_shallow_updates = left } ≡ shaken

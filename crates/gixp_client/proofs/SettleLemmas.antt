@@ -1,4 +1,4 @@
--- What a session makes of a fetch: its outcome, or its refusal, unless the server reported an error beside it.
+-- The result of a session's fetch, unless the server reported an error.
 use Rattle.std.proofs.Common.{rules, ◌≡◌, ◌⊎◌, ◌∙◌, refl, sym, subst, ap, inl, inr, Bool, true, false, List, [], ◌∷◌, Option, Some, None, Result, Ok, Err}
 use Rattle.std.specs.Prelude.{IfOk, ◌&&◌, if◌then◌else◌}
 use Rattle.std.specs.Option.{option_map_or}
@@ -16,18 +16,18 @@ use Rattle.gixp_client.specs.declared.state.State.{State}
 use Rattle.gixp_client.specs.declared.state.State.TheVariants.{Ended}
 use Rattle.gixp_client.specs.SessionStates.{behind_outcome, behind_fetch, IsReport, IsReportIn, IsRefusedFetch}
 
--- one with an outcome wasn't reported
+-- a fetch that succeeded wasn't ended by a reported error
 pub came_of : (A B C D : Type 0) (came result : Result (Option Outcome) Error) (o : Option Outcome)
     → (A × (result ≡ came) × B) ⊎ (C × IsReportIn result × D) → result ≡ Ok o → came ≡ Ok o
 came_of A B C D came result o (inl h) e = sym h.1 ∙ e
 came_of A B C D came result o (inr h) e = absurd (subst IsReportIn e h.1)
 
--- a report in place of this error, or want of memory
+-- the error is a report, or an allocation failure in its place
 pub report_of : (result : Result (Option Outcome) Error) (e : Error) → IsReportIn result → (result ≡ Err e) ⊎ (e ≡ Memory) → IsReport e
 report_of result e h (inl k) = subst IsReportIn k h
 report_of result e h (inr k) = subst IsReport (sym k) tt
 
--- how it was refused, by where the session stood before it was asked what the server reported
+-- how the fetch failed, by the state before the check for reported errors
 pub refused_of : (A C : Type 0) (is_negotiated : Bool) (version : Protocol) (came result : Result (Option Outcome) Error) (e : Error) (s t : State)
     → (A × (result ≡ came) × (t ≡ s)) ⊎ (C × IsReportIn result × (t ≡ Ended)) → (result ≡ Err e) ⊎ (e ≡ Memory)
     → s ≡ behind_fetch is_negotiated version came → IsRefusedFetch is_negotiated version came e t
@@ -35,7 +35,7 @@ refused_of A C is_negotiated version came result e s t (inl h) (inl k) stands = 
 refused_of A C is_negotiated version came result e s t (inl h) (inr k) stands = inl (inr k, h.2 ∙ stands)
 refused_of A C is_negotiated version came result e s t (inr h) k stands = inr (report_of result e h.1 k, h.2)
 
--- where it stands with an outcome
+-- the state after a fetch that succeeded
 pub stands_of : (A C : Type 0) (is_negotiated : Bool) (version : Protocol) (came result : Result (Option Outcome) Error)
     (o : Option Outcome) (s t : State)
     → (A × (result ≡ came) × (t ≡ s)) ⊎ (C × IsReportIn result × (t ≡ Ended)) → result ≡ Ok o
@@ -44,14 +44,14 @@ stands_of A C is_negotiated version came result o s t (inl h) e stands =
     h.2 ∙ stands ∙ ap (behind_fetch is_negotiated version) (sym h.1 ∙ e)
 stands_of A C is_negotiated version came result o s t (inr h) e stands = absurd (subst IsReportIn e h.1)
 
--- an update that takes an id out, by whether the boundary has it
+-- an unshallow update, by whether the boundary has its id
 taken_known : (has : Bool) (known : Bool) (id : ObjectId) (rest : Option ObjectId) (others : Bool) → has ≡ known
     → option_map_or Some (if has then None else Some id) rest ≡ None → (rest ≡ None → others ≡ true)
     → (known && others) ≡ true
 taken_known true known id rest others h e k = subst (λ (x : Bool). (x && others) ≡ true) h (k e)
 taken_known false known id rest others h e k = search (rules, e)
 
--- all that updates take out is in the boundary, where its ids are those of the set
+-- if updates unshallow no unknown id, all their unshallowed ids are in the boundary
 pub all_known : (is_in : ObjectId → Bool) (ids : List ObjectId) → ((id : ObjectId) → is_in id ≡ has_id ids id)
     → (updates : List ShallowUpdate) → unknown_unshallow is_in updates ≡ None → list_all (is_known ids) updates ≡ true
 all_known is_in ids same [] e = refl
@@ -65,7 +65,7 @@ known_all : (is_in : ObjectId → Bool) (ids : List ObjectId) → ((id : ObjectI
 known_all is_in ids same None h = tt
 known_all is_in ids same (Some outcome) h = all_known is_in ids same outcome.last_response.shallow_updates h
 
--- with an outcome, all that its last answer takes out is in the boundary
+-- the last response of a successful fetch unshallows only ids of the boundary
 pub known_of : (A B C D : Type 0) (came result : Result (Option Outcome) Error) (o : Option Outcome) (is_in : ObjectId → Bool)
     (ids : List ObjectId) → (A × (result ≡ came) × B) ⊎ (C × IsReportIn result × D) → result ≡ Ok o
     → ((id : ObjectId) → is_in id ≡ has_id ids id) → IfOk came (TakesKnown is_in) → KnowsAll ids o

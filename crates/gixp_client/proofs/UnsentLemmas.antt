@@ -1,4 +1,4 @@
--- Where no round of a fetch was negotiated, nothing was sent, and nothing of a pack came.
+-- A fetch without a negotiated round sent nothing, and its consumer received nothing.
 use Rattle.std.proofs.Common.{◌≡◌, ◌∙◌, ◌⊎◌, inl, inr, sym, ap, Bool, true, false, List, [], ◌∷◌, Option, Some, None, Result, Ok, Err}
 use Rattle.gixp_packetline.specs.declared.protocol.Protocol.{Protocol}
 use Rattle.gixp_packetline.specs.Reading.{Reading}
@@ -21,13 +21,13 @@ module _ {N I A : Type 0} (m : Manner N I A) (flag : N → Bool)
     (b : ArgumentsValue) → m.goes w s a p r d v t b → flag v ≡ true)
     (keeps : (w : N) (s : Window) (a : ArgumentsValue) (p : Option AnswerValue) (e : NegotiateError A) (v : N) (t : Window)
     (b : ArgumentsValue) → m.fails w s a p e v t b → flag v ≡ flag w) where
-  -- behind a round, and those after it
+  -- the flag stays set after later rounds
   rounds_flagged : (old new : At N I) (ts : List (Turn N I)) → flag old.negotiate ≡ true → Rounds m old ts new
       → flag new.negotiate ≡ true
   rounds_flagged old new [] h e = ap (λ (x : At N I). flag x.negotiate) e ∙ h
   rounds_flagged old new (t ∷ ts) h r = rounds_flagged t.after new ts (sets _ _ _ _ _ _ _ _ _ r.0.negotiated) r.3
 
-  -- where none is flagged, there was none
+  -- if the flag isn't set, there was no round
   none_went : (old new : At N I) (ts : List (Turn N I)) → Rounds m old ts new → flag new.negotiate ≡ false → new ≡ old
   none_went old new [] r h = r
   none_went old new (t ∷ ts) r h =
@@ -64,7 +64,7 @@ module _ {N I A S C P X : Type 0} (parties : Parties N I A S C P X) (flag : N �
     (b : ArgumentsValue) → parties.negotiation_calls.round_fails w s a p e v t b → flag v ≡ flag w) where
   module _ (version : Protocol) (banded : Bool) (wishes : Wishes) (given : ArgumentsValue) (old new : World N I S C) (progress : P)
       (unflagged : flag new.negotiate ≡ false) where
-    -- rounds that came to a pack are flagged
+    -- rounds that lead to a pack set the flag
     packed_flagged : {G : Type 0} (n : N) → new.negotiate ≡ n → flag n ≡ true → G
     packed_flagged n e h = no_both (flag new.negotiate) (ap flag e ∙ h) unflagged
 

@@ -1,4 +1,4 @@
--- What the calls of a client's session do: one handshake, ref maps over it, and fetches.
+-- The calls of a client's session: one handshake, then ref maps and fetches.
 use Rattle.std.specs.Prelude.{◌≡◌, ℕ, Bool, false, List, [], ◌∷◌, map, Option, Some, None, Vec, Result, Ok, Err}
 use Rattle.std.specs.BTreeSet.{contains}
 use Rattle.std.specs.declared.alloc.Global.{Global}
@@ -47,40 +47,40 @@ abbrev pub some_spec : Option Spec → List Spec
 some_spec None = []
 some_spec (Some s) = s ∷ []
 
--- the refspecs of a request, and that of its tags
+-- the refspecs of a request, and the refspec of its tags
 abbrev pub asked_specs : Request → ContextValue
 asked_specs r = record { explicit = map owned_value_of r.refspecs.items; extra = some_spec (tags_asked r.tags) }
 
--- a session is opened by a handshake
+-- `Session::open` performs a handshake for `git-upload-pack`
 pub record OpensSession (parameters : List Parameter) (plain : Bool) (old new : Reading) (shaken : Handshake) : Type 0 where
   pub credentials : List CredentialCall
   pub shakes : CompletesHandshake UploadPack parameters plain old new credentials (Ok shaken)
 
--- all refs are listed, by no prefix, or aren't (gitprotocol-v2, "ls-refs")
+-- the result of listing all refs, without prefixes (gitprotocol-v2, "ls-refs")
 abbrev pub ListsInSession : FeatureValue → Handshake → Bool → Reading → Reading → Result (Vec Ref Global) ListError → Type 0
 ListsInSession agent shaken plain old new r = Lists (listing git_table None shaken.capabilities agent) plain old new r
 
--- the refs that are here, or else those that are listed
+-- the refs that the session has, or else the refs that the server lists
 abbrev pub GivesRefs : FeatureValue → Handshake → Bool → Reading → Option (Vec Ref Global) → List Ref → Type 0
 GivesRefs agent shaken plain old (Some here) refs = refs ≡ here.items
 GivesRefs agent shaken plain old None refs =
     (listed : Vec Ref Global) × (new : Reading) × ListsInSession agent shaken plain old new (Ok listed) × (refs ≡ listed.items)
 
--- the ref map of the refspecs of a request, or why there is none, as it is obtained by the handshake
+-- the result of a ref map by the refspecs of a request, as the handshake obtains it
 pub record MapsInSession (request : Request) (agent : FeatureValue) (shaken : Handshake) (plain : Bool) (old new : Reading)
     (r : Result RefMap MapError) : Type 0 where
   pub context : Context
   pub asked : context_value context ≡ asked_specs request
   pub obtains : Obtains (asked_table request.wants_progress request.uri_protocols) agent context shaken plain old new r
 
--- what came of a fetch, with nothing of the caller's in it
+-- the result of a fetch, without a type of the caller's
 abbrev pub IsToldCame : {A X : Type 0} → Result (Option Outcome) (FetchError A X) → Result (Option Outcome) Error → Type 0
 IsToldCame (Ok o) (Ok t) = t ≡ o
 IsToldCame (Err x) (Err e) = IsToldOf x e
 IsToldCame _ _ = ⊥
 
--- what is told of a fetch that came to this, by a negotiation that notes what the answers take out of this boundary: the first id that
--- isn't in it, where the fetch came and there is one, and else what came
+-- the result of a fetch whose negotiation checks the shallow updates against this boundary: a successful fetch fails with the first
+-- id that the server unshallows though it isn't in the boundary
 pub record TellsKnown {N A X : Type 0} (is_in : ObjectId → Bool) (first last : Watched N) (came : Result (Option Outcome) (FetchError A X))
     (told : Result (Option Outcome) Error) : Type 0 where
   pub watches : (id : ObjectId) → contains id_cmp first.boundary.now id ≡ is_in id
@@ -90,12 +90,11 @@ pub record TellsKnown {N A X : Type 0} (is_in : ObjectId → Bool) (first last :
   pub tells : told ≡ known_alone is_in owned last.unknown
 
 module _ {N I A S C P X : Type 0} (parties : Parties N I A S C P X) where
-  -- a fetch
   pub record CarriesFetch (call : FetchCall) (old : World N I S C) (came : Result (Option Outcome) (FetchError A X)) (new : World N I S C)
       (progress : P) : Type 0 where
     pub fetched : Fetches parties call old came new progress
 
-  -- one that asks some interrupt and tells some progress reporter, with no lock before or after it
+  -- a fetch with some interrupt and some progress reporter, and without a lock before and after it
   pub record HoldsFetch (call : FetchCall) (negotiate : N) (old : Reading) (store : S) (consumer : C)
       (came : Result (Option Outcome) (FetchError A X)) (negotiate' : N) (new : Reading) (store' : S) (consumer' : C) : Type 0 where
     pub interrupt : I
@@ -104,7 +103,7 @@ module _ {N I A S C P X : Type 0} (parties : Parties N I A S C P X) where
     pub carries : CarriesFetch call (unlocked_world negotiate old interrupt store consumer) came
         (unlocked_world negotiate' new interrupt' store' consumer') progress
 
-  -- one of which this came, with nothing of the caller's in it
+  -- the same with the result that the caller gets
   pub record HoldsAndTells (call : FetchCall) (negotiate : N) (old : Reading) (store : S) (consumer : C)
       (told : Result (Option Outcome) Error) (negotiate' : N) (new : Reading) (store' : S) (consumer' : C) : Type 0 where
     pub came : Result (Option Outcome) (FetchError A X)
@@ -113,7 +112,7 @@ module _ {N I A S C P X : Type 0} (parties : Parties N I A S C P X) where
 
 module _ {N I S A C P X : Type 0} (parties : Parties (Watched N) I A S C P X) (map_of : Watched N → RefMap)
     (knows : Watched N → Knowledge) where
-  -- one whose negotiation is over this map, knows this beside it, and notes what is taken out of this boundary
+  -- a fetch whose negotiation is over this map, has this knowledge, and checks the shallow updates against this boundary
   pub record FetchesMap (call : FetchCall) (made : RefMap) (known : Knowledge) (is_in : ObjectId → Bool) (old : Reading) (store : S)
       (consumer : C) (told : Result (Option Outcome) Error) (new : Reading) (store' : S) (consumer' : C) : Type 0 where
     pub first : Watched N
@@ -123,22 +122,22 @@ module _ {N I S A C P X : Type 0} (parties : Parties (Watched N) I A S C P X) (m
     pub came : Result (Option Outcome) (FetchError A X)
     pub tells : TellsKnown is_in first last came told
     pub holds : HoldsFetch parties call first old store consumer came last new store' consumer'
-    -- nothing was sent, and nothing of a pack came, where no round was negotiated
+    -- without a negotiated round nothing was sent, and the consumer received nothing
     pub unsent : last.negotiated ≡ false → (new ≡ old) × (consumer' ≡ consumer)
 
--- what a fetch of a session is handed in
+-- the arguments of a session's fetch
 abbrev pub session_call : Handshake → FeatureValue → List FeatureValue → Request → FetchCall
 session_call shaken agent more request = call_of (asked_table request.wants_progress request.uri_protocols) shaken agent more
     request.tags (shallow_value request.shallow) request.rejects_shallow
 
--- what its negotiation knows
+-- the knowledge of its negotiation
 abbrev pub session_knowledge : Request → Objects → LocalRefs → Knowledge
 session_knowledge request objects refs =
     record { tags = request.tags; shallow = request.shallow; commits = objects; existing = objects; refs = refs }
 
 module _ {N I A C P X : Type 0} (parties : Parties (Watched N) I A ShallowMemory C P X) (map_of : Watched N → RefMap)
     (knows : Watched N → Knowledge) where
-  -- a fetch of a session, from this boundary to that one
+  -- a session's fetch, which leads from one shallow boundary to another
   pub record FetchesInSession (call : FetchCall) (made : RefMap) (known : Knowledge) (boundary boundary' : List ObjectId) (old : Reading)
       (consumer : C) (told : Result (Option Outcome) Error) (new : Reading) (consumer' : C) : Type 0 where
     pub store : ShallowMemory
@@ -147,12 +146,12 @@ module _ {N I A C P X : Type 0} (parties : Parties (Watched N) I A ShallowMemory
     pub after : store'.ids.items ≡ boundary'
     pub fetches : FetchesMap parties map_of knows call made known (has_id boundary) old store consumer told new store' consumer'
 
--- the end, as it is told
+-- the result of `close`
 abbrev pub IsToldEnd : Result (Unit {0}) ClientError → Result (Unit {0}) Error → Type 0
 IsToldEnd (Ok u) r = r ≡ Ok tt
 IsToldEnd (Err e) r = r ≡ Err (of_request e)
 
--- a session is closed: the end is told where it is at a stop, and nothing is done otherwise
+-- `close` sends the end of the session in the state `AtStop`, and does nothing in the others
 abbrev pub ClosesSession : State → Reading → Reading → Result (Unit {0}) Error → Type 0
 ClosesSession AtStop old new r = (ended : Result (Unit {0}) ClientError) × EndsInteraction old new ended × IsToldEnd ended r
 ClosesSession Ended old new r = (new ≡ old) × (r ≡ Ok tt)

@@ -1,4 +1,4 @@
--- Why a call of a client's session is refused, by the errors of the calls below.
+-- The error of a session's call, by the error of the lower call.
 use Rattle.std.specs.Prelude.{◌≡◌, ◌⊎◌, ℕ, ⊤, List, codes, Option, Some, None, String, string_bytes}
 use Rattle.std.specs.declared.io.ErrorKind.{ErrorKind}
 use Rattle.std.specs.declared.alloc.Global.{Global}
@@ -31,7 +31,7 @@ use Rattle.gixp_fetch.specs.declared.error.Error.TheVariants as fetch
 use Rattle.gixp_client.specs.declared.error.Error.{Error}
 use Rattle.gixp_client.specs.declared.error.Error.TheVariants.{Handshake, Refs, UnsupportedListing, UnknownObjectFormat, Conflicts, Request, Answer, Unnegotiated, Objects, LocalRefs, MissingFeature, ShallowServer, Pack, Rest, Reported, Over, Memory}
 
--- the server's own words
+-- the server's message
 abbrev pub said_in : Error → Option (List ℕ)
 said_in (Handshake e) = handshake_message e
 said_in (Refs e) = refs_message e
@@ -42,31 +42,31 @@ said_in (Rest e) = read_message e
 said_in (Reported message) = Some (bstring_bytes message)
 said_in _ = None
 
--- ---- reads and writes that failed
+-- ---- failed reads and writes
 
--- of a call that speaks to the server
+-- the kind in an error of a call to the server
 abbrev pub client_kind : ClientError → Option ErrorKind
 client_kind (client.Io kind) = Some kind
 client_kind (client.Read (read.Io kind)) = Some kind
 client_kind _ = None
 
--- of a reader of refs
+-- the kind in an error of the reader of refs
 abbrev pub parse_kind : ParseError → Option ErrorKind
 parse_kind (parse.Io kind) = Some kind
 parse_kind _ = None
 
--- of a reader of answers
+-- the kind in an error of the reader of responses
 abbrev pub answer_kind : AnswerError → Option ErrorKind
 answer_kind (answer.Io kind) = Some kind
 answer_kind (answer.Transport e) = client_kind e
 answer_kind _ = None
 
--- of a consumer of a pack: what it writes isn't the connection's
+-- the kind in an error of a pack's consumer; a failed write of the consumer isn't the connection's
 abbrev pub pack_kind : PackError → Option ErrorKind
 pack_kind (pack.Read (read.Io kind)) = Some kind
 pack_kind _ = None
 
--- the kind of the read or write that failed
+-- the kind of the failed read or write
 abbrev pub kind_in : Error → Option ErrorKind
 kind_in (Handshake (shake.Transport e)) = client_kind e
 kind_in (Handshake (shake.ParseRefs e)) = parse_kind e
@@ -77,7 +77,7 @@ kind_in (Pack e) = pack_kind e
 kind_in (Rest (read.Io kind)) = Some kind
 kind_in _ = None
 
--- where it happened, in words
+-- the part of the session that failed
 abbrev pub place_of : Error → List ℕ
 place_of (Handshake (shake.ParseRefs e)) = codes "the list of refs"
 place_of (Refs e) = codes "the list of refs"
@@ -88,24 +88,24 @@ place_of (Pack e) = codes "the pack"
 place_of (Rest e) = codes "what comes behind the pack"
 place_of _ = codes "the session"
 
--- ---- the errors of the calls below
+-- ---- errors of the lower calls
 
--- the error of a refused handshake
+-- the error of a failed handshake
 abbrev pub of_shake : ShakeError → Error
 of_shake shake.Memory = Memory
 of_shake e = Handshake e
 
--- of a request
+-- the error of a request that couldn't be sent
 abbrev pub of_request : ClientError → Error
 of_request client.Memory = Memory
 of_request e = Request e
 
--- of a list of refs
+-- the error of a list of refs that couldn't be read
 abbrev pub of_refs : ParseError → Error
 of_refs parse.Memory = Memory
 of_refs e = Refs e
 
--- of refs that weren't listed
+-- the error of `ls-refs`
 abbrev pub of_list : ListError → Error
 of_list (list.Io kind) = Request (client.Io kind)
 of_list (list.Transport e) = of_request e
@@ -113,14 +113,14 @@ of_list (list.Parse e) = of_refs e
 of_list (list.ArgumentValidation e) = UnsupportedListing
 of_list list.Memory = Memory
 
--- of a ref map
+-- the error of a ref map
 abbrev pub of_init : MapError → Error
 of_init (init.UnknownObjectFormat format) = UnknownObjectFormat format
 of_init (init.MappingValidation e) = Conflicts e
 of_init (init.ListRefs e) = of_list e
 of_init init.Memory = Memory
 
--- of a negotiation
+-- the error of a negotiation
 abbrev pub of_negotiation : {A : Type 0} → NegotiateError A → Error
 of_negotiation (negotiation.NegotiationFailed rounds) = Unnegotiated rounds
 of_negotiation (negotiation.LookupCommitInGraph e) = Objects e
@@ -131,16 +131,16 @@ of_negotiation negotiation.PeelToId = LocalRefs refs.Peel
 of_negotiation (negotiation.AlternateRefsAndObjects e) = LocalRefs refs.Iter
 of_negotiation negotiation.Memory = Memory
 
--- of a pack
+-- the error of a pack's consumer
 abbrev pub of_refused_pack : PackError → Error
 of_refused_pack (pack.Read read.Memory) = Memory
 of_refused_pack e = Pack e
 
--- the server doesn't offer this, or an allocation failed
+-- the server doesn't offer this feature, or an allocation failed
 abbrev pub NamesMissing : List ℕ → Error → Type 0
 NamesMissing feature e = ((text : String Global) × (string_bytes text ≡ feature) × (e ≡ MissingFeature text)) ⊎ (e ≡ Memory)
 
--- what is told of a refused fetch: of a consumer's error what that makes of it
+-- the error of a failed fetch; a consumer's error is converted
 abbrev pub IsToldOf : {A X : Type 0} → FetchError A X → Error → Type 0
 IsToldOf (fetch.FetchResponse x) e = e ≡ Answer x
 IsToldOf (fetch.Negotiate x) e = e ≡ of_negotiation x
@@ -154,8 +154,8 @@ IsToldOf (fetch.ConsumePack x) e = ⊤
 IsToldOf (fetch.ReadRemainingBytes x) e = e ≡ Rest x
 IsToldOf fetch.Memory e = e ≡ Memory
 
--- of a call that is refused before anything is sent: the session is over, the server doesn't offer what is asked for, or an allocation
--- failed
+-- the error of a call that failed before anything was sent: the session is over, the server doesn't offer a feature, or an
+-- allocation failed
 abbrev pub IsUnsent : Error → Type 0
 IsUnsent Over = ⊤
 IsUnsent Memory = ⊤

@@ -1,4 +1,4 @@
--- Which refs a ref map of a session is made of (gitprotocol-v2, "ls-refs").
+-- The refs from which a session makes a ref map (gitprotocol-v2, "ls-refs").
 use Rattle.std.specs.Prelude.{◌≡◌, ◌⊎◌, Bool, true, List, Result, Err}
 use Rattle.gixp_packetline.specs.Reading.{Reading}
 use Rattle.gixp_refs.specs.declared.handshake.Ref.{Ref}
@@ -17,7 +17,7 @@ use Rattle.gixp_client.specs.ClientCalls.{asked_specs}
 use Rattle.gixp_client.specs.Tables.{asked_table}
 use Rattle.gixp_client.specs.declared.request.Request.{Request}
 
--- of these refs, and nothing was sent
+-- the ref map is made from the refs that the session has, and nothing was sent
 pub record MapsRefsHere (request : Request) (shaken : Handshake) (refs : List Ref) (old new : Reading)
     (r : Result RefMap MapError) : Type 0 where
   pub context : Context
@@ -25,12 +25,13 @@ pub record MapsRefsHere (request : Request) (shaken : Handshake) (refs : List Re
   pub unsent : new ≡ old
   pub maps : MakesMap shaken.capabilities context refs r
 
--- the command that lists the refs of the prefixes of refspecs
+-- the command `ls-refs` with the prefixes of the refspecs
 abbrev pub listing_for : TableValue → FeatureValue → Handshake → Context → Listing
 listing_for table agent shaken context =
     listing table (prefixes_if true (joined_specs context.fetch_refspecs.items context.extra_refspecs.items)) shaken.capabilities agent
 
--- of the refs of the prefixes of these refspecs, which the server lists for them; or an allocation failed before, and nothing was sent
+-- the ref map is made from the refs that the server lists for the prefixes of these refspecs; or an allocation failed first, and
+-- nothing was sent
 pub record ListsForMap (request : Request) (agent : FeatureValue) (shaken : Handshake) (plain : Bool) (old new : Reading)
     (r : Result RefMap MapError) : Type 0 where
   pub context : Context

@@ -1,4 +1,4 @@
--- A session as one run of the law `headline`: a handshake, the ref map that stands on it, and a fetch whose negotiation is over this map.
+-- A session as one run of the law `headline`: a handshake, a ref map made over it, and a fetch whose negotiation is over this map.
 use Rattle.std.specs.Prelude.{◌≡◌, List, Option, Result}
 use Rattle.gixp_packetline.specs.Reading.{Reading}
 use Rattle.gixp_requests.specs.Feature.{FeatureValue}
@@ -22,7 +22,7 @@ use Rattle.gixp_client.specs.declared.watched.Watched.{Watched}
 
 module _ {N I A C P X : Type 0} (parties : Parties (Watched N) I A ShallowMemory C P X) (map_of : Watched N → RefMap)
     (knows : Watched N → Knowledge) where
-  -- a session from where its transport was first, up to the fetch of which this is told: one run of the law, and what is true of it
+  -- a session from the start of its transport to the result of its fetch is one run of the law, with its promise
   pub record IsOneRun (agent : FeatureValue) (more : List FeatureValue) (request : Request) (start : Reading) (made : RefMap) (known : Knowledge)
       (boundary : List ObjectId) (consumer : C) (told : Result (Option Outcome) Error) (new : Reading) (consumer' : C) : Type 0 where
     pub context : Context

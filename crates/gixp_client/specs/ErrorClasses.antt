@@ -1,4 +1,4 @@
--- What kind of failure an error of a session is, for an exit status or for what to do next.
+-- The class of a session's error, for an exit status or to decide what to do next.
 use Rattle.std.specs.Prelude.{if◌then◌else◌, is_some}
 use Rattle.gixp_packetline.specs.declared.read.Error.{Error as ReadError}
 use Rattle.gixp_packetline.specs.declared.read.Error.TheVariants as read
@@ -22,7 +22,7 @@ use Rattle.gixp_client.specs.declared.error.Error.{Error}
 use Rattle.gixp_client.specs.declared.error.Error.TheVariants as failure
 use Rattle.gixp_client.specs.ClientError.{said_in, kind_in}
 
--- a reader of packet lines
+-- the class of an error of the reader of packet lines
 abbrev pub read_class : ReadError → ErrorClass
 read_class (read.Io kind) = Connection
 read_class read.Interrupted = Connection
@@ -30,7 +30,7 @@ read_class (read.Server message) = Server
 read_class read.Memory = Memory
 read_class _ = Protocol
 
--- a call that speaks to the server
+-- the class of an error of a call to the server
 abbrev pub client_class : ClientError → ErrorClass
 client_class (client.Io kind) = Connection
 client_class (client.Read e) = read_class e
@@ -39,20 +39,20 @@ client_class client.AuthenticationUnsupported = Refused
 client_class client.Memory = Memory
 client_class _ = Protocol
 
--- a list of refs
+-- the class of an error of a list of refs
 abbrev pub refs_class : ParseError → ErrorClass
 refs_class (parse.Reader e) = read_class e
 refs_class parse.Memory = Memory
 refs_class _ = Protocol
 
--- a handshake: by the account, or by a version that the transport doesn't accept
+-- the class of an error of a handshake; those that remain concern the account or a version that the transport doesn't accept
 abbrev pub handshake_class : ShakeError → ErrorClass
 handshake_class (shake.Transport e) = client_class e
 handshake_class (shake.ParseRefs e) = refs_class e
 handshake_class shake.Memory = Memory
 handshake_class _ = Refused
 
--- an answer to a request for a pack
+-- the class of an error of a response to a fetch request
 abbrev pub answer_class : AnswerError → ErrorClass
 answer_class (answer.Transport e) = client_class e
 answer_class (answer.Reader e) = read_class e
@@ -60,23 +60,23 @@ answer_class (answer.MissingServerCapability feature) = Refused
 answer_class answer.Memory = Memory
 answer_class _ = Protocol
 
--- a consumer of a pack
+-- the class of an error of a pack's consumer
 abbrev pub pack_class : PackError → ErrorClass
 pack_class (pack.Read e) = read_class e
 pack_class (pack.Write kind) = Local
 pack_class (pack.Refused why) = Refused
 
--- the objects of the repository
+-- the class of an error of the repository's objects
 abbrev pub object_class : ObjectError → ErrorClass
 object_class objects.Memory = Memory
 object_class _ = Local
 
--- its refs
+-- the class of an error of the repository's refs
 abbrev pub ref_class : RefStoreError → ErrorClass
 ref_class refs.Memory = Memory
 ref_class _ = Local
 
--- where neither the server reports an error nor the connection failed
+-- the class of an error that is neither reported by the server nor a failed read or write
 abbrev pub rest_class : Error → ErrorClass
 rest_class (failure.Handshake e) = handshake_class e
 rest_class (failure.Refs e) = refs_class e
@@ -94,6 +94,6 @@ rest_class (failure.UnknownUnshallow id) = Protocol
 rest_class (failure.Reported message) = Protocol
 rest_class _ = Refused
 
--- the words of the server before all, then the connection
+-- a server message comes first, then a failed connection
 abbrev pub class_of : Error → ErrorClass
 class_of e = if is_some (said_in e) then Server else if is_some (kind_in e) then Connection else rest_class e

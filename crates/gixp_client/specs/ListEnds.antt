@@ -15,7 +15,7 @@ use Rattle.gixp_client.specs.ClientError.{of_list, of_init}
 use Rattle.gixp_client.specs.declared.error.Error.{Error}
 use Rattle.gixp_client.specs.declared.error.Error.TheVariants.{UnknownObjectFormat, UnterminatedRefs, Over, Memory}
 
--- the server isn't asked for refs: the session is over, the server names objects by another hash function than SHA-1, or an allocation
+-- the error of a call that sent no request for refs: the session is over, the server's object format isn't SHA-1, or an allocation
 -- failed
 abbrev pub IsUnasked : List CapabilityValue → Error → Type 0
 IsUnasked caps Over = ⊤
@@ -23,29 +23,30 @@ IsUnasked caps (UnknownObjectFormat format) = unknown_format caps ≡ Some (bstr
 IsUnasked caps Memory = ⊤
 IsUnasked caps _ = ⊥
 
--- a list is ended by a flush packet: at a delimiter packet it isn't
+-- a flush packet ends a list; a delimiter packet doesn't
 abbrev pub is_flush : Option MessageKind → Bool
 is_flush (Some Flush) = true
 is_flush _ = false
 
--- the refs of a list, if that is ended
+-- the refs of a list that ended with a flush packet
 abbrev pub whole_refs : Result (Vec Ref Global) ListError → Bool → Result (Vec Ref Global) Error
 whole_refs (Ok refs) true = Ok refs
 whole_refs (Ok refs) false = Err UnterminatedRefs
 whole_refs (Err e) is_ended = Err (of_list e)
 
--- the refs of a ref map are whole: they were here, or the list that it was made of is ended
+-- the refs of a ref map are complete: the session had them, or their list ended with a flush packet
 abbrev pub are_whole : (are_here : Bool) → Option MessageKind → Bool
 are_whole are_here stopped = are_here || is_flush stopped
 
--- why there is no ref map where the reader is at no flush packet: refs that were read aren't whole, whether they can be mapped or not
+-- the error of a ref map whose list didn't end with a flush packet: refs that were read are incomplete, whether they can be mapped
+-- or not
 abbrev pub of_unended : MapError → Error
 of_unended (init.UnknownObjectFormat format) = UnterminatedRefs
 of_unended (init.MappingValidation e) = UnterminatedRefs
 of_unended (init.ListRefs e) = of_list e
 of_unended init.Memory = Memory
 
--- the ref map of refs, if these are whole
+-- the ref map, if its refs are complete
 abbrev pub whole_map : Result RefMap MapError → Bool → Result RefMap Error
 whole_map (Ok m) true = Ok m
 whole_map (Ok m) false = Err UnterminatedRefs

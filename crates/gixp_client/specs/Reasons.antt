@@ -1,4 +1,4 @@
--- What is wrong with a connection, or with what came over it, where an error has no other sentence.
+-- The texts for a failed connection or a violation of the protocol, for errors that have no other text.
 use Rattle.std.specs.Prelude.{ℕ, List, codes, Option, Some, None}
 use Rattle.gixp_packetline.specs.declared.read.Error.{Error as ReadError}
 use Rattle.gixp_packetline.specs.declared.read.Error.TheVariants as read
@@ -15,7 +15,7 @@ use Rattle.gixp_client.specs.declared.consumer.PackError.TheVariants as pack
 use Rattle.gixp_client.specs.declared.error.Error.{Error}
 use Rattle.gixp_client.specs.declared.error.Error.TheVariants.{Handshake, Refs, UnterminatedRefs, Request, Answer, Pack, Rest}
 
--- what was read: a server's own error and an allocation failure have sentences of their own
+-- a reader's error; the server's own error and an allocation failure have other texts
 abbrev pub read_reason : ReadError → Option (List ℕ)
 read_reason (read.Io kind) = Some (codes "the connection can't be read")
 read_reason (read.Decode e) = Some (codes "protocol error: the server sent what is no packet line")
@@ -26,7 +26,7 @@ read_reason read.Interrupted = Some (codes "it was interrupted")
 read_reason (read.Server message) = None
 read_reason read.Memory = None
 
--- a call that speaks to the server
+-- the error of a call to the server
 abbrev pub client_reason : ClientError → Option (List ℕ)
 client_reason (client.Io kind) = Some (codes "the connection broke")
 client_reason (client.Read e) = read_reason e
@@ -37,31 +37,31 @@ client_reason (client.UnsupportedProtocolVersion word) =
 client_reason client.MissingDelimitingNullByte = Some (codes "protocol error: the server says no capabilities")
 client_reason client.Memory = None
 
--- lines of refs: a line that is no ref has a sentence of its own
+-- the error of a list of refs; a malformed ref line has another text
 abbrev pub refs_reason : ParseError → Option (List ℕ)
 refs_reason (parse.Io kind) = Some (codes "the connection can't be read")
 refs_reason (parse.DecodePacketline e) = Some (codes "protocol error: the server sent what is no packet line")
 refs_reason (parse.Reader e) = read_reason e
 refs_reason _ = None
 
--- a handshake
+-- the error of a handshake
 abbrev pub handshake_reason : ShakeError → Option (List ℕ)
 handshake_reason (shake.Transport e) = client_reason e
 handshake_reason (shake.ParseRefs e) = refs_reason e
 handshake_reason _ = None
 
--- an answer
+-- the error of a response
 abbrev pub answer_reason : AnswerError → Option (List ℕ)
 answer_reason (answer.Transport e) = client_reason e
 answer_reason (answer.Reader e) = read_reason e
 answer_reason _ = None
 
--- a pack: what it is written to isn't the connection
+-- the error of a pack's consumer; a failed write isn't the connection's
 abbrev pub pack_reason : PackError → Option (List ℕ)
 pack_reason (pack.Read e) = read_reason e
 pack_reason _ = None
 
--- a call of a session
+-- the error of a session's call
 abbrev pub reason : Error → Option (List ℕ)
 reason (Handshake e) = handshake_reason e
 reason (Refs e) = refs_reason e

@@ -1,4 +1,4 @@
--- What a session is asked for, and how that is put together (git-fetch, "OPTIONS").
+-- The request of a session (git-fetch, "OPTIONS").
 use Rattle.std.specs.Prelude.{◌≡◌, ℕ, ⊤, true, false, List, [], ◌∷◌, ◌++◌, Some, None, Ok, Err, String, string_bytes}
 use Rattle.std.specs.declared.alloc.Global.{Global}
 use Rattle.bstr.specs.Owned.{bstring_bytes}
@@ -13,7 +13,7 @@ use Rattle.gixp_client.specs.declared.error.Error.{Error}
 use Rattle.gixp_client.specs.declared.error.Error.TheVariants as error
 use Rattle.gixp_client.specs.declared.request.Request.{Request}
 
--- no refspecs, and what `git fetch` does unless it is told otherwise
+-- a request without refspecs, with the defaults of `git fetch`
 pub record IsDefaultRequest (r : Request) : Type 0 where
   pub refspecs : r.refspecs.items ≡ []
   pub tags : r.tags ≡ Included
@@ -26,19 +26,19 @@ pub record IsDefaultRequest (r : Request) : Type 0 where
   pub wants_progress : r.wants_progress ≡ true
   pub without_uris : r.uri_protocols ≡ Neither
 
--- the value of a text is added, behind the other refspecs
+-- the refspec of this text is appended
 pub record AddsSpec (text : List ℕ) (old new : Request) : Type 0 where
   pub added : RefSpec
   pub value : spec_of text ≡ Ok (owned_value_of added)
   pub behind : new.refspecs.items ≡ old.refspecs.items ++ added ∷ []
 
--- the text is no refspec, and why; or an allocation failed
+-- the text isn't a refspec, for this reason; or an allocation failed
 abbrev pub IsSpecRefusal : List ℕ → Error → Type 0
 IsSpecRefusal text (error.Refspec spec why) = (bstring_bytes spec ≡ text) × (spec_of text ≡ Err why)
 IsSpecRefusal text error.Memory = ⊤
 IsSpecRefusal text _ = ⊥
 
--- a filter is asked for, and nothing else changes
+-- the filter is set, and nothing else changes
 pub record SetsFilter (filter : List ℕ) (old new : Request) : Type 0 where
   pub text : String Global
   pub is_filter : string_bytes text ≡ filter

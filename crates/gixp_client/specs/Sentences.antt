@@ -1,4 +1,4 @@
--- The sentence of an error of a session, as far as its parts state what they print.
+-- The text of a session's error, as far as its parts define what they print.
 use Rattle.std.specs.Prelude.{◌++◌, ℕ, List, codes, Option, Some, None, string_bytes}
 use Rattle.std.specs.Fmt.{decimal}
 use Rattle.std.specs.declared.io.ErrorKind.{ErrorKind}
@@ -10,7 +10,7 @@ use Rattle.gixp_client.specs.declared.consumer.PackError.TheVariants as pack
 use Rattle.gixp_client.specs.declared.error.Error.{Error}
 use Rattle.gixp_client.specs.declared.error.Error.TheVariants.{UnsupportedListing, Unnegotiated, MissingFeature, ShallowServer, UnknownUnshallow, Pack, Reported, Over, Memory}
 
--- where neither the server nor a read or write failed, and nothing is wrong with what came
+-- the text of an error without a server message, a failed read or write, or a violation of the protocol
 abbrev pub rest_sentence : Error → Option (List ℕ)
 rest_sentence UnsupportedListing = Some (codes "the server doesn't list refs as it is asked to")
 rest_sentence (Unnegotiated rounds) = Some (codes "no pack came after " ++ decimal rounds ++ codes " round(s) of the negotiation")
@@ -23,23 +23,23 @@ rest_sentence Over = Some (codes "the session is over")
 rest_sentence Memory = Some (codes "out of memory")
 rest_sentence _ = None
 
--- where something is wrong with what came, that is said
+-- the reason is the text, if there is one
 abbrev pub reason_sentence : Error → Option (List ℕ) → Option (List ℕ)
 reason_sentence e (Some why) = Some why
 reason_sentence e None = rest_sentence e
 
--- where a read or write failed with this kind, if one did
+-- the text for a failed read or write of this kind, if one failed
 abbrev pub kind_sentence : Error → Option ErrorKind → Option (List ℕ)
 kind_sentence e (Some UnexpectedEof) = Some (codes "the connection ended within " ++ place_of e)
 kind_sentence e (Some _) = None
 kind_sentence e None = reason_sentence e (reason e)
 
--- a pack that can't be written
+-- the text of a failed write of the pack is undefined
 abbrev pub unsaid_sentence : Error → Option (List ℕ)
 unsaid_sentence (Pack (pack.Write kind)) = None
 unsaid_sentence e = kind_sentence e (kind_in e)
 
--- where the server says why, its words are in the sentence, and nothing is stated of it
+-- the text that has a server message is undefined
 abbrev pub said_sentence : Error → Option (List ℕ) → Option (List ℕ)
 said_sentence e (Some words) = None
 said_sentence e None = unsaid_sentence e

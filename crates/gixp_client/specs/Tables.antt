@@ -1,11 +1,11 @@
--- What a client asks for of a server by itself, by whether the server's progress is wanted, and by the protocols of the URIs that may
--- stand for packs (gitprotocol-capabilities, "no-progress"; gitprotocol-v2, "fetch"; git-config, "fetch.uriProtocols").
+-- The commands and features that a client uses by itself. They depend on whether the client wants progress, and on the allowed
+-- protocols of packfile URIs (gitprotocol-capabilities, "no-progress"; gitprotocol-v2, "fetch"; git-config, "fetch.uriProtocols").
 use Rattle.std.specs.Prelude.{ℕ, Bool, true, false, List, [], ◌∷◌, ◌++◌, codes}
 use Rattle.gixp_requests.specs.Command.{TableValue, always, by, git_table}
 use Rattle.gixp_client.specs.declared.tables.UriProtocols.{UriProtocols}
 use Rattle.gixp_client.specs.declared.tables.UriProtocols.TheVariants.{Neither, Http, Https, Both}
 
--- the word for none stands behind the others
+-- `no-progress` is the last feature and argument
 abbrev pub quiet : TableValue → TableValue
 quiet t = record t {
   v1_fetch = t.v1_fetch ++ always (codes "no-progress") ∷ [];
@@ -16,7 +16,7 @@ abbrev pub plain_table : Bool → TableValue
 plain_table true = git_table
 plain_table false = quiet git_table
 
--- a line of version 2 names the protocols, where the server offers it
+-- under version 2 this line names the protocols, if the server offers `packfile-uris`
 abbrev pub naming : List ℕ → TableValue → TableValue
 naming line t = record t {
   v2_fetch = t.v2_fetch ++ codes "packfile-uris" ∷ [];

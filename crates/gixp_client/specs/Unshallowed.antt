@@ -1,4 +1,4 @@
--- Ids that a server takes out of a shallow boundary which doesn't have them (gitprotocol-pack, "Packfile Negotiation").
+-- Ids that a server unshallows though they aren't in the shallow boundary (gitprotocol-pack, "Packfile Negotiation").
 use Rattle.std.specs.Prelude.{◌≡◌, ⊤, Bool, true, List, [], ◌∷◌, Option, Some, None, Result, Ok, Err, if◌then◌else◌}
 use Rattle.std.specs.List.{list_all}
 use Rattle.std.specs.Option.{option_map_or}
@@ -11,28 +11,28 @@ use Rattle.gixp_client.specs.Boundaries.{has_id}
 use Rattle.gixp_client.specs.declared.error.Error.{Error}
 use Rattle.gixp_client.specs.declared.error.Error.TheVariants.{UnknownUnshallow}
 
--- the id that an update takes out of the boundary, where it isn't in it
+-- the id that the update unshallows, if it isn't in the boundary
 abbrev pub unknown_id : (ObjectId → Bool) → ShallowUpdate → Option ObjectId
 unknown_id is_in (Shallow id) = None
 unknown_id is_in (Unshallow id) = if is_in id then None else Some id
 
--- the first of these
+-- the first such id
 abbrev pub unknown_unshallow : (ObjectId → Bool) → List ShallowUpdate → Option ObjectId
 unknown_unshallow is_in [] = None
 unknown_unshallow is_in (update ∷ updates) = option_map_or Some (unknown_id is_in update) (unknown_unshallow is_in updates)
 
--- what was noted first, or else what an answer says
+-- the id recorded earlier, or else the first such id of this response
 abbrev pub noted : (ObjectId → Bool) → Option ObjectId → Option AnswerValue → Option ObjectId
 noted is_in (Some id) answer = Some id
 noted is_in None (Some answer) = unknown_unshallow is_in answer.shallow_updates
 noted is_in None None = None
 
--- an outcome, unless its answer takes this out
+-- the outcome, or the error for such an id
 abbrev pub unless_taken : Outcome → Option ObjectId → Result (Option Outcome) Error
 unless_taken outcome None = Ok (Some outcome)
 unless_taken outcome (Some id) = Err (UnknownUnshallow id)
 
--- what came of a fetch, unless an answer before the last took this out, or the last takes out another
+-- the result of a fetch, or the error for an id of an earlier response or of the last one
 abbrev pub known_alone : (ObjectId → Bool) → Result (Option Outcome) Error → Option ObjectId → Result (Option Outcome) Error
 known_alone is_in (Err e) unknown = Err e
 known_alone is_in (Ok outcome) (Some id) = Err (UnknownUnshallow id)
@@ -40,12 +40,12 @@ known_alone is_in (Ok None) None = Ok None
 known_alone is_in (Ok (Some outcome)) None =
     unless_taken outcome (unknown_unshallow is_in outcome.last_response.shallow_updates)
 
--- the last answer takes nothing out that isn't in the boundary
+-- the last response unshallows only ids of the boundary
 abbrev pub TakesKnown : (ObjectId → Bool) → Option Outcome → Type 0
 TakesKnown is_in None = ⊤
 TakesKnown is_in (Some outcome) = unknown_unshallow is_in outcome.last_response.shallow_updates ≡ None
 
--- the same by the ids of the boundary: what an update takes out is in it
+-- the same, with the boundary as a list
 abbrev pub is_known : List ObjectId → ShallowUpdate → Bool
 is_known ids (Shallow id) = true
 is_known ids (Unshallow id) = has_id ids id

@@ -1,4 +1,4 @@
-//! What becomes of the shallow boundary.
+//! The shallow boundary after a fetch.
 ghost use Rattle.std.specs.Prelude.{◌≡◌, ◌||◌, [], IfOk, OnOk};
 ghost use Rattle.std.specs.BTreeSet.{contains};
 ghost use Rattle.std.specs.Ordering.{eq_by_cmp};
@@ -11,25 +11,25 @@ use gixp_shallow::{ShallowUpdate, new_boundary};
 use std::alloc::{AllocError, Global};
 use std::collections::BTreeSet;
 
-/// What becomes of the shallow boundary in a fetch (gitprotocol-pack, "Packfile Negotiation").
+/// The shallow boundary after a fetch (gitprotocol-pack, "Packfile Negotiation").
 ///
-/// A server whose own repository is shallow sends updates though no depth was asked for. Over a real repository these hide
-/// history, and a garbage collection then deletes it: so they stand apart, and aren't in the boundary to be kept.
+/// A server whose own repository is shallow sends updates even when the request names no depth. Applied to a complete repository,
+/// these updates hide history, and a garbage collection then deletes it. So they are in `unasked`, and `ids` doesn't contain them.
 #[derive(Debug, Drop)]
 pub struct Boundary {
-    /// The boundary to be kept. Where a depth or another change was asked for and the server sent updates, it is the one that
-    /// they leave, in order of the ids, each once. Else it is the one before, as it was passed in.
+    /// The boundary to store. If the request changes the boundary and the server sent updates, this is the boundary after the
+    /// updates: ordered by id, each id once. Otherwise it is the boundary that the caller passed in.
     pub ids: Vec<ObjectId>,
-    /// The ids that came into the boundary, then those that left it, where a change was asked for.
+    /// If the request changes the boundary: the ids that the updates added, then the ids that they removed. Otherwise empty.
     pub asked_for: Vec<ShallowUpdate>,
-    /// The same where none was: the ids that the server's updates would bring in and take out.
+    /// If the request doesn't change the boundary: the ids that the server's updates would add, then those that they would remove.
+    /// Otherwise empty.
     pub unasked: Vec<ShallowUpdate>,
 }
 
 impl Boundary {
     ghost use Rattle.gixp_client.specs.Boundaries.{IsLeftBoundary, IsBoundaryAfter};
 
-    // The boundary stays.
     pub(crate) fn kept(alloc: Global, before: &[ObjectId]) -> Result<Boundary, AllocError>
         ensures { IfOk result (IsLeftBoundary before.now [] []) }
     {
@@ -40,12 +40,12 @@ impl Boundary {
         })
     }
 
-    /// The boundary with the updates that weren't asked for too: for a caller who sees to it that the objects beyond it are there.
-    /// It is in order of the ids, each once; where there are none of these updates, it is `ids` as they are.
+    /// The boundary with the unrequested updates applied. The caller must make sure that the objects beyond it exist. The ids are
+    /// ordered, each once. Without unrequested updates it is a copy of `ids`.
     ///
     /// # Errors
     ///
-    /// An allocation failure alone.
+    /// Only when an allocation fails.
     pub fn with_unasked(&self, alloc: Global) -> Result<Vec<ObjectId>, AllocError>
         ensures { IfOk result (λ ids. ids.items ≡ ids_after self.now.ids.items self.now.unasked.items) }
     {
@@ -55,7 +55,7 @@ impl Boundary {
         }
     }
 
-    // What became of it, by whether a change was asked for.
+    // `is_asked`: whether the request changes the boundary.
     pub(crate) fn changed(
         alloc: Global,
         before: &[ObjectId],
@@ -80,7 +80,6 @@ impl Boundary {
     }
 }
 
-// Adds an id.
 fn insert_id(set: &mut BTreeSet<ObjectId>, id: ObjectId) -> Result<(), AllocError>
     ensures { OnOk result ((q : ObjectId) → contains id_cmp set.new q ≡ (eq_by_cmp id_cmp id q || contains id_cmp set.old q)) }
 {
@@ -88,7 +87,6 @@ fn insert_id(set: &mut BTreeSet<ObjectId>, id: ObjectId) -> Result<(), AllocErro
     Ok(())
 }
 
-/// Ids as a set.
 pub(crate) fn set_of(alloc: Global, ids: &[ObjectId]) -> Result<BTreeSet<ObjectId>, AllocError>
     ensures { IfOk result (λ set. (id : ObjectId) → contains id_cmp set id ≡ has_id ids.now id) }
 {
@@ -101,7 +99,6 @@ pub(crate) fn set_of(alloc: Global, ids: &[ObjectId]) -> Result<BTreeSet<ObjectI
     Ok(set)
 }
 
-// The ids of one boundary that another doesn't have.
 fn ids_beyond(
     alloc: Global,
     ids: &[ObjectId],
@@ -121,7 +118,7 @@ fn ids_beyond(
     Ok(found)
 }
 
-// The updates from one boundary to another: the ids that come in, and those that go.
+// The ids that are new in `after`, then the ids that only `before` has.
 fn updates_between(
     alloc: Global,
     before: &[ObjectId],

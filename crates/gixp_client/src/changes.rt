@@ -1,4 +1,4 @@
-//! What refspecs make of the local refs, by the refs of a server.
+//! The changes of local refs that refspecs and a server's refs ask for.
 ghost use Rattle.std.specs.Prelude.{◌≡◌, ℕ, ◌&&◌, ◌||◌, not, ◌++◌, List, IfOk, OnOk, map};
 ghost use Rattle.std.specs.Option.{option_map};
 ghost use Rattle.std.specs.List.{filter_map, flat_map};
@@ -21,51 +21,51 @@ use gixp_refspec::{Instruction, RefSpec};
 use std::alloc::{AllocError, Global};
 use std::collections::BTreeSet;
 
-/// What a ref map makes of a local ref.
+/// The change of one local ref that a ref map asks for.
 #[derive(Debug, Drop, PartialEq, Eq)]
 pub enum LocalChange {
-    /// It is made.
+    /// The ref is created.
     Made {
         /// Its full name.
         name: BString,
-        /// The id that it is to hold.
+        /// The id it will hold.
         id: ObjectId,
     },
-    /// It is moved: it holds another id, where git may fast-forward, force or reject it.
+    /// The ref holds another id. git may fast-forward it, force it, or reject the update.
     Moved {
         /// Its full name.
         name: BString,
-        /// The id that it holds.
+        /// The id it holds now.
         old: ObjectId,
-        /// The id that it is to hold.
+        /// The id it will hold.
         new: ObjectId,
     },
-    /// It holds the id already.
+    /// The ref already holds the id.
     Kept {
         /// Its full name.
         name: BString,
         /// The id.
         id: ObjectId,
     },
-    /// A refspec stands for it, and the server has no ref for it any more (git-fetch, "--prune").
+    /// A refspec maps to this name, and the server no longer has a ref for it (git-fetch, "--prune").
     Removed {
         /// Its full name.
         name: BString,
-        /// The id that it holds.
+        /// The id it holds now.
         old: ObjectId,
     },
 }
 
-/// Local refs that can be listed.
+/// A store that can list its refs.
 pub trait ListedRefs: RefStore {
-    /// The refs that hold an id, in the order of their listing.
+    /// The refs that hold an id, in the order of `list`.
     ghost listed: { Self → List (List ℕ × ObjectId) };
 
-    /// Each ref that holds an id: its full name and the id.
+    /// The full name and the id of each ref that holds an id.
     ///
     /// # Errors
     ///
-    /// An allocation failure alone.
+    /// Only when an allocation fails.
     fn list(&self, alloc: Global) -> Result<Vec<(BString, ObjectId)>, AllocError>
         ensures listed { IfOk result (λ found. map listed_value found.items ≡ listed self.now) }
         ensures all { Self.refs self.now ≡ finite.from_entries (listed self.now) };
@@ -86,7 +86,6 @@ impl ListedRefs for StoredRefs {
     }
 }
 
-// What becomes of a ref that is to hold an id.
 fn change_of(name: BString, old: Option<ObjectId>, id: ObjectId) -> LocalChange
     ensures { change_value result ≡ change_to (bstring_bytes name) old id }
 {
@@ -102,7 +101,7 @@ fn change_of(name: BString, old: Option<ObjectId>, id: ObjectId) -> LocalChange
     }
 }
 
-// What becomes of the local ref of a mapping, where it has one, whose name is safe, and the server an object for it.
+// No change if the mapping has no local name, its local name isn't safe, or the server's ref has no object.
 fn mapped_change<R: RefStore>(
     alloc: Global,
     mapping: &Mapping,
@@ -124,7 +123,6 @@ fn mapped_change<R: RefStore>(
     Ok(Some(change_of(name, old, *id)))
 }
 
-// What becomes of the local refs of some mappings.
 fn mapped_changes<R: RefStore>(
     alloc: Global,
     mappings: &[Mapping],
@@ -143,7 +141,7 @@ fn mapped_changes<R: RefStore>(
     Ok(changes)
 }
 
-// Whether a destination stands for a name.
+// Whether the destination of a refspec, which may contain a `*`, matches a name.
 fn stands_for(destination: &[u8], name: &[u8]) -> bool
     ensures { result ≡ stands_for destination.now name.now }
 {
@@ -153,7 +151,6 @@ fn stands_for(destination: &[u8], name: &[u8]) -> bool
     }
 }
 
-// Whether a refspec writes a ref of this name.
 fn writes(spec: &RefSpec, name: &[u8]) -> bool
     ensures { result ≡ writes (owned_value_of spec.now) name.now }
 {
@@ -163,14 +160,12 @@ fn writes(spec: &RefSpec, name: &[u8]) -> bool
     }
 }
 
-// Whether one of them does.
 fn is_written(specs: &[RefSpec], name: &[u8]) -> bool
     ensures { result ≡ is_written specs.now name.now }
 {
     specs.iter().any(|spec| writes(spec, name))
 }
 
-// Adds a name.
 fn insert_name<'a>(names: &mut BTreeSet<&'a [u8]>, name: &'a BString) -> Result<(), AllocError>
     ensures { OnOk result ((text : List ℕ) → has_key names.new text ≡ (bytes_eq (bstring_bytes name.now) text || has_key names.old text)) }
 {
@@ -178,7 +173,6 @@ fn insert_name<'a>(names: &mut BTreeSet<&'a [u8]>, name: &'a BString) -> Result<
     Ok(())
 }
 
-// Adds the name that a mapping goes to.
 fn add_name<'a>(names: &mut BTreeSet<&'a [u8]>, mapping: &'a Mapping) -> Result<(), AllocError>
     ensures { OnOk result ((name : List ℕ) → has_key names.new name ≡ (goes_to mapping.now name || has_key names.old name)) }
 {
@@ -188,7 +182,7 @@ fn add_name<'a>(names: &mut BTreeSet<&'a [u8]>, mapping: &'a Mapping) -> Result<
     }
 }
 
-// The names that mappings go to.
+// The local names of the mappings.
 fn mapped_names(alloc: Global, mappings: &[Mapping]) -> Result<BTreeSet<&[u8]>, AllocError>
     ensures { IfOk result (λ names. (name : List ℕ) → has_key names name ≡ is_mapped mappings.now name) }
 {
@@ -201,7 +195,7 @@ fn mapped_names(alloc: Global, mappings: &[Mapping]) -> Result<BTreeSet<&[u8]>, 
     Ok(names)
 }
 
-// Adds the removal of a ref that a refspec stands for and no mapping goes to.
+// Removes the ref if a refspec writes its name and no mapping does.
 fn add_removal(
     changes: &mut Vec<LocalChange>,
     specs: &[RefSpec],
@@ -219,7 +213,7 @@ fn add_removal(
     Ok(())
 }
 
-// Adds the removals of refs that a refspec stands for and no mapping goes to.
+// Removes each ref whose name a refspec writes and no mapping does.
 fn add_removals(
     alloc: Global,
     changes: &mut Vec<LocalChange>,
@@ -236,16 +230,16 @@ fn add_removals(
     Ok(())
 }
 
-/// What becomes of the local refs by a ref map: first of each that a mapping goes to, in the order of the map, then of those that one
-/// of its refspecs stands for and no mapping goes to, which are removed (git-fetch, "--prune"). A ref whose name isn't safe is left
-/// out, and so is one that no refspec stands for.
+/// The changes of local refs that a ref map asks for. First, in the order of the map, the ref of each mapping. Then the refs to
+/// remove: a refspec of the map writes their name, but no mapping does (git-fetch, "--prune"). Refs whose name isn't safe are left
+/// out, and so are refs that no refspec writes.
 ///
-/// It looks at no object: whether a move loses commits, and whether the objects are there, `refs::update::update` says. So a ref whose
-/// history ends at an update of the boundary that wasn't asked for is made here, where git rejects it.
+/// This function looks at no object. `refs::update::update` checks whether an update loses commits and whether the objects exist.
+/// So a new ref whose history ends at an unrequested shallow update is `Made` here, where git rejects it.
 ///
 /// # Errors
 ///
-/// An allocation failure alone.
+/// Only when an allocation fails.
 pub fn local_changes<R: ListedRefs>(
     alloc: Global,
     map: &RefMap,

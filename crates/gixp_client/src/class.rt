@@ -1,4 +1,4 @@
-//! What kind of failure an error of a session is.
+//! The class of a session's error.
 ghost use Rattle.std.specs.Prelude.{◌≡◌};
 ghost use Rattle.gixp_client.specs.ErrorClasses.{class_of, rest_class, read_class, client_class, refs_class, handshake_class, answer_class, pack_class, object_class, ref_class};
 
@@ -11,21 +11,21 @@ use gixp_packetline::read;
 use gixp_refs::handshake::refs::parse;
 use gixp_response::fetch::response;
 
-/// What kind of failure an [`Error`] is, for an exit status or for a choice of what to do next.
+/// The class of an [`Error`], for an exit status or to decide what to do next.
 #[derive(Clone, Copy, Debug, PartialEq, Eq)]
 pub enum ErrorClass {
-    /// The server reported an error: `server_message` has its words.
+    /// The server reported an error. `server_message` returns its message.
     Server,
-    /// A read or a write of the connection failed, the connection ended, or it was interrupted. Another try may help.
+    /// A read or a write of the connection failed, the connection ended, or it was interrupted. A retry may help.
     Connection,
-    /// What the server sent breaks the protocol.
+    /// The server violated the protocol.
     Protocol,
-    /// What was asked for can't be had: by the request, by what the server offers, by the account, by a session that is over, or
-    /// because the consumer rejects the pack. The same call fails again.
+    /// The request can't be fulfilled: it is invalid, the server lacks a feature or wants an account, the session is over, or the
+    /// consumer rejects the pack. The same call fails again.
     Refused,
-    /// Two refs go to one local name: `conflict` has the names.
+    /// Two refs map to one local name. `conflict` returns the names.
     Conflict,
-    /// The repository can't be read, or the pack can't be written.
+    /// A read of the repository or a write of the pack failed.
     Local,
     /// An allocation failed.
     Memory,
@@ -117,7 +117,7 @@ fn ref_class(e: &RefStoreError) -> ErrorClass
     }
 }
 
-// The class of an error that neither the server reports nor the connection.
+// The class of an error without a server message and without an `io_kind`.
 fn rest_class(e: &Error) -> ErrorClass
     ensures { result ≡ rest_class e.now }
 {
@@ -141,7 +141,8 @@ fn rest_class(e: &Error) -> ErrorClass
 }
 
 impl Error {
-    /// What kind of failure it is: `Server` exactly where `server_message` has words, and else `Connection` where `io_kind` has a kind.
+    /// The class of the error: `Server` exactly if `server_message` returns a message, otherwise `Connection` if `io_kind` returns
+    /// a kind.
     pub fn class(&self) -> ErrorClass
         ensures { result ≡ class_of self.now }
     {

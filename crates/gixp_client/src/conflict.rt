@@ -1,4 +1,4 @@
-//! The conflict of a ref map that can't be used.
+//! Two refs that map to one local name.
 ghost use Rattle.std.specs.Prelude.{◌≡◌, not, map};
 ghost use Rattle.std.specs.Option.{option_map, option_copied};
 ghost use Rattle.std.specs.List.{find};
@@ -16,18 +16,17 @@ use gixp_matching::match_group::validate::{self, Issue};
 use std::fmt;
 use std::fmt::Display;
 
-/// A local name that two sources go to, as `git fetch` reports it: `Cannot fetch both refs/heads/a and refs/tags/a to refs/b`.
+/// Two sources that map to one local name. `git fetch` reports it as `Cannot fetch both refs/heads/a and refs/tags/a to refs/b`.
 #[derive(Clone, Copy, Debug)]
 pub struct Conflict<'a> {
     /// The local name.
     pub destination: &'a BString,
-    /// What goes to it: the first source in the order of the map.
+    /// The first source in the order of the map.
     pub one: &'a SourceRef,
-    /// The first source after it that is another.
+    /// The first source after it that differs from it.
     pub other: &'a SourceRef,
 }
 
-// Whether two sources are different.
 fn differ(one: &SourceRef, other: &SourceRef) -> bool
     ensures { result ≡ not (source_eq (source_of one.now) (source_of other.now)) }
 {
@@ -40,7 +39,7 @@ fn differ(one: &SourceRef, other: &SourceRef) -> bool
     }
 }
 
-// The first source that is another.
+// The first source that differs from `one`.
 fn other_source<'a>(one: &SourceRef, sources: &'a [SourceRef]) -> Option<&'a SourceRef>
     ensures { option_map source_of (option_copied result)
         ≡ find (λ s. not (source_eq (source_of one.now) s)) (map source_of sources.now) }
@@ -55,7 +54,6 @@ fn other_source<'a>(one: &SourceRef, sources: &'a [SourceRef]) -> Option<&'a Sou
     None
 }
 
-// The two sources of a conflict.
 fn clash_in<'a>(destination: &'a BString, sources: &'a [SourceRef]) -> Option<Conflict<'a>>
     ensures { option_map clash_value result ≡ clash_in (bstring_bytes destination.now) (map source_of sources.now) }
 {
@@ -68,7 +66,6 @@ fn clash_in<'a>(destination: &'a BString, sources: &'a [SourceRef]) -> Option<Co
     })
 }
 
-// The first conflict.
 fn first_clash(e: &validate::Error) -> Option<Conflict<'_>>
     ensures { option_map clash_value result ≡ clash_of (conflicts_in e.now.issues) }
 {
@@ -81,7 +78,7 @@ fn first_clash(e: &validate::Error) -> Option<Conflict<'_>>
 }
 
 impl Error {
-    /// Of two refs that go to one local name, the name and both sources. Of more such names the first in byte order.
+    /// If two refs map to one local name: the name and both sources. If there are several such names, the first in byte order.
     pub fn conflict(&self) -> Option<Conflict<'_>>
         ensures { option_map clash_value result ≡ conflict_in self.now }
     {
@@ -92,7 +89,7 @@ impl Error {
     }
 }
 
-// A source as a sentence shows it.
+// Displays a source in an error message.
 #[derive(Drop)]
 struct Shown<'a> {
     source: &'a SourceRef,
@@ -110,7 +107,7 @@ impl Display for Shown<'_> {
     }
 }
 
-/// git's sentence. A control character of a name is a question mark, as in the words of a server.
+/// Displays git's message. Control characters of names become question marks, as in server messages.
 impl Display for Conflict<'_> {
     fn fmt<W: fmt::Write>(&self, f: &mut fmt::Formatter<W>) -> fmt::Result {
         let one = Shown { source: self.one };

@@ -1,16 +1,16 @@
-//! Why a pack wasn't taken.
+//! The error of a pack's consumer.
 use gixp_fetch::consume::CopyError;
 use gixp_packetline::read;
 use std::io::ErrorKind;
 
-/// Why a pack wasn't taken, with nothing of the caller's in it.
+/// The error of a pack's consumer, without a type of the caller's.
 #[derive(Debug, Drop)]
 pub enum PackError {
-    /// It can't be read from the connection.
+    /// A read from the connection failed.
     Read(read::Error),
-    /// What takes it failed with this kind.
+    /// A write of the consumer failed, with this kind.
     Write(ErrorKind),
-    /// It isn't what it is to be, as the sentence says.
+    /// The consumer rejects the pack, for the reason in the text.
     Refused(String),
 }
 

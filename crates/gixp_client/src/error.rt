@@ -1,4 +1,4 @@
-//! Why a call of a session fails.
+//! The error of a session's calls.
 ghost use Rattle.std.specs.Prelude.{◌≡◌};
 ghost use Rattle.std.specs.Option.{option_map};
 ghost use Rattle.bstr.specs.BStr.{bstr_bytes};
@@ -30,76 +30,76 @@ use std::fmt;
 use std::fmt::Display;
 use std::io::ErrorKind;
 
-/// Why a call of a session fails, as a sentence, with the server's words where there are any.
+/// The error of a session's calls. Displayed, it is one sentence, with the server's message if the server sent one.
 ///
-/// It owns its texts, and names no type of the caller's.
+/// It owns its texts, and has no type parameter.
 #[derive(Debug, Drop)]
 pub enum Error {
-    /// A text is no refspec. Nothing was sent.
+    /// A text isn't a valid refspec. Nothing was sent.
     Refspec {
         /// The text.
         spec: BString,
-        /// Why it is none.
+        /// The error of the parser.
         why: spec::Error,
     },
     /// The handshake failed.
     Handshake(handshake::Error),
-    /// The list of refs wasn't read.
+    /// The list of refs couldn't be read.
     Refs(parse::Error),
-    /// The server doesn't take the command that lists refs. Nothing was sent.
+    /// The server doesn't support the command `ls-refs` with the client's arguments. Nothing was sent.
     UnsupportedListing,
-    /// A list of refs ended at another packet than a flush packet, so that refs may be missing in it (gitprotocol-v2, "ls-refs").
+    /// A list of refs didn't end with a flush packet, so refs may be missing (gitprotocol-v2, "ls-refs").
     UnterminatedRefs,
     /// The server names objects by a hash function other than SHA-1 (gitprotocol-v2, "object-format").
     UnknownObjectFormat {
-        /// What it calls the function.
+        /// The server's name of the hash function.
         format: BString,
     },
-    /// Two refs go to one local name.
+    /// Two refs map to one local name.
     Conflicts(validate::Error),
-    /// A request wasn't sent.
+    /// A request couldn't be sent.
     Request(client::Error),
-    /// The answer to a request for a pack wasn't read.
+    /// The response to a fetch request couldn't be read.
     Answer(response::Error),
-    /// So many rounds of the negotiation went by, and no pack came.
+    /// The server sent no pack after this number of rounds of negotiation.
     Unnegotiated {
-        /// How many.
+        /// The number of rounds.
         rounds: usize,
     },
-    /// An object of the repository can't be read.
+    /// An object of the repository couldn't be read.
     Objects(ObjectError),
-    /// The refs of the repository can't be read.
+    /// The refs of the repository couldn't be read.
     LocalRefs(RefStoreError),
-    /// The server doesn't offer what was asked for. Nothing was sent.
+    /// The server doesn't offer a feature that the request needs. Nothing was sent.
     MissingFeature {
-        /// What it doesn't offer.
+        /// The feature.
         feature: String,
     },
     /// The server's repository is shallow, and the request rejects that.
     ShallowServer,
-    /// The server takes an id out of the shallow boundary that isn't in it (gitprotocol-pack, "Packfile Negotiation"): what has come is
-    /// to be thrown away.
+    /// The server unshallows an id that isn't in the shallow boundary (gitprotocol-pack, "Packfile Negotiation"). The caller must
+    /// discard what it received.
     UnknownUnshallow {
         /// The id.
         id: ObjectId,
     },
-    /// The pack wasn't taken: what has come of it is to be thrown away.
+    /// The consumer failed. The caller must discard what it received of the pack.
     Pack(PackError),
-    /// What comes after the pack wasn't read.
+    /// The rest of the response, after the pack, couldn't be read.
     Rest(read::Error),
-    /// The server reported an error beside the pack (band 3): what has come is to be thrown away.
+    /// The server reported an error on band 3. The caller must discard what it received.
     Reported {
-        /// Its words.
+        /// The server's message.
         message: BString,
     },
-    /// The session was broken or ended before. Nothing was sent.
+    /// The session ended or broke before this call. Nothing was sent.
     Over,
     /// An allocation failed.
     Memory,
 }
 
 impl Error {
-    /// What the server said of it, where it is the server's error.
+    /// The server's message, if the error is the server's.
     pub fn server_message(&self) -> Option<BStr<'_>>
         ensures { option_map bstr_bytes result ≡ said_in self.now }
     {
@@ -115,7 +115,7 @@ impl Error {
         }
     }
 
-    // Where it happened, in words.
+    // The part of the session that failed, as error messages name it.
     fn place(&self) -> &'static str
         ensures { result.now ≡ place_of self.now }
     {
@@ -130,8 +130,9 @@ impl Error {
         }
     }
 
-    /// The kind of the read or write of the connection that failed; `UnexpectedEof` where the connection ended. There is none where the
-    /// repository can't be read (`Objects`, `LocalRefs`) or the pack can't be written (`PackError::Write`), which have a kind of their own.
+    /// The kind of the failed read or write of the connection; `UnexpectedEof` if the connection ended. `None` if the repository
+    /// couldn't be read (`Objects`, `LocalRefs`) or a write of the pack failed (`PackError::Write`): these errors have a kind of
+    /// their own.
     pub fn io_kind(&self) -> Option<ErrorKind>
         ensures { result ≡ kind_in self.now }
     {
@@ -147,8 +148,9 @@ impl Error {
         }
     }
 
-    /// What is wrong with the connection, or with what came over it, as `protocol error: the server sent what is no packet line`.
-    /// None where the server says why, where what came is shown, as a line that is no ref, and where the error is of another kind.
+    /// How the connection failed or the server violated the protocol, as in `protocol error: the server sent what is no packet
+    /// line`. `None` if the server sent a message, if `Display` shows the faulty input, such as a malformed ref line, or if the
+    /// error is of another sort.
     pub fn reason(&self) -> Option<&'static str>
         ensures { option_map (λ w. w.now) result ≡ reason self.now }
     {
@@ -165,7 +167,7 @@ impl Error {
     }
 }
 
-// What is said of an error where neither the server nor a read or write failed, and nothing is wrong with what came.
+// Displays errors that have neither a server message, nor an `io_kind`, nor a `reason`.
 #[derive(Drop)]
 struct Rest<'a> {
     error: &'a Error,

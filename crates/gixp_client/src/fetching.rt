@@ -44,8 +44,8 @@ impl<T: Transport + Drop, L: Listener + Drop, P: NestedProgress + Drop> Session<
 where
     P::SubProgress: Drop,
 {
-    // A fetch, and the state of the session after it. It takes the changes of the boundary that came with the handshake: a copy is
-    // for it, so that they are here again where no round was negotiated.
+    // Fetches, and sets the state of the session. The fetch consumes the shallow updates that the handshake received, so it gets
+    // the copy `told`. If it negotiates no round, the session keeps the updates.
     fn carry_out<'a, F: Find, R: RefStore, N: Negotiator, C: ConsumePack<P>>(
         &mut self,
         wanted: Wanted<'a, F, R, N>,
@@ -85,7 +85,8 @@ where
         came
     }
 
-    // What came of a fetch, or the error that the server reported beside it. A server that reports one has gone.
+    // Returns the error that the server reported on band 3, if any, in place of the result. A server that reports one closes the
+    // connection.
     fn unless_reported(
         &mut self,
         came: Result<Option<Outcome>, Error>,
@@ -104,14 +105,15 @@ where
         came
     }
 
-    /// Fetches what is mapped, as the request asks for it: the pack goes to its consumer, as a `CopyPack` of a writer. Where nothing
-    /// is mapped, nothing is sent. A server that takes an id out of the boundary which isn't in it is refused, once the pack has come.
+    /// Fetches the refs of the map as the request says. The pack goes to the consumer, for example a `CopyPack` over a writer. If
+    /// the map is empty, nothing is sent. A server that unshallows an id that isn't in the boundary is rejected after the pack was
+    /// received.
     ///
     /// # Errors
     ///
-    /// Those of [`Error`]. What the consumer has is then to be thrown away, and the boundary and the refs are to stay as they are.
-    /// `state` says whether another call may come. Where no round was negotiated nothing was sent, and the session is as it was but
-    /// for what the listener and the progress reporter heard.
+    /// Those of [`Error`]. The caller must then discard what the consumer received, and leave the boundary and the refs unchanged.
+    /// `state` says whether another call is possible. If no round was negotiated, nothing was sent, and only the listener and the
+    /// progress reporter have changed.
     pub fn fetch<'a, F: Find, R: RefStore, C: ConsumePack<P>>(
         &mut self,
         map: &'a RefMap,
@@ -156,7 +158,7 @@ where
         self.fetch_with(map, repository, request, &mut negotiator, pack)
     }
 
-    /// The same, with a negotiator of the caller's in place of the request's algorithm. It is for one fetch.
+    /// Like `fetch`, with the caller's negotiator in place of the request's algorithm. A negotiator serves one fetch.
     ///
     /// # Errors
     ///

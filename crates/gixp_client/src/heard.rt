@@ -1,4 +1,4 @@
-//! A transport that reports the messages of the sideband as they come.
+//! A transport that reports the messages of bands 2 and 3 as they arrive.
 ghost use Rattle.std.specs.Prelude.{◌≡◌};
 ghost use Rattle.std.specs.Option.{option_map};
 ghost use Rattle.gixp_client.specs.Listening.{text_in};
@@ -12,8 +12,8 @@ use gixp_wire::{Account, Service, SetServiceResponse, Transport};
 use std::alloc::Global;
 use std::mem;
 
-/// A transport that reports the messages of bands 2 and 3 to a listener, and keeps them, each as its packet line is taken. In every
-/// other way it is the transport inside: no other line begins with a byte of 2 or 3.
+/// A transport that reports the messages of bands 2 and 3 to a listener and keeps them, each as its packet line is read. It
+/// forwards every other call to the transport inside. No other line begins with a byte 2 or 3.
 #[derive(Drop)]
 pub struct Heard<T, L> {
     pub(crate) inner: T,
@@ -21,7 +21,7 @@ pub struct Heard<T, L> {
     pub(crate) kept: Kept,
 }
 
-// Which text a line has: of an error, or of progress.
+// The message in a line, and whether it is an error.
 fn text_in(line: &[u8]) -> Option<(bool, &[u8])>
     ensures { option_map (λ text. (text.0, text.1.now)) result ≡ text_in line.now }
 {
@@ -36,7 +36,7 @@ fn text_in(line: &[u8]) -> Option<(bool, &[u8])>
 }
 
 impl<T, L> Heard<T, L> {
-    /// The transport, whose messages are reported to this listener.
+    /// A transport that reports the messages of `inner` to the listener.
     pub fn new(alloc: Global, inner: T, listener: L) -> Heard<T, L>
         ensures { result.inner ≡ inner }
     {
@@ -47,7 +47,7 @@ impl<T, L> Heard<T, L> {
         }
     }
 
-    /// Takes out what was kept so far.
+    /// Returns the messages kept so far, and removes them.
     pub fn take_kept(&mut self, alloc: Global) -> Kept
         ensures { self.new.inner ≡ self.old.inner }
     {
@@ -56,7 +56,7 @@ impl<T, L> Heard<T, L> {
 }
 
 impl<T, L: Drop> Heard<T, L> {
-    /// The transport alone.
+    /// Returns the transport alone. The listener and the stored messages are dropped.
     pub fn into_inner(self) -> T
         ensures { result ≡ self.inner }
     {
@@ -70,7 +70,7 @@ impl<T, L: Drop> Heard<T, L> {
 }
 
 impl<T: ExtendedBufRead, L: Listener> Heard<T, L> {
-    // Reports the message of the line that was taken, if it has one.
+    // Reports the message of the line that was read, if it has one.
     fn tell(&mut self)
         ensures inner { self.new.inner ≡ self.old.inner }
         ensures heard { HearsLine L.hears (text_in (T.reading self.old.inner).line) self.old.listener self.old.kept

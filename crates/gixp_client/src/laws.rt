@@ -27,9 +27,9 @@ use gixp_negotiate::negotiate::negotiation::PaysForHaves;
 use gixp_shallow::{ShallowMemory, ShallowStore};
 use gixp_sidebands::Interrupt;
 
-/// A session that was opened, a ref map of it, and a fetch of what is mapped are one run of the law
-/// [`headline`](gixp_fetch::laws::headline), with all that it promises: the clauses `refs`, `mappings`, `requests`, `few`, `pack`.
-/// Of the handshake nothing but its refs may have changed in between.
+/// Opening a session, mapping its refs, and fetching the mapped refs is one run of the law
+/// [`headline`](gixp_fetch::laws::headline). So its clauses `refs`, `mappings`, `requests`, `few`, `pack` hold. Between these calls
+/// only the refs of the handshake may change.
 pub fn sessions_are_runs<'a, N: PaysForHaves + NegotiatesMap, I: Interrupt, P, C: ConsumePack<P>>()
     ensures { (plain : Bool) (parameters : List Parameter) (agent : FeatureValue) (more : List FeatureValue) (request : Request)
         (start shaken middle : Reading)
@@ -49,8 +49,8 @@ pub fn sessions_are_runs<'a, N: PaysForHaves + NegotiatesMap, I: Interrupt, P, C
     headline::<Watched<'a, N>, ShallowMemory, I, P, C>();
 }
 
-/// A ref map of a session is made of the refs that are here, where they are, and nothing is sent for it; else the server lists the
-/// refs with the prefixes of its refspecs, at each call anew, so that no list for other refspecs is used for these.
+/// If the session already has the server's refs, it makes a ref map from them and sends nothing. Otherwise the server lists the
+/// refs that have the prefixes of the refspecs, at each call anew. So a list for other refspecs is never used.
 pub fn maps_list_again()
     ensures here { (request : Request) (agent : FeatureValue) (shaken : Handshake) (refs : Vec Ref Allocator) (plain : Bool)
         (old new : Reading) (made : Result RefMap MapError) → shaken.refs ≡ Some refs

@@ -1,7 +1,8 @@
-//! A listener that is lent.
+//! `Listener` for a mutable reference.
 use crate::listen::Listener;
 
-/// Lends a listener, as to [`fetch_once`](crate::fetch_once), which takes its listener: the caller reads it afterwards.
+/// Allows a caller to pass `&mut listener` to [`fetch_once`](crate::fetch_once), which takes its listener by value, and to read it
+/// afterwards.
 impl<L: Listener> Listener for &mut L {
     ghost hears = { λ a is_error text b. L.hears a.now is_error text b.now };
 

@@ -1,4 +1,4 @@
-//! A client of a server: a handshake, its refs, what refspecs map of them, and fetches, over one session.
+//! A client's session with a server: the handshake, its refs, ref maps and fetches.
 #![tactic(auto)]
 
 mod boundary;

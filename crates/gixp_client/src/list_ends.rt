@@ -1,4 +1,4 @@
-//! Whether refs may be listed, and whether a list is whole.
+//! Checks of the object format and of the end of a list of refs.
 ghost use Rattle.std.specs.Prelude.{◌≡◌, None, Some, Ok, true, IfOk, IfErr, OnOk};
 ghost use Rattle.std.specs.Option.{option_map};
 ghost use Rattle.bstr.specs.BStr.{bstr_bytes};
@@ -14,7 +14,7 @@ use gixp_refmap::{RefMap, ls_refs};
 use gixp_refs::handshake::Ref;
 use std::alloc::Global;
 
-// The hash function that the server names, where it isn't SHA-1.
+// The object format that the server names, if it isn't SHA-1.
 fn unknown_format(capabilities: &Capabilities) -> Option<BStr<'_>>
     ensures { option_map bstr_bytes result ≡ unknown_format capabilities.now }
 {
@@ -34,7 +34,7 @@ fn unknown_format(capabilities: &Capabilities) -> Option<BStr<'_>>
     }
 }
 
-/// `UnknownObjectFormat` where the server names objects by another hash function than SHA-1. A server that names none means SHA-1
+/// Returns `UnknownObjectFormat` if the server names an object format other than SHA-1. A server that names none uses SHA-1
 /// (gitprotocol-v2, "object-format").
 pub(crate) fn expect_format(alloc: Global, capabilities: &Capabilities) -> Result<(), Error>
     ensures known { OnOk result (unknown_format capabilities.now ≡ None) }
@@ -48,21 +48,20 @@ pub(crate) fn expect_format(alloc: Global, capabilities: &Capabilities) -> Resul
     }
 }
 
-/// Whether the reader is at a flush packet.
 pub(crate) fn is_at_flush<T: ExtendedBufRead>(reader: &T) -> bool
     ensures { result ≡ is_flush (T.reading reader.now).stopped }
 {
     matches!(reader.stopped_at(), Some(MessageKind::Flush))
 }
 
-/// Whether the refs of a ref map are whole: they were here, or the list that it was made of is ended.
+/// Whether the refs of a ref map are complete: the session already had them, or their list ended with a flush packet.
 pub(crate) fn are_whole<T: ExtendedBufRead>(are_here: bool, reader: &T) -> bool
     ensures { result ≡ are_whole are_here (T.reading reader.now).stopped }
 {
     are_here || is_at_flush(reader)
 }
 
-/// The refs of a list, or `UnterminatedRefs` where that isn't ended.
+/// Returns `UnterminatedRefs` for a list that didn't end with a flush packet.
 pub(crate) fn whole_refs(
     listed: Result<Vec<Ref>, ls_refs::Error>,
     is_ended: bool,
@@ -82,7 +81,7 @@ pub(crate) fn whole_refs(
     }
 }
 
-// Why there is no ref map where the reader is at no flush packet.
+// The error of a ref map whose list of refs didn't end with a flush packet.
 fn of_unended(e: init::Error) -> Error
     ensures { result ≡ of_unended e }
 {
@@ -95,7 +94,7 @@ fn of_unended(e: init::Error) -> Error
     }
 }
 
-/// The ref map, or `UnterminatedRefs` where its refs were read and aren't whole.
+/// Returns `UnterminatedRefs` for a ref map whose list of refs is incomplete.
 pub(crate) fn whole_map(made: Result<RefMap, init::Error>, is_whole: bool) -> Result<RefMap, Error>
     ensures whole { result ≡ whole_map made is_whole }
     ensures made { IfOk result (λ m. (made ≡ Ok m) × (is_whole ≡ true)) }

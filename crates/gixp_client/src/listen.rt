@@ -1,4 +1,4 @@
-//! Listeners for the progress and error messages of a server.
+//! Listeners for the server's progress and error messages.
 ghost use Rattle.std.specs.Prelude.{◌≡◌, ◌||◌, ℕ, Bool, List, [], ◌∷◌, ◌++◌, Some, false, true, ⊤, OnOk, OnErr};
 ghost use Rattle.std.specs.List.{find};
 ghost use Rattle.std.specs.Option.{option_copied};
@@ -12,18 +12,18 @@ use std::io::Write;
 
 /// A listener for the messages of bands 2 and 3 (gitprotocol-pack, "Packfile Data").
 ///
-/// Nothing is asked of it, so that an implementation may be its method alone.
+/// An implementation has nothing to prove: `hears` has a default, so the method is enough.
 pub trait Listener {
-    /// What a text makes of it: whether it is an error, and its bytes. Where an implementation says nothing of it, anything.
+    /// How `hear` changes the listener: before, whether the message is an error, its bytes, after. The default allows any change.
     ghost hears: { Self → Bool → List ℕ → Self → Type 0 } = { λ _ _ _ _. ⊤ };
 
-    /// Hears one text as its packet has it: a line may be cut over several, and stand beside others in one. It is progress of
-    /// the server, or an error (band 3), at which `git fetch` ends.
+    /// Receives the message of one packet line. The message may be part of a line, or contain several lines. It is progress or an
+    /// error (band 3). `git fetch` stops at an error.
     fn hear(&mut self, is_error: bool, text: &[u8])
         ensures { hears self.old is_error text.now self.new };
 }
 
-/// Hears nothing.
+/// A listener that ignores all messages.
 #[derive(Clone, Copy, Debug, Drop)]
 pub struct Silent;
 
@@ -31,19 +31,20 @@ impl Listener for Silent {
     fn hear(&mut self, _is_error: bool, _text: &[u8]) {}
 }
 
-/// What a server said beside its answers.
+/// A message of band 2 or 3.
 #[derive(Debug, Drop)]
 pub struct ServerText {
-    /// Whether it is an error (band 3), or progress (band 2).
+    /// Whether it is an error (band 3) and not progress (band 2).
     pub is_error: bool,
-    /// The text, without one NUL or line end at its end.
+    /// The text, without one trailing NUL, LF or CR.
     pub text: BString,
 }
 
-/// How many bytes of texts are kept at most, each counted with one byte more. A server may send any number of them.
+/// The limit of the texts that `Kept` keeps, in bytes. Each text counts one byte more than its length. A server may send any number
+/// of texts.
 pub const MOST_KEPT: usize = 1 << 20;
 
-/// Keeps the texts, up to `MOST_KEPT` bytes of them.
+/// A listener that keeps messages, up to `MOST_KEPT` bytes.
 #[derive(Debug, Drop)]
 pub struct Kept {
     alloc: Global,
@@ -53,7 +54,6 @@ pub struct Kept {
     has_error: bool,
 }
 
-// A text without one NUL or line end at its end.
 fn without_end(text: &[u8]) -> &[u8]
     ensures { result.now ≡ without_end text.now }
 {
@@ -64,7 +64,7 @@ fn without_end(text: &[u8]) -> &[u8]
 }
 
 impl Kept {
-    /// Nothing was said yet.
+    /// Without messages.
     pub fn new(alloc: Global) -> Kept
         ensures texts { kept_texts result ≡ [] }
         ensures room { result.room ≡ MOST_KEPT }
@@ -80,42 +80,41 @@ impl Kept {
         }
     }
 
-    /// What was said, in its order.
+    /// The messages, in the order of their arrival.
     pub fn texts(&self) -> &[ServerText]
         ensures { result.now ≡ self.now.texts.items }
     {
         &self.texts
     }
 
-    /// Whether a text is missing: the room was full, or an allocation failed.
+    /// Whether a message was dropped, because of the limit or a failed allocation.
     pub fn is_cut(&self) -> bool
         ensures { result ≡ self.now.is_cut }
     {
         self.is_cut
     }
 
-    /// Whether an error was said, also where its text is missing.
+    /// Whether the server reported an error. Errors whose text was dropped count.
     pub fn has_error(&self) -> bool
         ensures { result ≡ self.now.has_error }
     {
         self.has_error
     }
 
-    /// The first error whose text is here.
+    /// The first error whose text was kept.
     pub fn first_error(&self) -> Option<&ServerText>
         ensures { option_copied result ≡ find (λ said. said.is_error) self.now.texts.items }
     {
         self.texts.iter().find(|said| said.is_error)
     }
 
-    // Notes an error.
     fn note(&mut self, is_error: bool)
         ensures { self.new ≡ record self.old { has_error = self.old.has_error || is_error } }
     {
         self.has_error = self.has_error || is_error;
     }
 
-    // Keeps a text, where there is room for it.
+    // Fails if the text exceeds the limit, too.
     fn keep(&mut self, is_error: bool, text: &[u8]) -> Result<(), AllocError>
         ensures kept { OnOk result (KeepsText is_error text.now self.old self.new) }
         ensures stays { OnErr result (KeepsTexts self.old self.new) }
@@ -147,40 +146,38 @@ impl Listener for Kept {
     }
 }
 
-/// Writes the messages as git does: each line begins with `remote: `, also one that was cut over several packets, and control
-/// characters in it are question marks. A carriage return ends a line too, over which the next one is then shown, so blanks follow
-/// the text. A line is written once it is whole.
+/// A listener that writes messages as git does. Each line begins with `remote: `, also if it was split over several packets. Its
+/// control characters, except tabs, become question marks. A carriage return ends a line, too. The next line is then shown over it,
+/// so blanks follow the text. A line is written once it is complete.
 pub struct RemoteLines<W: Write + Drop> {
     writer: W,
     line: Vec<u8>,
     is_cut: bool,
 }
 
-// What is written over what is left of a longer line.
+// Overwrites the rest of a longer line.
 const BLANKS: &[u8] = b"        ";
 
-// Whether a terminal may take a byte for a command, by the one before it.
+// Whether a terminal may interpret the byte as a control character. Tabs don't count. `before` is the byte before it: in UTF-8 the
+// C1 control characters are 194 and a byte from 128 to 159.
 fn is_control(before: u8, byte: u8) -> bool
     ensures { result ≡ is_control before byte }
 {
     (byte < 32 && byte != b'\t') || byte == 127 || (before == 194 && 128 <= byte && byte < 160)
 }
 
-// How a byte is shown, by the one before it.
 fn visible(before: u8, byte: u8) -> u8
     ensures { result ≡ visible before byte }
 {
     if is_control(before, byte) { b'?' } else { byte }
 }
 
-// The last byte of a line, or NUL.
 fn last_byte(line: &[u8]) -> u8
     ensures { result ≡ last_byte line.now }
 {
     line.last().copied().unwrap_or(0)
 }
 
-// Writes a line with what ends it.
 fn write_line<W: Write>(writer: &mut W, line: &[u8], end: u8) -> io::Result<()>
     ensures { OnOk result (Appends (W.contents writer.old) (W.contents writer.new) (remote_line line.now end)) }
 {
@@ -194,7 +191,7 @@ fn write_line<W: Write>(writer: &mut W, line: &[u8], end: u8) -> io::Result<()>
 }
 
 impl<W: Write + Drop> RemoteLines<W> {
-    /// Into this writer. What a failed write leaves out is lost.
+    /// Writes to this writer. Output that a write fails to write is lost.
     pub fn new(alloc: Global, writer: W) -> RemoteLines<W>
         ensures writer { result.writer ≡ writer }
         ensures line { result.line.items ≡ [] }
@@ -207,14 +204,14 @@ impl<W: Write + Drop> RemoteLines<W> {
         }
     }
 
-    /// Whether something isn't shown, since a write or an allocation failed.
+    /// Whether output was lost because a write or an allocation failed.
     pub fn is_cut(&self) -> bool
         ensures { result ≡ self.now.is_cut }
     {
         self.is_cut
     }
 
-    // Writes the line at hand with what ends it, and begins anew.
+    // Writes the current line with its terminator, and starts a new line.
     fn end_line(&mut self, end: u8)
         ensures { ShowsLines self.old.is_cut (W.contents self.old.writer) self.new.is_cut (W.contents self.new.writer)
             self.new.line.items (record { written = remote_line self.old.line.items end; line = [] }) }
@@ -225,7 +222,7 @@ impl<W: Write + Drop> RemoteLines<W> {
         self.line.clear();
     }
 
-    // Adds a byte to the line at hand.
+    // Adds a byte to the current line.
     fn add(&mut self, byte: u8)
         ensures { ShowsLines self.old.is_cut (W.contents self.old.writer) self.new.is_cut (W.contents self.new.writer)
             self.new.line.items (unshown (self.old.line.items ++ visible (last_byte self.old.line.items) byte ∷ [])) }
@@ -236,7 +233,6 @@ impl<W: Write + Drop> RemoteLines<W> {
         }
     }
 
-    // Shows a byte.
     fn show_byte(&mut self, byte: u8)
         ensures { ShowsLines self.old.is_cut (W.contents self.old.writer) self.new.is_cut (W.contents self.new.writer)
             self.new.line.items (after_byte self.old.line.items byte) }
@@ -247,7 +243,7 @@ impl<W: Write + Drop> RemoteLines<W> {
         }
     }
 
-    // Shows a text after the line at hand.
+    // Adds a text to the current line.
     fn show(&mut self, text: &[u8])
         ensures { ShowsLines self.old.is_cut (W.contents self.old.writer) self.new.is_cut (W.contents self.new.writer)
             self.new.line.items (after_text self.old.line.items text.now) }
@@ -259,7 +255,7 @@ impl<W: Write + Drop> RemoteLines<W> {
         }
     }
 
-    // Writes what is left of a line that wasn't ended.
+    // Writes the current line, if it isn't empty.
     fn end(&mut self)
         ensures { ShowsLines self.old.is_cut (W.contents self.old.writer) self.new.is_cut (W.contents self.new.writer)
             self.new.line.items (ended self.old.line.items) }
@@ -269,7 +265,7 @@ impl<W: Write + Drop> RemoteLines<W> {
         }
     }
 
-    // Shows an error message, on lines of its own.
+    // Shows an error message on lines of its own.
     fn show_error(&mut self, text: &[u8])
         ensures { ShowsLines self.old.is_cut (W.contents self.old.writer) self.new.is_cut (W.contents self.new.writer)
             self.new.line.items (shown_of true self.old.line.items text.now) }
@@ -294,7 +290,7 @@ impl<W: Write + Drop> Listener for RemoteLines<W> {
 }
 
 impl<W: Write + Drop> Drop for RemoteLines<W> {
-    // A line that wasn't ended is shown.
+    // Writes the last line, if the server didn't end it.
     fn drop(mut self) {
         self.end();
         let RemoteLines {

@@ -1,4 +1,4 @@
-//! What a client says of itself.
+//! The client's agent name and session id.
 ghost use Rattle.std.specs.Prelude.{◌≡◌, IfOk};
 ghost use Rattle.gixp_requests.specs.Feature.{feature_value, feature_values};
 ghost use Rattle.gixp_client.specs.ClientNames.{is_session_id, agent_of, own_features, id_features, named_by, SaysOfItself};
@@ -8,21 +8,21 @@ use gixp_requests::command::Feature;
 use gixp_requests::{agent, agent_feature};
 use std::alloc::{AllocError, Global};
 
-/// How a client names itself, and its session.
+/// The client's agent name and the session id.
 #[derive(Drop)]
 pub struct ClientName {
     pub(crate) agent: String,
     pub(crate) session_id: Option<String>,
 }
 
-/// The same as one server hears it: the texts of the features of a request for a pack.
+/// The values of the features `agent` and `session-id` in fetch requests to one server.
 #[derive(Drop)]
 pub(crate) struct SentName {
     pub(crate) agent: String,
     pub(crate) session_id: Option<String>,
 }
 
-/// Whether this can be a session id: one or more printable characters of ASCII, without a blank (gitprotocol-capabilities,
+/// Whether a text is a valid session id: one or more printable ASCII characters without a blank (gitprotocol-capabilities,
 /// "session-id").
 pub(crate) fn is_session_id(text: &[u8]) -> bool
     ensures { result ≡ is_session_id text.now }
@@ -31,14 +31,14 @@ pub(crate) fn is_session_id(text: &[u8]) -> bool
 }
 
 impl ClientName {
-    /// The feature that names the client.
+    /// The feature `agent`.
     pub(crate) fn agent_feature(&self, alloc: Global) -> Result<Feature, AllocError>
         ensures { IfOk result (λ feature. feature_value feature ≡ named_by self.now) }
     {
         agent_feature(alloc, self.agent.as_str())
     }
 
-    // The session id, where there is one and the server takes it.
+    // The session id, if the server accepts one.
     fn sent_id(&self, capabilities: &Capabilities) -> Result<Option<String>, AllocError>
         ensures { IfOk result (λ id. own_features id ≡ id_features capabilities.now self.now.session_id) }
     {
@@ -48,7 +48,7 @@ impl ClientName {
         }
     }
 
-    /// What is said to a server with these capabilities.
+    /// The values to send to a server with these capabilities.
     pub(crate) fn sent(
         &self,
         alloc: Global,
@@ -63,14 +63,14 @@ impl ClientName {
     }
 }
 
-/// The feature of an agent that is named by this text.
+/// The feature `agent` with this value.
 pub(crate) fn named(agent: String) -> Feature
     ensures { feature_value result ≡ agent_of agent }
 {
     ("agent", Some(agent))
 }
 
-/// The features beside it.
+/// The feature `session-id`, if there is a session id.
 pub(crate) fn identified(
     alloc: Global,
     session_id: Option<String>,

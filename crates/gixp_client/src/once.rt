@@ -1,4 +1,4 @@
-//! A session of one fetch.
+//! A session with one fetch.
 ghost use Rattle.std.specs.Prelude.{◌≡◌, ◌⊎◌, [], None, Ok, IfOk};
 ghost use Rattle.gixp_packetline.specs.Reading.{Reading};
 ghost use Rattle.gixp_fetch.specs.Fetch.{parties_of};
@@ -26,8 +26,8 @@ use gixp_sidebands::{Interrupt, NeverInterrupt};
 use gixp_wire::Transport;
 use std::alloc::Global;
 
-/// Opens a session, maps and fetches what the request asks for, and closes it. What it does is one run of the law
-/// [`headline`](gixp_fetch::laws::headline), unless nothing is mapped.
+/// Opens a session, maps and fetches what the request asks for, and closes the session. This is one run of the law
+/// [`headline`](gixp_fetch::laws::headline), unless the map is empty.
 ///
 /// # Errors
 ///
@@ -73,7 +73,7 @@ where
     )
 }
 
-/// The same, with a negotiator of the caller's in place of the request's algorithm. It is for one fetch.
+/// Like [`fetch_once`], with the caller's negotiator in place of the request's algorithm. A negotiator serves one fetch.
 ///
 /// # Errors
 ///

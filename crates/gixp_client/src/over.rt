@@ -11,17 +11,17 @@ use gixp_requests::fetch::Arguments;
 use gixp_response::fetch::Response;
 use std::alloc::{AllocError, Global};
 
-/// A negotiation whose requests ask for a filter where the server offers it, by a line after the wants (gitprotocol-v2, "fetch";
-/// gitprotocol-pack, "Packfile Negotiation").
+/// A negotiation whose first request asks for a filter if the server offers it. The line `filter` follows the wants
+/// (gitprotocol-v2, "fetch"; gitprotocol-pack, "Packfile Negotiation").
 #[derive(Drop)]
 pub struct Filtered<'a, N> {
     negotiation: N,
-    // The filter, until it is asked for.
+    // The filter, until a request asks for it.
     filter: Option<&'a str>,
 }
 
 impl<'a, N> Filtered<'a, N> {
-    /// The negotiation, with this filter, if there is one.
+    /// Adds a filter to a negotiation. `None` adds nothing.
     pub fn new(negotiation: N, filter: Option<&'a str>) -> Filtered<'a, N>
         ensures negotiation { result.negotiation ≡ negotiation }
         ensures filter { result.filter ≡ filter.entry }
@@ -33,7 +33,6 @@ impl<'a, N> Filtered<'a, N> {
     }
 }
 
-// Asks for a filter, if there is one, where the server offers it.
 fn ask(filter: Option<&str>, arguments: &mut Arguments) -> Result<(), AllocError>
     ensures asked { OnOk result (arguments.new ≡ with_filter (option_copied filter.entry) arguments.old) }
     ensures refused { OnErr result (arguments.new ≡ arguments.old) }

@@ -9,12 +9,12 @@ use gixp_wire::Connection;
 use std::alloc::{AllocError, Global};
 use std::io::{Read, Write};
 
-/// The transport over the stream from a server and the one to it, such as the pipes of `git upload-pack PATH`, here or by `ssh`.
-/// Nothing on the wire asks for a version: set `GIT_PROTOCOL=version=2` for that program. All versions are accepted.
+/// A transport over two streams, such as the pipes of `git upload-pack PATH`, local or by `ssh`. It sends no request for a protocol
+/// version: set `GIT_PROTOCOL=version=2` for that program. It accepts all versions.
 ///
 /// # Errors
 ///
-/// An allocation failure alone.
+/// Only when an allocation fails.
 pub fn over_streams<R: Read + Drop, W: Write + Drop>(
     alloc: Global,
     from: R,

@@ -1,4 +1,4 @@
-//! What is wrong with a connection, or with what came over it, in words.
+//! How a connection failed or the server violated the protocol, as texts.
 ghost use Rattle.std.specs.Prelude.{◌≡◌};
 ghost use Rattle.std.specs.Option.{option_map};
 ghost use Rattle.gixp_client.specs.Reasons.{read_reason, client_reason, refs_reason, handshake_reason, answer_reason, pack_reason};
@@ -10,7 +10,7 @@ use gixp_packetline::read;
 use gixp_refs::handshake::refs::parse;
 use gixp_response::fetch::response;
 
-/// What is wrong with what was read.
+/// The fault of a reader, if its error has a text.
 pub(crate) fn read_reason(e: &read::Error) -> Option<&'static str>
     ensures { option_map (λ w. w.now) result ≡ read_reason e.now }
 {
@@ -27,7 +27,7 @@ pub(crate) fn read_reason(e: &read::Error) -> Option<&'static str>
     }
 }
 
-/// What is wrong with a call that speaks to the server.
+/// The fault of a call to the server.
 pub(crate) fn client_reason(e: &client::Error) -> Option<&'static str>
     ensures { option_map (λ w. w.now) result ≡ client_reason e.now }
 {
@@ -46,7 +46,7 @@ pub(crate) fn client_reason(e: &client::Error) -> Option<&'static str>
     }
 }
 
-/// What is wrong with the lines of refs.
+/// The fault of a list of refs.
 pub(crate) fn refs_reason(e: &parse::Error) -> Option<&'static str>
     ensures { option_map (λ w. w.now) result ≡ refs_reason e.now }
 {
@@ -60,7 +60,7 @@ pub(crate) fn refs_reason(e: &parse::Error) -> Option<&'static str>
     }
 }
 
-/// What is wrong in a handshake.
+/// The fault of a handshake.
 pub(crate) fn handshake_reason(e: &handshake::Error) -> Option<&'static str>
     ensures { option_map (λ w. w.now) result ≡ handshake_reason e.now }
 {
@@ -71,7 +71,7 @@ pub(crate) fn handshake_reason(e: &handshake::Error) -> Option<&'static str>
     }
 }
 
-/// What is wrong with an answer.
+/// The fault of a response.
 pub(crate) fn answer_reason(e: &response::Error) -> Option<&'static str>
     ensures { option_map (λ w. w.now) result ≡ answer_reason e.now }
 {
@@ -82,7 +82,7 @@ pub(crate) fn answer_reason(e: &response::Error) -> Option<&'static str>
     }
 }
 
-/// What is wrong with a pack.
+/// The fault of a pack.
 pub(crate) fn pack_reason(e: &PackError) -> Option<&'static str>
     ensures { option_map (λ w. w.now) result ≡ pack_reason e.now }
 {

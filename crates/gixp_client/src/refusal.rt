@@ -1,4 +1,4 @@
-//! What lower errors say of a read or a write that failed, and the error of a failed fetch.
+//! The `ErrorKind` in lower errors, and the error of a failed fetch.
 ghost use Rattle.std.specs.Prelude.{◌≡◌};
 ghost use Rattle.gixp_client.specs.ClientError.{NamesMissing, IsToldOf, client_kind, parse_kind, answer_kind, pack_kind};
 ghost use Rattle.gixp_client.specs.ClientCalls.{IsToldCame};
@@ -14,7 +14,7 @@ use gixp_response::fetch::response;
 use std::alloc::Global;
 use std::io::ErrorKind;
 
-/// The error of a call that speaks to the server.
+/// The kind in an error of a call to the server.
 pub(crate) fn client_kind(e: &client::Error) -> Option<ErrorKind>
     ensures { result ≡ client_kind e.now }
 {
@@ -25,7 +25,7 @@ pub(crate) fn client_kind(e: &client::Error) -> Option<ErrorKind>
     }
 }
 
-/// The error of a reader of refs.
+/// The kind in an error of the reader of refs.
 pub(crate) fn parse_kind(e: &parse::Error) -> Option<ErrorKind>
     ensures { result ≡ parse_kind e.now }
 {
@@ -35,7 +35,7 @@ pub(crate) fn parse_kind(e: &parse::Error) -> Option<ErrorKind>
     }
 }
 
-/// The error of a reader of answers.
+/// The kind in an error of the reader of responses.
 pub(crate) fn answer_kind(e: &response::Error) -> Option<ErrorKind>
     ensures { result ≡ answer_kind e.now }
 {
@@ -46,7 +46,7 @@ pub(crate) fn answer_kind(e: &response::Error) -> Option<ErrorKind>
     }
 }
 
-/// The error of a consumer of the pack.
+/// The kind in an error of a pack's consumer.
 pub(crate) fn pack_kind(e: &PackError) -> Option<ErrorKind>
     ensures { result ≡ pack_kind e.now }
 {
@@ -56,7 +56,7 @@ pub(crate) fn pack_kind(e: &PackError) -> Option<ErrorKind>
     }
 }
 
-/// What the server doesn't offer.
+/// The error for a feature that the server doesn't offer.
 pub(crate) fn missing(alloc: Global, feature: &str) -> Error
     ensures { NamesMissing feature.now result }
 {
@@ -66,7 +66,7 @@ pub(crate) fn missing(alloc: Global, feature: &str) -> Error
     }
 }
 
-// Why a fetch failed, with nothing of the caller's in it. A boundary in memory that nobody else has fails for an allocation alone.
+// The error of a failed fetch, without a type of the caller's. `ShallowMemory` fails only when an allocation fails.
 fn refusal<A: Drop, E: Into<Error>>(alloc: Global, e: FetchError<A, E>) -> Error
     ensures { IsToldOf e result }
 {
@@ -88,7 +88,7 @@ fn refusal<A: Drop, E: Into<Error>>(alloc: Global, e: FetchError<A, E>) -> Error
     }
 }
 
-/// What came of a fetch, with nothing of the caller's in it.
+/// The result of a fetch, without a type of the caller's.
 pub(crate) fn told<A: Drop, E: Into<Error>>(
     alloc: Global,
     came: Result<Option<Outcome>, FetchError<A, E>>,

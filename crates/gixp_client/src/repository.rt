@@ -1,11 +1,11 @@
-//! What a fetch knows of the repository that fetches.
+//! The repository that a fetch reads.
 use gixp_hash::ObjectId;
 
-/// The repository that fetches, lent for one fetch.
+/// The repository that fetches, borrowed for one fetch.
 #[derive(Drop)]
 pub struct Repository<'a, F, R> {
-    /// Its objects. One that is there counts as known with all that it leads to: a store that may hold a commit without its
-    /// history shows only what a ref reaches.
+    /// Its objects. The fetch assumes that an object that exists is complete, with everything it reaches. So a store that may hold
+    /// a commit without its history must hide objects that no ref reaches.
     pub objects: &'a F,
     /// Its refs.
     pub refs: &'a mut R,

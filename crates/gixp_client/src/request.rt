@@ -1,4 +1,4 @@
-//! What a session is asked for.
+//! The request of a client.
 ghost use Rattle.std.specs.Prelude.{◌≡◌, IfOk, IfErr, OnOk, OnErr, map};
 ghost use Rattle.gixp_refspec.specs.RefSpec.{owned_value_of};
 ghost use Rattle.gixp_refmap.specs.Tags.{tags_asked};
@@ -19,31 +19,32 @@ use gixp_requests::command::CommandTable;
 use gixp_shallow::Shallow;
 use std::alloc::{AllocError, Global};
 
-/// What a session is asked for: what is mapped, and how it is fetched.
+/// What to map, and how to fetch it.
 #[derive(Debug, Drop)]
 pub struct Request {
     alloc: Global,
-    /// The refspecs. Where there are none, nothing but tags is mapped.
+    /// The refspecs. Without any, only tags are mapped.
     pub refspecs: Vec<RefSpec>,
-    /// Which tags come along. The default is the tags that lead to what is fetched.
+    /// Which tags to fetch. The default is the tags that point into the fetched history.
     pub tags: Tags,
-    /// How much of the history is fetched. The default is what is missing.
+    /// How much of the history to fetch. The default is everything that is missing.
     pub shallow: Shallow,
-    /// Who chooses the haves. The default is `Consecutive`.
+    /// The algorithm that chooses the haves. The default is `Consecutive`.
     pub algorithm: Algorithm,
-    /// Whether a server whose repository is shallow is rejected. The default is false.
+    /// Whether to reject a server whose repository is shallow. The default is false.
     pub rejects_shallow: bool,
-    /// Whether the transport may be two pipes. Then requests of versions 0 and 1 have few haves, so that no two writes wait for each
-    /// other. The default is true.
+    /// Whether the transport may be two pipes. Requests of versions 0 and 1 then have few haves, so that client and server never
+    /// block each other in a write. The default is true.
     pub is_over_pipes: bool,
-    /// Which objects are left out (git-rev-list, "--filter"). The default is none.
+    /// Which objects to leave out (git-rev-list, "--filter"). The default is none.
     pub filter: Option<String>,
-    /// Whether a fetch goes on though the server reports an error beside the pack (band 3). The default is false.
+    /// Whether a fetch continues after the server reports an error on band 3. The default is false.
     pub goes_on: bool,
-    /// Whether the server is to say how far it came. Else it is asked not to, where it can be. The default is true.
+    /// Whether the server should send progress. If not, the request asks for `no-progress` where the server offers it. The default
+    /// is true.
     pub wants_progress: bool,
-    /// Over which protocols the server may name packs by URIs in place of objects in its pack (gitprotocol-v2, "packfile-uris"). The
-    /// transport has to take the section `packfile-uris` out of the answer: a fetch refuses it. The default is none.
+    /// The protocols of the URIs that the server may send in place of objects in its pack (gitprotocol-v2, "packfile-uris"). The
+    /// transport has to remove the section `packfile-uris` from the response, since a fetch rejects it. The default is none.
     pub uri_protocols: UriProtocols,
 }
 
@@ -51,7 +52,7 @@ impl Request {
     ghost use Rattle.gixp_client.specs.ClientCalls.{asked_specs};
     ghost use Rattle.gixp_client.specs.Requests.{IsDefaultRequest, AddsSpec, IsSpecRefusal, SetsFilter};
 
-    /// No refspecs yet, and the defaults of `git fetch`.
+    /// A request without refspecs, with the defaults of `git fetch`.
     pub fn new(alloc: Global) -> Request
         ensures { IsDefaultRequest result }
     {
@@ -70,11 +71,11 @@ impl Request {
         }
     }
 
-    /// Adds a refspec, as `+refs/heads/*:refs/remotes/origin/*` (git-fetch, "<refspec>").
+    /// Adds a refspec, for example `+refs/heads/*:refs/remotes/origin/*` (git-fetch, "<refspec>").
     ///
     /// # Errors
     ///
-    /// `Refspec` where the text is none, or `Memory`. Nothing is added then.
+    /// `Refspec` if the text isn't a valid refspec, or `Memory`. Then the request is unchanged.
     pub fn add_refspec(&mut self, text: &[u8]) -> Result<(), Error>
         ensures added { OnOk result (AddsSpec text.now self.old self.new) }
         ensures refused { IfErr result (IsSpecRefusal text.now) }
@@ -94,11 +95,11 @@ impl Request {
         }
     }
 
-    /// Leaves out the objects that a filter names (git-rev-list, "--filter").
+    /// Leaves out the objects that the filter excludes (git-rev-list, "--filter").
     ///
     /// # Errors
     ///
-    /// `Memory` alone.
+    /// Only `Memory`. Then the request is unchanged.
     pub fn set_filter(&mut self, filter: &str) -> Result<(), Error>
         ensures set { OnOk result (SetsFilter filter.now self.old self.new) }
         ensures refused { IfErr result (λ e. (e ≡ Error.Memory) × (self.new ≡ self.old)) }
@@ -107,14 +108,14 @@ impl Request {
         Ok(())
     }
 
-    // What is asked for of the server by itself.
+    // The commands and features that a session with this request uses.
     pub(crate) fn table(&self) -> CommandTable
         ensures { table_of result ≡ asked_table self.now.wants_progress self.now.uri_protocols }
     {
         table_by(self.wants_progress, self.uri_protocols)
     }
 
-    // The refspecs, and the refspec of the tags.
+    // The refspecs of the request and the refspec of its tags.
     pub(crate) fn context(&self) -> Result<init::Context, AllocError>
         ensures { IfOk result (λ c. context_value c ≡ asked_specs self.now) }
     {
@@ -127,7 +128,6 @@ impl Request {
     }
 }
 
-// Copies of refspecs.
 fn copied_specs(specs: &Vec<RefSpec>) -> Result<Vec<RefSpec>, AllocError>
     ensures { IfOk result (λ copy. map owned_value_of copy.items ≡ map owned_value_of specs.now.items) }
 {
@@ -135,7 +135,7 @@ fn copied_specs(specs: &Vec<RefSpec>) -> Result<Vec<RefSpec>, AllocError>
     Ok(copy)
 }
 
-// The refspec of the tags, if there is one.
+// The refspec of the tags, if these tags need one.
 fn tag_specs(alloc: Global, tags: Tags) -> Result<Vec<RefSpec>, AllocError>
     ensures { IfOk result (λ specs. map owned_value_of specs.items ≡ some_spec (tags_asked tags)) }
 {

@@ -34,7 +34,7 @@ use gixp_wire::Transport;
 use std::alloc::Global;
 use std::collections::BTreeSet;
 
-/// The negotiation of a session's fetch, but for what looks at the boundary.
+/// The negotiation of a session's fetch, without the check of shallow updates.
 pub type FilteredNegotiation<'a, F, R, N> = Filtered<
     'a,
     Windowed<Negotiation<'a, Shared<'a, F>, R, N, Shared<'a, F>, NoAlternates>>,
@@ -43,7 +43,7 @@ pub type FilteredNegotiation<'a, F, R, N> = Filtered<
 /// The negotiation of a session's fetch.
 pub type SessionNegotiation<'a, F, R, N> = Watched<'a, FilteredNegotiation<'a, F, R, N>>;
 
-/// How many haves a request may have.
+/// The limit of haves in one request.
 pub(crate) fn most_haves(version: Protocol, is_over_pipes: bool) -> usize
     ensures some { 16 ≤ result }
     ensures whole { version ≡ V2 → result ≡ usize.MAX }
@@ -62,25 +62,25 @@ pub(crate) fn most_haves(version: Protocol, is_over_pipes: bool) -> usize
     }
 }
 
-/// What a fetch is of: what is mapped, whose repository fetches it and how, and who chooses the haves.
+/// The parameters of a fetch.
 pub(crate) struct Wanted<'a, F, R, N> {
     pub(crate) map: &'a RefMap,
     pub(crate) objects: &'a F,
     pub(crate) refs: &'a mut R,
     pub(crate) request: &'a Request,
     pub(crate) negotiator: &'a mut N,
-    /// The shallow boundary, out of which the server may take what is in it.
+    /// The shallow boundary. The server may unshallow only ids in it.
     pub(crate) boundary: &'a BTreeSet<ObjectId>,
 }
 
-/// The server of a fetch, and its progress reporter.
+/// The server of a fetch, and the progress reporter.
 pub(crate) struct Peer<'s, T, P> {
     pub(crate) shaken: &'s mut Handshake,
     pub(crate) transport: &'s mut T,
     pub(crate) progress: &'s mut P,
 }
 
-// Fetches what a negotiation asks for. No signature here names a static lifetime, which the negotiation's own stand beside.
+// Fetches by a negotiation. No signature here names a static lifetime, as the negotiation has lifetimes of its own.
 fn fetch_over<N: Negotiate, T: Transport, P: NestedProgress, C: ConsumePack<P>>(
     alloc: Global,
     negotiation: &mut N,
@@ -135,7 +135,8 @@ where
     told(alloc, came)
 }
 
-/// Fetches what is mapped, and says whether a round was negotiated. All that the negotiation borrows is a local here.
+/// Fetches the mapped refs, and returns whether a round was negotiated. Everything that the negotiation borrows is local to this
+/// function.
 pub(crate) fn fetch_mapped<
     'a,
     F: Find,

@@ -39,13 +39,17 @@ use gixp_requests::command::CommandTable;
 use gixp_wire::{Service, Transport};
 use std::alloc::{AllocError, Global};
 
-/// A session with a server: after the handshake its refs can be listed and mapped, and what is mapped fetched, under version 2 as
-/// often as need be.
+/// A session with a server. After the handshake, the caller can list and map its refs, and fetch what is mapped. Under version 2 it
+/// can do so repeatedly.
 ///
-/// `state` says where a failed call leaves it. A call that fails before its first request is ready leaves it as it was, and so does one
-/// that gives up where the server waits for a request. A server that sends an error message has gone. After a failed read or write, or an
-/// answer that can't be read, the session is broken. In both cases every later call returns `Error::Over` and sends nothing. A
-/// dropped session is closed.
+/// A failed call leaves the session in the state that `state` returns:
+///
+/// - A call that fails before its first request is ready, or that gives up while the server waits for a request, leaves the state
+///   unchanged.
+/// - A server that sends an error message closes the connection. The session has ended.
+/// - After a failed read or write, or a response that can't be read, the session is broken.
+///
+/// After the latter two every call returns `Error::Over` and sends nothing. Dropping a session closes it.
 pub struct Session<T: Transport + Drop, L: Listener + Drop, P: NestedProgress + Drop = Discard> {
     pub(crate) alloc: Global,
     pub(crate) transport: Heard<T, L>,
@@ -55,7 +59,6 @@ pub struct Session<T: Transport + Drop, L: Listener + Drop, P: NestedProgress + 
     pub(crate) progress: P,
 }
 
-// Whether refs are here.
 fn has_refs(refs: &Option<Vec<Ref>>) -> bool
     ensures { result ≡ is_some refs.now }
 {
@@ -66,12 +69,13 @@ fn has_refs(refs: &Option<Vec<Ref>>) -> bool
 }
 
 impl<T: Transport + Drop, L: Listener + Drop> Session<T, L, Discard> {
-    /// Shakes hands, without an account (gitprotocol-pack, "Reference Discovery"; gitprotocol-v2, "Capability Advertisement"). The
-    /// transport says which versions are accepted. `agent` is sent as the client's name, and the server's messages go to the listener.
+    /// Performs the handshake, without an account (gitprotocol-pack, "Reference Discovery"; gitprotocol-v2, "Capability
+    /// Advertisement"). The transport decides which versions are accepted. `agent` is sent as the name of the client. The
+    /// listener receives the server's messages.
     ///
     /// # Errors
     ///
-    /// `Handshake` where it fails, or `Memory`. The transport is dropped.
+    /// `Handshake` if it fails, or `Memory`. The transport is dropped.
     pub fn open(
         alloc: Global,
         transport: T,
@@ -96,9 +100,9 @@ impl<T: Transport + Drop, L: Listener + Drop> Session<T, L, Discard> {
 }
 
 impl<T: Transport + Drop, L: Listener + Drop, P: NestedProgress + Drop> Session<T, L, P> {
-    /// Shakes hands as `open` does, with these parameters beside the transport's own. Where the server wants an account,
-    /// `authenticate` is asked for one, and afterwards to store or to erase it (gitcredentials). All calls of the session are
-    /// reported to the progress reporter, as `handshake`, `obtain` and `fetch` say.
+    /// Performs the handshake like `open`, with these parameters in addition to the transport's own. If the server wants an
+    /// account, `authenticate` is called to get one, and afterwards to store or to erase it (gitcredentials). The progress reporter
+    /// receives the reports of all calls of the session, as documented at `handshake`, `obtain` and `fetch`.
     ///
     /// # Errors
     ///
@@ -147,13 +151,13 @@ impl<T: Transport + Drop, L: Listener + Drop, P: NestedProgress + Drop> Session<
         })
     }
 
-    /// Names the session by this id from now on: each request for a pack has it, where the server takes one (gitprotocol-v2,
-    /// "session-id"; gitprotocol-capabilities, "session-id"). False, and nothing changes, where it isn't one or more printable
-    /// characters of ASCII without a blank.
+    /// Sets the session id. From now on each fetch request has it if the server accepts one (gitprotocol-v2, "session-id";
+    /// gitprotocol-capabilities, "session-id"). Returns false, and changes nothing, unless the id is one or more printable ASCII
+    /// characters without a blank.
     ///
     /// # Errors
     ///
-    /// An allocation failure alone, after which nothing is changed.
+    /// Only when an allocation fails. Then nothing is changed.
     pub fn set_session_id(&mut self, id: &str) -> Result<bool, AllocError>
         ensures fits { IfOk result (λ fits. fits ≡ is_session_id id.now) }
         ensures held { result ≡ Ok true → option_map string_bytes self.new.name.session_id ≡ Some id.now }
@@ -168,53 +172,53 @@ impl<T: Transport + Drop, L: Listener + Drop, P: NestedProgress + Drop> Session<
         Ok(true)
     }
 
-    /// Whether another call may come.
+    /// Whether another call is possible.
     pub fn state(&self) -> State
         ensures { result ≡ self.now.state }
     {
         self.state
     }
 
-    /// The version of the protocol that the server speaks.
+    /// The protocol version that the server speaks.
     pub fn version(&self) -> Protocol
         ensures { result ≡ self.now.shaken.server_protocol_version }
     {
         self.shaken.server_protocol_version
     }
 
-    /// What the server can do.
+    /// The server's capabilities.
     pub fn capabilities(&self) -> &Capabilities
         ensures { result.now ≡ self.now.shaken.capabilities }
     {
         &self.shaken.capabilities
     }
 
-    /// Whether the server can leave out objects by a filter: a fetch whose request has one is refused else.
+    /// Whether the server offers filters. If not, a fetch whose request has a filter fails.
     ///
     /// # Errors
     ///
-    /// An allocation failure alone.
+    /// Only when an allocation fails.
     pub fn can_filter(&self) -> Result<bool, AllocError>
         ensures { IfOk result (λ can. can ≡ offers_filter self.now.shaken) }
     {
         can_filter(self.alloc, &self.shaken)
     }
 
-    /// The listener, as the messages so far left it.
+    /// The listener.
     pub fn listener(&self) -> &L
         ensures { result.now ≡ self.now.transport.listener }
     {
         &self.transport.listener
     }
 
-    /// The progress reporter, as the calls so far left it.
+    /// The progress reporter.
     pub fn progress(&self) -> &P
         ensures { result.now ≡ self.now.progress }
     {
         &self.progress
     }
 
-    // Refuses a call where the session is broken or over.
+    // Returns `Over` if the session is broken or has ended.
     pub(crate) fn expect_open(&self) -> Result<(), Error>
         ensures { MatchResult result (λ _. self.now.state ≡ State.AtStop) (λ e. (e ≡ Error.Over) × (self.now.state ≢ State.AtStop)) }
     {
@@ -224,7 +228,7 @@ impl<T: Transport + Drop, L: Listener + Drop, P: NestedProgress + Drop> Session<
         }
     }
 
-    // Asks for all refs, and keeps them.
+    // Lists all refs, and keeps them.
     fn ask_refs(&mut self) -> Result<(), Error>
         ensures over { self.old.state ≢ State.AtStop → (result ≡ Err Error.Over) × (self.new ≡ self.old) }
         ensures other { unknown_format self.old.shaken.capabilities ≢ None → self.new ≡ self.old }
@@ -265,14 +269,17 @@ impl<T: Transport + Drop, L: Listener + Drop, P: NestedProgress + Drop> Session<
         }
     }
 
-    /// Lists all refs of the server, unless they are here: those that came with the handshake (versions 0 and 1), or of an earlier call
-    /// (version 2; gitprotocol-v2, "ls-refs"). They stay in the session, and later ref maps are made of them.
+    /// Lists all refs of the server, unless the session has them already: from the handshake (versions 0 and 1) or from an earlier
+    /// call (version 2; gitprotocol-v2, "ls-refs"). The session keeps them, and makes later ref maps from them.
     ///
     /// # Errors
     ///
-    /// `Refs`, `Request` or `UnsupportedListing` where they can't be listed, `UnterminatedRefs` where the list ends at another packet
-    /// than a flush packet, `UnknownObjectFormat` where the server names objects by another hash function than SHA-1, to which nothing
-    /// is sent, `Over`, or `Memory`. `state` says what stands then, and no refs are kept.
+    /// - `Refs`, `Request` or `UnsupportedListing` if the refs can't be listed.
+    /// - `UnterminatedRefs` if the list doesn't end with a flush packet.
+    /// - `UnknownObjectFormat` if the server's object format isn't SHA-1. Nothing is sent.
+    /// - `Over`, or `Memory`.
+    ///
+    /// No refs are kept then. `state` returns the state of the session.
     pub fn list(&mut self) -> Result<(), Error>
         ensures here { self.old.shaken.refs ≢ None → (result ≡ Ok tt) × (self.new ≡ self.old) }
         ensures over { self.old.shaken.refs ≡ None → self.old.state ≢ State.AtStop → (result ≡ Err Error.Over) × (self.new ≡ self.old) }
@@ -296,11 +303,11 @@ impl<T: Transport + Drop, L: Listener + Drop, P: NestedProgress + Drop> Session<
         }
     }
 
-    /// All refs of the server, listed as `list` does.
+    /// All refs of the server, listed as by `list`.
     ///
     /// # Errors
     ///
-    /// As `list`. Refs that are here are given whatever the state.
+    /// As `list`. Refs that the session has already are returned in every state.
     pub fn refs(&mut self) -> Result<&[Ref], Error>
         ensures given { IfOk result (λ refs. GivesRefs (named_by self.old.name) self.old.shaken T.is_plain
             (T.reading self.old.transport.inner) self.old.shaken.refs refs.now) }
@@ -314,7 +321,7 @@ impl<T: Transport + Drop, L: Listener + Drop, P: NestedProgress + Drop> Session<
         }
     }
 
-    // A copy of the refs that are here.
+    // A copy of the refs that the session has already.
     fn refs_here(&self) -> Result<Option<Vec<Ref>>, AllocError>
         ensures { IfOk result (λ refs. option_map refs_value refs ≡ option_map refs_value self.now.shaken.refs) }
     {
@@ -324,17 +331,19 @@ impl<T: Transport + Drop, L: Listener + Drop, P: NestedProgress + Drop> Session<
         }
     }
 
-    /// What the refspecs of a request, and the refspec of its tags, map of the server's refs (git-fetch, "<refspec>").
+    /// Maps the server's refs by the refspecs of a request and the refspec of its tags (git-fetch, "<refspec>").
     ///
-    /// Where all refs are here, from the handshake or a call of `refs`, nothing is sent. Else the server lists the refs with these
-    /// refspecs' prefixes, at each call anew, and they are kept in the map alone: a list for other refspecs is never used for these
-    /// ([`laws::maps_list_again`](crate::laws::maps_list_again)).
+    /// If the session has all refs, from the handshake or a call of `refs`, nothing is sent. Otherwise the server lists the refs
+    /// that have the prefixes of these refspecs, at each call anew, and only the map keeps them. A list for other refspecs is never
+    /// used ([`laws::maps_list_again`](crate::laws::maps_list_again)).
     ///
     /// # Errors
     ///
-    /// `Refs`, `Request` or `UnsupportedListing` where they can't be listed, `UnterminatedRefs` where the list ends at another packet
-    /// than a flush packet, `Conflicts` where two refs go to one local name, `UnknownObjectFormat` where the server names objects by
-    /// another hash function than SHA-1, to which nothing is sent, `Over`, or `Memory`.
+    /// - `Refs`, `Request` or `UnsupportedListing` if the refs can't be listed.
+    /// - `UnterminatedRefs` if the list doesn't end with a flush packet.
+    /// - `Conflicts` if two refs map to one local name.
+    /// - `UnknownObjectFormat` if the server's object format isn't SHA-1. Nothing is sent.
+    /// - `Over`, or `Memory`.
     pub fn map(&mut self, request: &Request) -> Result<RefMap, Error>
         ensures over { self.old.state ≢ State.AtStop → (result ≡ Err Error.Over) × (self.new ≡ self.old) }
         ensures mapped { IfOk result (λ m. MapsInSession request.now (named_by self.old.name)
@@ -380,7 +389,7 @@ impl<T: Transport + Drop, L: Listener + Drop, P: NestedProgress + Drop> Session<
         }
     }
 
-    /// The transport, with nothing said of the end.
+    /// Returns the transport. Nothing is sent to the server.
     pub fn into_transport(self) -> T
         ensures { result ≡ self.transport.inner }
     {
@@ -395,13 +404,13 @@ impl<T: Transport + Drop, L: Listener + Drop, P: NestedProgress + Drop> Session<
         transport.into_inner()
     }
 
-    /// Says that nothing more is asked for, where the server waits for a request (gitprotocol-v2, "Command Request";
-    /// gitprotocol-pack, "Packfile Negotiation"). Else nothing is sent, as after a pack of a server of version 0 or 1, which has
-    /// gone, or where the session is broken.
+    /// Ends the session with a flush packet if the server waits for a request (gitprotocol-v2, "Command Request"; gitprotocol-pack,
+    /// "Packfile Negotiation"). Otherwise nothing is sent: a server of version 0 or 1 has ended after its pack, or the session is
+    /// broken.
     ///
     /// # Errors
     ///
-    /// `Request` where the write failed, or `Memory`. The session is over all the same.
+    /// `Request` if the write fails, or `Memory`. The session is over in each case.
     pub fn close(&mut self) -> Result<(), Error>
         ensures closes { ClosesSession self.old.state (T.reading self.old.transport.inner) (T.reading self.new.transport.inner) result }
         ensures over { self.new.state ≢ State.AtStop }
@@ -421,7 +430,7 @@ impl<T: Transport + Drop, L: Listener + Drop, P: NestedProgress + Drop> Session<
 }
 
 impl<T: Transport + Drop, L: Listener + Drop, P: NestedProgress + Drop> Drop for Session<T, L, P> {
-    // It is closed. A server that is gone already has nothing more to say.
+    // Closes the session. Errors are ignored: the server may have closed the connection already.
     fn drop(mut self) {
         let _ = self.close();
         let Session {

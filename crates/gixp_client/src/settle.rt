@@ -1,4 +1,4 @@
-//! What stands before a fetch of a session, and what is made of it after.
+//! The parts of a session's fetch before and after its run.
 ghost use Rattle.std.specs.Prelude.{◌≡◌, ◌⊎◌, if◌then◌else◌, None, IfOk, IfErr, Ok, Err};
 ghost use Rattle.gixp_response.specs.Answer.{update_items};
 ghost use Rattle.gixp_fetch.specs.FetchShallow.{shallow_value, is_change};
@@ -22,7 +22,6 @@ use gixp_requests::fetch::Arguments;
 use gixp_shallow::{Shallow, ShallowMemory, ShallowUpdate};
 use std::alloc::{AllocError, Global};
 
-/// A store of a boundary.
 pub(crate) fn store_of(alloc: Global, boundary: &[ObjectId]) -> Result<ShallowMemory, AllocError>
     ensures { IfOk result (λ store. store.ids.items ≡ boundary.now) }
 {
@@ -30,7 +29,7 @@ pub(crate) fn store_of(alloc: Global, boundary: &[ObjectId]) -> Result<ShallowMe
     Ok(ShallowMemory::new(ids))
 }
 
-/// A copy of the changes of the boundary that came with the handshake.
+/// A copy of the shallow updates that the handshake received.
 pub(crate) fn copied_updates(
     alloc: Global,
     updates: &Option<Vec<ShallowUpdate>>,
@@ -43,7 +42,7 @@ pub(crate) fn copied_updates(
     }
 }
 
-/// The changes of the boundary that came with the handshake, where no round was negotiated that took them.
+/// The shallow updates that the handshake received, unless a negotiated round consumed them.
 pub(crate) fn untaken(
     updates: Option<Vec<ShallowUpdate>>,
     is_negotiated: bool,
@@ -53,7 +52,7 @@ pub(crate) fn untaken(
     if is_negotiated { None } else { updates }
 }
 
-/// Whether the server can leave out objects by a filter.
+/// Whether the server offers filters.
 pub(crate) fn can_filter(alloc: Global, shaken: &Handshake) -> Result<bool, AllocError>
     ensures { IfOk result (λ can. can ≡ offers_filter shaken.now) }
 {
@@ -64,7 +63,7 @@ pub(crate) fn can_filter(alloc: Global, shaken: &Handshake) -> Result<bool, Allo
     Ok(arguments.can_use_filter())
 }
 
-/// `MissingFeature` for a filter where the server offers none.
+/// Returns `MissingFeature` if the request has a filter and the server offers none.
 pub(crate) fn expect_filter(
     alloc: Global,
     shaken: &Handshake,
@@ -79,14 +78,14 @@ pub(crate) fn expect_filter(
     }
 }
 
-/// Whether the server reported an error at which a fetch doesn't go on.
+/// Whether the server reported an error that ends the fetch.
 pub(crate) fn is_reported(messages: &Kept, goes_on: bool) -> bool
     ensures { result ≡ is_reported goes_on messages.now.has_error }
 {
     !goes_on && messages.has_error()
 }
 
-/// The error for it: with the server's words, where they are here.
+/// The error that the server reported, with its message if that was kept.
 pub(crate) fn reported(messages: &Kept) -> Error
     ensures { IsReport result }
 {
@@ -99,7 +98,7 @@ pub(crate) fn reported(messages: &Kept) -> Error
     }
 }
 
-// Whether another boundary is asked for.
+// Whether the request changes the boundary.
 fn asks_change(shallow: &Shallow) -> bool
     ensures { result ≡ is_change (shallow_value shallow.now) }
 {
@@ -109,7 +108,7 @@ fn asks_change(shallow: &Shallow) -> bool
     }
 }
 
-/// What came of a fetch, and what becomes of the boundary.
+/// The result of a fetch with the shallow boundary after it.
 pub(crate) fn settled(
     alloc: Global,
     came: Result<Option<Outcome>, Error>,

@@ -1,4 +1,4 @@
-//! Whether a session may go on.
+//! The state of a session.
 ghost use Rattle.std.specs.Prelude.{◌≡◌, is_some};
 ghost use Rattle.gixp_client.specs.ClientError.{said_in};
 ghost use Rattle.gixp_client.specs.SessionStates.{behind_answers, behind_request, behind_answer, behind_unsaid, behind_refusal, behind_map, behind_outcome, behind_fetch};
@@ -9,18 +9,19 @@ use gixp_fetch::options::Outcome;
 use gixp_packetline::Protocol;
 use gixp_response::fetch::response;
 
-/// Whether another call of a session may come.
+/// Whether another call of a session is possible.
 #[derive(Clone, Copy, Debug, PartialEq, Eq, Drop)]
 pub enum State {
-    /// The server waits for a request, and all that it sent was read.
+    /// The server waits for a request, and everything that it sent was read.
     AtStop,
-    /// The conversation is over: the server has gone, or knows that nothing more is asked for.
+    /// The session has ended. The server closed the connection, or the client ended the session.
     Ended,
-    /// A request or its answer failed, so that what the server sends next is unknown. Nothing can be asked for any more.
+    /// A request failed, or its response couldn't be read. So the next bytes of the server are unknown. No further request is
+    /// possible.
     Broken,
 }
 
-// After a whole answer, by what a server of version 0 or 1 is then.
+// The state after a complete response. Under versions 0 and 1 it is `otherwise`.
 fn behind_answers(version: Protocol, otherwise: State) -> State
     ensures { result ≡ behind_answers version otherwise }
 {
@@ -30,7 +31,7 @@ fn behind_answers(version: Protocol, otherwise: State) -> State
     }
 }
 
-// After a request that wasn't sent.
+// The state after a request that couldn't be sent.
 fn behind_request(e: &client::Error) -> State
     ensures { result ≡ behind_request e.now }
 {
@@ -40,7 +41,7 @@ fn behind_request(e: &client::Error) -> State
     }
 }
 
-// After an answer that wasn't read.
+// The state after a response that couldn't be read.
 fn behind_answer(e: &response::Error) -> State
     ensures { result ≡ behind_answer e.now }
 {
@@ -50,7 +51,7 @@ fn behind_answer(e: &response::Error) -> State
     }
 }
 
-// After a call that failed, but for an error message of the server.
+// The state after a call that failed without a server message.
 fn behind_unsaid(version: Protocol, e: &Error) -> State
     ensures { result ≡ behind_unsaid version e.now }
 {
@@ -67,7 +68,6 @@ fn behind_unsaid(version: Protocol, e: &Error) -> State
     }
 }
 
-// Whether the server said why.
 fn is_said(e: &Error) -> bool
     ensures { result ≡ is_some (said_in e.now) }
 {
@@ -77,7 +77,7 @@ fn is_said(e: &Error) -> bool
     }
 }
 
-/// After a call that failed with this error.
+/// The state after a call that failed with this error.
 pub(crate) fn behind_refusal(version: Protocol, e: &Error) -> State
     ensures { result ≡ behind_refusal version e.now }
 {
@@ -88,7 +88,7 @@ pub(crate) fn behind_refusal(version: Protocol, e: &Error) -> State
     }
 }
 
-/// After a ref map, by whether the refs were here.
+/// The state after a failed ref map. `is_here`: whether the session had the refs already.
 pub(crate) fn behind_map(is_here: bool, version: Protocol, e: &Error) -> State
     ensures { result ≡ behind_map is_here version e.now }
 {
@@ -99,7 +99,7 @@ pub(crate) fn behind_map(is_here: bool, version: Protocol, e: &Error) -> State
     }
 }
 
-// After a fetch that came to this.
+// The state after a fetch with this outcome.
 fn behind_outcome(version: Protocol, outcome: &Option<Outcome>) -> State
     ensures { result ≡ behind_outcome version outcome.now }
 {
@@ -109,7 +109,6 @@ fn behind_outcome(version: Protocol, outcome: &Option<Outcome>) -> State
     }
 }
 
-/// After a fetch, by whether a round was negotiated.
 pub(crate) fn behind_fetch(
     is_negotiated: bool,
     version: Protocol,

@@ -1,11 +1,11 @@
-//! What a client asks for of a server by itself.
+//! The commands and features that a client uses by itself.
 ghost use Rattle.std.specs.Prelude.{◌≡◌, ◌≢◌};
 ghost use Rattle.gixp_requests.specs.Command.{table_of, entries_of};
 ghost use Rattle.gixp_client.specs.Tables.{plain_table, with_uris, asked_table};
 
 use gixp_requests::command::CommandTable;
 
-/// The protocols of the URIs by which a server may name packs in place of objects in its pack (git-config, "fetch.uriProtocols").
+/// The protocols of the URIs that a server may send in place of objects in its pack (git-config, "fetch.uriProtocols").
 #[derive(Clone, Copy, Debug, PartialEq, Eq)]
 pub enum UriProtocols {
     /// None.
@@ -18,7 +18,7 @@ pub enum UriProtocols {
     Both,
 }
 
-// The lines that a fetch of version 2 begins with.
+// The first argument lines of a version 2 fetch, each with the feature it needs.
 type Lines = &'static [(&'static str, Option<&'static str>)];
 
 const THIN: (&str, Option<&str>) = ("thin-pack", None);
@@ -92,7 +92,7 @@ static URI_PREFIXES: [&str; 16] = [
     "packfile-uris ",
 ];
 
-// git's table; where no progress is wanted, with `no-progress` after the rest.
+// git's table, with `no-progress` last if no progress is wanted.
 fn plain_table(wants_progress: bool) -> CommandTable
     ensures { table_of result ≡ plain_table wants_progress }
 {
@@ -106,7 +106,7 @@ fn plain_table(wants_progress: bool) -> CommandTable
     }
 }
 
-// The lines that a fetch begins with which asks for URIs.
+// The first argument lines of a version 2 fetch that allows packfile URIs.
 fn uri_arguments(wants_progress: bool, protocols: UriProtocols) -> Lines
     requires { protocols ≢ UriProtocols.Neither }
     ensures { entries_of result.now ≡ (with_uris protocols (plain_table wants_progress)).fetch_arguments }
@@ -122,9 +122,9 @@ fn uri_arguments(wants_progress: bool, protocols: UriProtocols) -> Lines
     }
 }
 
-/// git's table; where no progress is wanted, with `no-progress` after the rest: a feature of versions 0 and 1 where the server offers
-/// it, and a line of version 2 (gitprotocol-capabilities, "no-progress"; gitprotocol-v2, "fetch"). Where URIs may stand for packs, a
-/// line `packfile-uris` names their protocols after that, under version 2 alone and where the server offers it.
+/// git's table, with `no-progress` added if no progress is wanted: a feature of versions 0 and 1 where the server offers it, a line
+/// under version 2 (gitprotocol-capabilities, "no-progress"; gitprotocol-v2, "fetch"). If packfile URIs are allowed, a line
+/// `packfile-uris` with their protocols follows, only under version 2 and if the server offers it.
 pub(crate) fn table_by(wants_progress: bool, protocols: UriProtocols) -> CommandTable
     ensures { table_of result ≡ asked_table wants_progress protocols }
 {

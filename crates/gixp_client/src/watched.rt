@@ -1,4 +1,4 @@
-//! A negotiation that looks at what the server says of the shallow boundary.
+//! A negotiation that checks the server's shallow updates.
 ghost use Rattle.std.specs.Prelude.{◌≡◌, None, IfOk, true, false};
 ghost use Rattle.std.specs.Option.{option_copied};
 ghost use Rattle.std.specs.BTreeSet.{contains};
@@ -18,8 +18,8 @@ use gixp_shallow::ShallowUpdate;
 use std::alloc::Global;
 use std::collections::BTreeSet;
 
-/// A negotiation that notes which id the answers take out of the shallow boundary though it isn't in it, as no server may
-/// (gitprotocol-pack, "Packfile Negotiation"), and whether a round was negotiated, before which nothing is sent.
+/// A negotiation that records the first id that a response unshallows though it isn't in the boundary, which no server may do
+/// (gitprotocol-pack, "Packfile Negotiation"). It also records whether a round was negotiated: before that, nothing is sent.
 #[derive(Drop)]
 pub struct Watched<'a, N> {
     negotiation: N,
@@ -28,7 +28,7 @@ pub struct Watched<'a, N> {
     negotiated: bool,
 }
 
-// The id that an update takes out of the boundary, where it isn't in it.
+// The id that the update unshallows, if it isn't in the boundary.
 fn unknown_id(update: &ShallowUpdate, boundary: &BTreeSet<ObjectId>) -> Option<ObjectId>
     ensures { result ≡ unknown_id (contains id_cmp boundary.now) update.now }
 {
@@ -44,7 +44,7 @@ fn unknown_id(update: &ShallowUpdate, boundary: &BTreeSet<ObjectId>) -> Option<O
     }
 }
 
-// The first id that updates take out of the boundary though it isn't in it.
+// The first id that the updates unshallow though it isn't in the boundary.
 fn unknown_unshallow(updates: &[ShallowUpdate], boundary: &BTreeSet<ObjectId>) -> Option<ObjectId>
     ensures { result ≡ unknown_unshallow (contains id_cmp boundary.now) updates.now }
 {
@@ -57,7 +57,7 @@ fn unknown_unshallow(updates: &[ShallowUpdate], boundary: &BTreeSet<ObjectId>) -
 }
 
 impl<'a, N> Watched<'a, N> {
-    /// The negotiation, by a repository with this boundary.
+    /// Checks the responses of a negotiation. `boundary` is the shallow boundary of the repository.
     pub fn new(negotiation: N, boundary: &'a BTreeSet<ObjectId>) -> Watched<'a, N>
         ensures negotiation { result.negotiation ≡ negotiation }
         ensures boundary { result.boundary.now ≡ boundary.now }
@@ -72,21 +72,21 @@ impl<'a, N> Watched<'a, N> {
         }
     }
 
-    /// The first id that an answer before the last took out of the boundary though it isn't in it.
+    /// The first id that a response, except the last one, unshallowed though it isn't in the boundary.
     pub fn unknown(&self) -> Option<ObjectId>
         ensures { result ≡ self.now.unknown }
     {
         self.unknown
     }
 
-    /// Whether a round was negotiated.
+    /// Whether a round was negotiated. Before that, nothing is sent.
     pub fn is_negotiated(&self) -> bool
         ensures { result ≡ self.now.negotiated }
     {
         self.negotiated
     }
 
-    // Looks at an answer.
+    // Checks a response.
     fn look(&mut self, answer: Option<&Response>)
         ensures negotiation { self.new.negotiation ≡ self.old.negotiation }
         ensures boundary { self.new.boundary ≡ self.old.boundary }
@@ -180,8 +180,8 @@ impl<N: NegotiatesMap> NegotiatesMap for Watched<'_, N> {
     } };
 }
 
-/// What came of a fetch, unless an answer before the last took this id out of the boundary, or the last takes out another that isn't
-/// in it.
+/// The result of a fetch, or `UnknownUnshallow` if a response unshallowed an id that isn't in the boundary. `unknown` is that id if
+/// an earlier response did. The last response is checked here.
 pub(crate) fn known_alone(
     came: Result<Option<Outcome>, Error>,
     unknown: Option<ObjectId>,

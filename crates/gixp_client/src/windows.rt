@@ -1,4 +1,4 @@
-//! A negotiation whose requests never have more haves out than the answers fit a pipe.
+//! A negotiation with a limit of haves in one request, so that the responses fit into a pipe.
 ghost use Rattle.std.specs.Prelude.{◌≡◌, ◌≤◌};
 
 use gixp_fetch::mapped::NegotiatesMap;
@@ -9,14 +9,14 @@ use gixp_requests::fetch::Arguments;
 use gixp_response::fetch::Response;
 use std::alloc::Global;
 
-/// How many haves go into one request of versions 0 and 1.
+/// The limit of haves in one request of versions 0 and 1 over pipes.
 ///
-/// The server answers haves there while it still reads them: a line of 56 bytes for each that it has. So over pipes both sides
-/// may wait in a write, where a request has more haves than answers fit the pipe to the client. 128 answers are 7,168 bytes,
-/// and the smallest pipe that Linux makes holds 8,192.
+/// Under these versions the server writes an acknowledgement of 56 bytes for each have that it knows while it still reads the
+/// request. If a request has more haves than acknowledgements fit into the pipe to the client, client and server may block in a
+/// write. 128 acknowledgements have 7,168 bytes, and the smallest pipe of Linux holds 8,192.
 pub const MOST_HAVES: usize = 128;
 
-/// A negotiation whose rounds have at most so many haves.
+/// A negotiation with a limit of haves in one request.
 #[derive(Drop)]
 pub struct Windowed<N> {
     negotiation: N,
@@ -25,7 +25,7 @@ pub struct Windowed<N> {
 }
 
 impl<N: Negotiate> Windowed<N> {
-    /// The negotiation, with at most so many haves in one request: 16 or more, as a first request has.
+    /// Limits the haves of each request to `most`. That is at least 16, the haves of a first request.
     pub fn new(negotiation: N, most: usize) -> Windowed<N>
         requires { 16 ≤ most }
         ensures negotiation { result.negotiation ≡ negotiation }

@@ -1,25 +1,23 @@
-//! The words of a server, as a sentence shows them.
+//! Displays server messages without control characters.
 ghost use Rattle.std.specs.Prelude.{◌≡◌};
 ghost use Rattle.gixp_client.specs.ServerWords.{shown_char, shown_byte, without_feed};
 
 use std::fmt;
 use std::fmt::Display;
 
-// How a character is shown.
 fn shown_char(c: char) -> char
     ensures { result ≡ shown_char c }
 {
     if c.is_control() { '?' } else { c }
 }
 
-// How a byte is shown of a text that isn't UTF-8.
+// The replacement of a byte in a text that isn't UTF-8.
 fn shown_byte(byte: u8) -> u8
     ensures { result ≡ shown_byte byte }
 {
     if 32 <= byte && byte < 127 { byte } else { b'?' }
 }
 
-// Words without one line feed at their end.
 fn without_feed(words: &[u8]) -> &[u8]
     ensures { result.now ≡ without_feed words.now }
 {
@@ -29,7 +27,7 @@ fn without_feed(words: &[u8]) -> &[u8]
     }
 }
 
-// A text, with a question mark for each control character.
+// Displays a text, with a question mark for each control character.
 #[derive(Drop)]
 struct Text<'a> {
     text: &'a str,
@@ -44,7 +42,7 @@ impl Display for Text<'_> {
     }
 }
 
-// Bytes, with a question mark for each that isn't printable ASCII.
+// Displays bytes, with a question mark for each that isn't printable ASCII.
 #[derive(Drop)]
 struct Bytes<'a> {
     bytes: &'a [u8],
@@ -59,8 +57,8 @@ impl Display for Bytes<'_> {
     }
 }
 
-/// The words of a server without one line feed at their end, so that a terminal takes none of them for a command: a control character
-/// is a question mark, and so is what isn't ASCII where they aren't UTF-8.
+/// Displays a server message without one trailing LF, so that a terminal executes nothing in it. A question mark replaces each
+/// control character, and each byte that isn't printable ASCII if the message isn't UTF-8.
 #[derive(Drop)]
 pub(crate) struct Words<'a> {
     pub(crate) words: &'a [u8],

@@ -1,11 +1,11 @@
--- What a progress reporter that writes down its calls does with one.
+-- The calls that a progress reporter records.
 use Rattle.std.specs.Prelude.{◌≡◌, ◌⊎◌, ℕ, true, List, [], ◌∷◌, ◌++◌, map, string_bytes}
 use Rattle.gixp_progress.specs.Progress.{ProgressCall, init, step, set, set_name, fail}
 use Rattle.gixp_doubles.specs.declared.told.Call.{Call}
 use Rattle.gixp_doubles.specs.declared.told.Call.TheVariants as call
 use Rattle.gixp_doubles.specs.declared.told.Told.{Told}
 
--- what is written down, as what was told
+-- a recorded call as a call of a reporter
 abbrev pub call_of : Call → ProgressCall
 call_of (call.Init max unit) = init max unit.now
 call_of call.Step = step
@@ -13,14 +13,14 @@ call_of (call.Set n) = set n
 call_of (call.SetName name) = set_name (string_bytes name)
 call_of (call.Fail message) = fail (string_bytes message)
 
--- a call comes after the others, or is known to be missing
+-- the call is appended, or recorded as missing
 abbrev pub WritesDown : Told → ProgressCall → Told → Type 0
 WritesDown old told new =
     ((map call_of new.calls.items ≡ map call_of old.calls.items ++ told ∷ []) × (new.is_short ≡ old.is_short)
     × (new.children ≡ old.children))
     ⊎ ((new.calls.items ≡ old.calls.items) × (new.is_short ≡ true) × (new.children ≡ old.children))
 
--- the id of a part is written down, and nothing else
+-- only the id of a child is appended
 abbrev pub AddsChild : Told → List ℕ → Told → Type 0
 AddsChild old id new = (new.children.items ≡ old.children.items ++ id ∷ []) × (new.calls.items ≡ old.calls.items)
     × (new.is_short ≡ old.is_short)

@@ -1,36 +1,36 @@
-//! A reader of bytes in memory, which gives them in pieces, and of which one read fails.
+//! A reader of bytes in memory that returns them in pieces. One read fails.
 ghost use Rattle.std.specs.Prelude.{◌≡◌, ◌<◌, ◌^◌, ◌-◌};
 
 use std::io;
 use std::io::{ErrorKind, Read};
 
-/// How many bytes a read gives.
+/// The number of bytes of each read.
 #[derive(Clone, Copy)]
 pub enum Pieces {
-    /// At most so many, but one at least.
+    /// At most this many. Zero means one.
     UpTo(usize),
-    /// Another number each time, which follows from this one.
+    /// A pseudorandom number each time, generated from this seed.
     Random(u64),
-    /// So many, but one at least, and then all others at once.
+    /// The first read returns at most this many, the others all that is left. Zero means one.
     Two(usize),
 }
 
-/// Bytes that come in pieces. One read may fail.
+/// A reader that returns bytes in pieces. One read may fail.
 #[derive(Drop)]
 pub struct Device<'a> {
-    /// The bytes to come.
+    /// The bytes not read yet.
     pub bytes: &'a [u8],
-    /// How many bytes a read gives.
+    /// The number of bytes of each read.
     pub pieces: Pieces,
-    /// How many reads come before the one that fails.
+    /// The number of reads before the one that fails.
     pub fails: u64,
-    /// How it fails.
+    /// The error of that read.
     pub kind: ErrorKind,
-    /// How many reads failed.
+    /// The number of failed reads.
     pub failures: u64,
 }
 
-/// The number after this one in a sequence that looks random.
+/// The next number of a pseudorandom sequence.
 pub fn next_random(number: u64) -> u64 {
     number
         .wrapping_mul(6364136223846793005)
@@ -38,7 +38,7 @@ pub fn next_random(number: u64) -> u64 {
 }
 
 impl<'a> Device<'a> {
-    /// These bytes, of which a read gives at most so many. No read fails.
+    /// A reader of `bytes` whose reads return at most `most` bytes. No read fails.
     pub fn new(bytes: &'a [u8], most: usize) -> Device<'a>
         ensures bytes { result.bytes.now ≡ bytes.now }
         ensures fails { result.fails ≡ 2 ^ 64 - 1 }
@@ -53,7 +53,7 @@ impl<'a> Device<'a> {
         }
     }
 
-    /// The same, but the read after so many others fails.
+    /// The same, but the read after `fails` others fails.
     pub fn failing(bytes: &'a [u8], most: usize, fails: u64, kind: ErrorKind) -> Device<'a>
         ensures bytes { result.bytes.now ≡ bytes.now }
         ensures fails { result.fails ≡ fails }
@@ -66,7 +66,6 @@ impl<'a> Device<'a> {
         device
     }
 
-    // The most bytes of the next read.
     fn next_piece(&mut self) -> usize
         ensures some { 0 < result }
         ensures bytes { self.new.bytes ≡ self.old.bytes }
@@ -86,7 +85,7 @@ impl<'a> Device<'a> {
     }
 }
 
-// Few bytes mostly, and many now and then.
+// At most 97 bytes in four of five cases, otherwise at most 70,000.
 fn piece_of(random: u64) -> usize
     ensures { 0 < result }
 {

@@ -5,7 +5,7 @@ ghost use Rattle.gixp_doubles.specs.Ids.{numbered};
 use gixp_hash::ObjectId;
 use std::alloc::{AllocError, Global};
 
-/// An id for each number.
+/// The id in which each byte is this number.
 pub fn numbered_id(number: u8) -> ObjectId
     ensures { result ≡ numbered number }
 {
@@ -14,11 +14,11 @@ pub fn numbered_id(number: u8) -> ObjectId
     }
 }
 
-/// The ids of these numbers.
+/// The ids with these numbers.
 ///
 /// # Errors
 ///
-/// An allocation failure.
+/// Only when an allocation fails.
 pub fn numbered_ids(alloc: Global, numbers: &[u8]) -> Result<Vec<ObjectId>, AllocError>
     ensures { IfOk result (λ ids. ids.items ≡ map numbered numbers.now) }
 {

@@ -1,4 +1,4 @@
-//! A negotiator that passes over what can't be read.
+//! A negotiator that skips unreadable commits.
 ghost use Rattle.std.specs.Prelude.{◌≡◌, ◌++◌, ◌∷◌, [], drop, IfErr, OnOk};
 ghost use Rattle.gixp_graph.specs.declared.negotiator.NegotiatorError.TheVariants.{Memory};
 ghost use Rattle.gixp_doubles.specs.Lenient.{MayAdd};
@@ -8,16 +8,16 @@ use gixp_graph::{Graph, Negotiator, NegotiatorError, Objects};
 use gixp_hash::ObjectId;
 use std::alloc::Global;
 
-/// Offers the tips that are found, in turn. One that can't be read counts as one that isn't there.
+/// Offers the tips that exist, in order. A tip that can't be read counts as missing.
 #[derive(Drop)]
 pub struct Lenient {
     tips: Vec<ObjectId>,
-    // The place of the next one.
+    // The index of the next tip.
     next: usize,
 }
 
 impl Lenient {
-    /// Has no tips yet.
+    /// A negotiator without tips.
     pub fn new(alloc: Global) -> Lenient
         ensures { drop result.next result.tips.items ≡ [] }
     {
@@ -27,7 +27,6 @@ impl Lenient {
         }
     }
 
-    // One more tip.
     fn push(&mut self, id: ObjectId) -> Result<(), NegotiatorError>
         ensures added { OnOk result ((self.new.tips.items ≡ self.old.tips.items ++ id ∷ []) × (self.new.next ≡ self.old.next)) }
         ensures memory { IfErr result (λ e. e ≡ Memory) }
@@ -36,7 +35,6 @@ impl Lenient {
         Ok(())
     }
 
-    // The next tip.
     fn take(&mut self) -> Option<ObjectId>
         ensures { OffersFirstHave (drop self.old.next self.old.tips.items) result (drop self.new.next self.new.tips.items) }
     {

@@ -1,6 +1,5 @@
-//! Doubles for tests and replays: readers and writers of bytes in memory that fail at one call, a progress reporter and a
-//! negotiator that record their calls, a negotiator that passes over what can't be read, and a repository whose calls are recorded
-//! and made to fail.
+//! Test doubles: readers and writers of bytes in memory that fail at one call, a progress reporter and a negotiator that record
+//! their calls, a negotiator that skips unreadable commits, and a repository that records its calls and fails on request.
 #![tactic(auto)]
 
 mod device;

@@ -1,4 +1,4 @@
-//! Objects in memory whose look-ups are written down, and of which some fail.
+//! Objects in memory that record look-ups. Some of these fail.
 ghost use Rattle.std.specs.Prelude.{◌≡◌, ◌≤◌, ◌==◌, ◌+◌, ◌-◌, ◌^◌, ◌⊎◌, ◌∷◌, ◌++◌, [], IfOk, IfErr, IfSome, IfNone, OnOk, OnErr, option_map, true, false};
 ghost use Rattle.std.specs.BTreeSet.{IsEmpty, contains};
 ghost use Rattle.std.specs.FinMap as finite;
@@ -16,24 +16,24 @@ use gixp_memory::StoredObjects;
 use std::alloc::{AllocError, Global};
 use std::collections::BTreeSet;
 
-/// The objects of a repository in memory, of which look-ups may fail.
+/// The objects of a repository in memory. Look-ups may fail.
 #[derive(Drop)]
 pub struct MemoryObjects {
-    /// What is there.
+    /// The objects.
     pub objects: StoredObjects,
-    /// The ids of which each look-up fails, as `Corrupt`.
+    /// The ids whose look-ups fail with `Corrupt`.
     pub corrupt: BTreeSet<ObjectId>,
-    /// The ids that `commit` was called with.
+    /// The ids passed to `commit`.
     pub looked_up: Vec<ObjectId>,
-    /// How many calls of `commit` come before the one that fails.
+    /// The number of calls of `commit` before the one that fails.
     pub calls: u64,
-    /// How it fails.
+    /// The error of that call.
     pub error: ObjectError,
     failures: u64,
 }
 
 impl MemoryObjects {
-    /// No objects, and no call fails.
+    /// No objects. No call fails.
     pub fn new(alloc: Global) -> MemoryObjects
         ensures objects { result.objects ≡ finite.empty }
         ensures corrupt { IsEmpty result.corrupt }
@@ -52,11 +52,11 @@ impl MemoryObjects {
         }
     }
 
-    /// Adds an object of a kind, if that is known. Where one of that id is there, it stays as it is.
+    /// Adds an object, with its kind if that is known. An object that has the id already is unchanged.
     ///
     /// # Errors
     ///
-    /// An allocation failure; nothing is added then.
+    /// Only when an allocation fails. Then nothing is added.
     pub fn add(&mut self, id: ObjectId, kind: Option<ObjectKind>) -> Result<(), AllocError>
         ensures known { OnOk result (IfSome kind (λ k. self.new.objects ≡ with_kind self.old.objects id k)) }
         ensures unknown { OnOk result (IfNone kind (self.new.objects ≡ with_id self.old.objects id)) }
@@ -69,7 +69,7 @@ impl MemoryObjects {
         }
     }
 
-    /// Adds a commit. What was there of that id goes.
+    /// Adds a commit. It replaces an object with this id.
     ///
     /// # Errors
     ///
@@ -82,7 +82,7 @@ impl MemoryObjects {
         self.objects.add_commit(id, commit)
     }
 
-    // What a call of `commit` answers: it is written down, and fails where it is to.
+    // The result of a call of `commit`, which is recorded and may fail.
     fn answer(&mut self, alloc: Global, id: &ObjectId) -> Result<Option<CommitData>, ObjectError>
         ensures found { IfOk result (λ found. option_map commit_of found ≡ commit_at self.old.objects id.now) }
         ensures sound { OnOk result (contains id_cmp self.old.corrupt id.now ≡ false) }
@@ -93,7 +93,7 @@ impl MemoryObjects {
         ensures written { OnOk result (self.new.looked_up.items ≡ self.old.looked_up.items ++ id.now ∷ []) }
         ensures counted { OnOk result (self.new.calls + 1 ≡ self.old.calls) }
 
-        // It is the call that is to fail, or the object is corrupt, or an allocation failed.
+        // The call was to fail, or the object is corrupt, or an allocation failed.
         ensures told { IfErr result (λ e. (e ≡ Memory) ⊎ (((self.old.calls ≡ 0) × (e ≡ self.old.error))
             ⊎ ((contains id_cmp self.old.corrupt id.now ≡ true) × (e ≡ Corrupt)))) }
         ensures unfailed { OnOk result (self.new.failures ≡ self.old.failures) }
@@ -113,7 +113,7 @@ impl MemoryObjects {
     }
 }
 
-// Whether a call fails that so many come before; one fewer then.
+// Counts a call. Returns whether it is the one that fails.
 fn fails(calls: &mut u64) -> bool
     ensures fails { result ≡ (calls.old == 0) }
     ensures last { result ≡ true → calls.new ≡ 2 ^ 64 - 1 }
@@ -147,10 +147,10 @@ impl Objects for MemoryObjects {
     }
 }
 
-/// Objects that are lent, as to a graph: afterwards they say which ids were looked up.
+/// Borrowed objects, for example for a graph. Afterwards the owner can read which ids were looked up.
 #[derive(Drop)]
 pub struct LentObjects<'a> {
-    /// These.
+    /// The objects.
     pub objects: &'a mut MemoryObjects,
 }
 

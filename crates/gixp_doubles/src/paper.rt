@@ -1,29 +1,29 @@
-//! A writer that keeps what it takes, and of which one write fails.
+//! A writer that keeps its input. One write fails.
 ghost use Rattle.std.specs.Prelude.{◌≡◌, ◌^◌, ◌-◌, [], true};
 
 use std::alloc::Global;
 use std::io;
 use std::io::{ErrorKind, Write};
 
-/// Keeps what is written. One write may fail, and so may each flush.
+/// Keeps its input. One write may fail, and so may each flush.
 #[derive(Drop)]
 pub struct Paper {
-    /// What was written.
+    /// The bytes written.
     pub bytes: Vec<u8>,
-    /// How many bytes a write takes at most.
+    /// The limit of bytes for one write.
     pub most: usize,
-    /// How many bytes it takes altogether. A write with no room left fails.
+    /// The limit of bytes for all writes. A write beyond it fails.
     pub room: usize,
-    /// How many writes come before the one that fails.
+    /// The number of writes before the one that fails.
     pub fails: u64,
-    /// How a write or a flush fails.
+    /// The error of a write or a flush.
     pub kind: ErrorKind,
     /// Whether a flush succeeds.
     pub flushes: bool,
 }
 
 impl Paper {
-    /// Nothing was written. A write takes at most so many bytes, and none fails.
+    /// An empty writer. One write takes at most `most` bytes, and none fails.
     pub fn new(alloc: Global, most: usize) -> Paper
         ensures bytes { result.bytes.items ≡ [] }
         ensures fails { result.fails ≡ 2 ^ 64 - 1 }
@@ -39,7 +39,7 @@ impl Paper {
         }
     }
 
-    /// The same, but the write after so many others fails.
+    /// The same, but the write after `fails` others fails.
     pub fn failing(alloc: Global, most: usize, fails: u64, kind: ErrorKind) -> Paper
         ensures bytes { result.bytes.items ≡ [] }
         ensures fails { result.fails ≡ fails }

@@ -8,25 +8,25 @@ use gixp_graph::{Graph, Negotiator, NegotiatorError, ObjectError, Objects};
 use gixp_hash::ObjectId;
 use std::alloc::Global;
 
-/// Offers a list of haves in turn, whatever it learns, and records its calls. One of its calls may fail.
+/// Offers a fixed list of haves in order, and records its calls. One call may fail.
 #[derive(Drop)]
 pub struct Recorder {
     haves: Vec<ObjectId>,
-    // The place of the next one.
+    // The index of the next have.
     next: usize,
-    /// What both sides have, as it learned before the first have.
+    /// The commits that were reported as known to both sides before the first have.
     pub known: Vec<ObjectId>,
     /// The tips that were added.
     pub tips: Vec<ObjectId>,
-    /// What the server has, as it learned since.
+    /// The commits that the server acknowledged.
     pub common: Vec<ObjectId>,
-    /// How many calls come before the one that fails.
+    /// The number of calls before the one that fails.
     pub calls: u64,
     failures: u64,
 }
 
 impl Recorder {
-    /// Offers these ids in turn, and no call fails.
+    /// Offers these ids in order. No call fails.
     pub fn new(alloc: Global, haves: Vec<ObjectId>) -> Recorder
         ensures haves { drop result.next result.haves.items ≡ haves.items }
         ensures known { result.known.items ≡ [] }
@@ -45,7 +45,7 @@ impl Recorder {
         }
     }
 
-    // Fails where it is this call's turn.
+    // Counts a call. Returns an error if it is the one that fails.
     fn step(&mut self) -> Result<(), NegotiatorError>
         ensures haves { self.new.haves ≡ self.old.haves }
         ensures next { self.new.next ≡ self.old.next }
@@ -66,7 +66,6 @@ impl Recorder {
         Ok(())
     }
 
-    // The next have.
     fn take(&mut self) -> Option<ObjectId>
         ensures offers { OffersFirstHave (drop self.old.next self.old.haves.items) result (drop self.new.next self.new.haves.items) }
         ensures known { self.new.known ≡ self.old.known }
@@ -84,7 +83,6 @@ impl Recorder {
     }
 }
 
-// Writes an id down.
 fn write_down(list: &mut Vec<ObjectId>, id: ObjectId) -> Result<(), NegotiatorError>
     ensures written { OnOk result (list.new.items ≡ list.old.items ++ id ∷ []) }
     ensures memory { IfErr result (λ e. e ≡ Memory) }
@@ -93,7 +91,7 @@ fn write_down(list: &mut Vec<ObjectId>, id: ObjectId) -> Result<(), NegotiatorEr
     Ok(())
 }
 
-/// Each call that succeeds adds its id to its own list alone, and an offer is the first of the haves that are left.
+/// Each successful call adds its id only to its own list. Each offer is the first remaining have.
 impl Negotiator for Recorder {
     ghost use Rattle.std.proofs.Common.{arith, ap};
     ghost use Rattle.gixp_graph.specs.Run.{AnyCallLeft, AnyOfferLeft};

@@ -1,4 +1,4 @@
-//! Refs in memory that can be made to fail.
+//! Refs in memory that fail on request.
 ghost use Rattle.std.specs.Prelude.{◌≡◌, ◌≤◌, ◌⊎◌, [], None, IfOk, IfErr, IfSome, IfNone, OnOk, OnErr};
 ghost use Rattle.gixp_hash.specs.Failures.{HasRisen};
 ghost use Rattle.gixp_graph.specs.declared.refs.RefStoreError.TheVariants.{Memory};
@@ -14,11 +14,11 @@ use std::alloc::{AllocError, Global};
 /// The refs of a repository in memory.
 #[derive(Drop)]
 pub struct MemoryRefs {
-    /// The refs, by their names.
+    /// The refs by name.
     pub names: StoredRefs,
-    /// What the refs lead to, in the order of their listing.
+    /// The peeled ids of the refs, in the order of their listing.
     pub targets: Vec<ObjectId>,
-    /// Why they can't be listed, if so.
+    /// The error of a listing, if it is to fail.
     pub error: Option<RefStoreError>,
     failures: u64,
 }
@@ -39,11 +39,11 @@ impl MemoryRefs {
         }
     }
 
-    /// Adds a ref that holds an id. One of the same name goes.
+    /// Adds a ref that holds an id. It replaces a ref of the same name.
     ///
     /// # Errors
     ///
-    /// An allocation failure; nothing is added then.
+    /// Only when an allocation fails. Then nothing is added.
     pub fn add(&mut self, name: Vec<u8>, id: ObjectId) -> Result<(), AllocError>
         ensures added { OnOk result (self.new.names ≡ with_ref self.old.names (record { name = name.items; id = id; peeled = id })) }
         ensures failed { OnErr result (self.new.names ≡ self.old.names) }
@@ -52,7 +52,7 @@ impl MemoryRefs {
         self.names.add(name, id, id)
     }
 
-    // What a call of `peeled` answers: it fails where there is an error, which stays.
+    // The result of a call of `peeled`. If there is an error, the call fails, and so do later ones.
     fn list(&mut self, alloc: Global) -> Result<Vec<ObjectId>, RefStoreError>
         ensures peeled { IfOk result (λ ids. ids.items ≡ self.old.targets.items) }
         ensures names { self.new.names ≡ self.old.names }

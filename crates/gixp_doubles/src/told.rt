@@ -9,19 +9,19 @@ use std::alloc::{AllocError, Global};
 /// A call of a progress reporter.
 #[derive(Debug, Drop)]
 pub enum Call {
-    /// It begins anew: so many steps of this unit.
+    /// A new operation, with a number of steps if that is known, and their unit.
     Init(Option<usize>, &'static str),
-    /// One more step was made.
+    /// One more step.
     Step,
-    /// So many steps were made.
+    /// The number of steps so far.
     Set(usize),
-    /// What is done now.
+    /// The name of the operation.
     SetName(String),
-    /// What went wrong.
+    /// An error message.
     Fail(String),
 }
 
-// A call as a line.
+// The line of a call.
 fn line(alloc: Global, call: &Call) -> Result<String, AllocError> {
     match call {
         Call::Init(_, unit) => format!(in alloc; "{unit}\n"),
@@ -32,20 +32,19 @@ fn line(alloc: Global, call: &Call) -> Result<String, AllocError> {
     }
 }
 
-/// Records each call, and the ids of its parts, which record nothing.
+/// Records its calls, and the ids of its children, which record nothing.
 #[derive(Drop)]
 pub struct Told {
-    /// The calls.
     pub calls: Vec<Call>,
-    /// The ids of the parts that were added.
+    /// The ids of the children that were added.
     pub children: Vec<[u8; 4]>,
-    /// Whether an allocation failed, so that a call isn't among them.
+    /// Whether a call is missing because an allocation failed.
     pub is_short: bool,
     name: Option<String>,
 }
 
 impl Told {
-    /// No call yet.
+    /// A reporter without calls.
     pub fn new(alloc: Global) -> Told
         ensures calls { result.calls.items ≡ [] }
         ensures children { result.children.items ≡ [] }
@@ -59,7 +58,6 @@ impl Told {
         }
     }
 
-    // Adds a call.
     fn write_down(&mut self, call: Call)
         ensures written { WritesDown self.old (call_of call) self.new }
         ensures name { self.new.name ≡ self.old.name }
@@ -69,11 +67,11 @@ impl Told {
         }
     }
 
-    /// The calls, a line for each: the unit, `step`, the number, the name or the message.
+    /// The calls, one per line: the unit, `step`, the number, the name or the message.
     ///
     /// # Errors
     ///
-    /// An allocation failure, also where one kept a call from being written down.
+    /// When an allocation fails, or when a call is missing.
     pub fn lines(&self, alloc: Global) -> Result<String, AllocError> {
         if self.is_short {
             return Err(AllocError);
@@ -134,10 +132,10 @@ impl NestedProgress for Told {
     }
 }
 
-/// A reporter that is lent: afterwards its calls can be read.
+/// A borrowed reporter. Afterwards the owner can read its calls.
 #[derive(Drop)]
 pub struct Lent<'a> {
-    /// This one.
+    /// The reporter.
     pub told: &'a mut Told,
 }
 

@@ -21,7 +21,7 @@ use Rattle.gixp_engine.specs.declared.consumer.Left.{Left}
 use Rattle.gixp_engine.specs.declared.error.EngineError.{EngineError}
 use Rattle.gixp_engine.specs.Alone.{engine_agent, engine_call, end_of_fetch, CarriesCall, ShakesAlone, MapsAlone, EngineSession, ends_refs, map_of_whole, fetched}
 
--- what the engine hands in is its table and its name
+-- the engine passes git's table and its agent
 pub carries-call : {N I A S C P X : Type 0} (parties : Parties N I A S C P X) (first : World N I S C)
     (r : Result (Option Outcome) (FetchError A X)) (last : World N I S C) (progress : P) (h : Handshake) (shallow : ShallowValue)
     (table : TableValue) (agent : FeatureValue) → table ≡ git_table → agent ≡ engine_agent
@@ -34,7 +34,6 @@ carries-call parties first r last progress h shallow table agent e f it = record
 }
 
 module _ (Receives : RefMap → Handshake → Reading → Reading → Result (Option Outcome) (FetchError AllocError Left) → Type 0) where
-  -- all three steps
   pub session-ran : (context : Context) (plain : Bool) (old mid behind new : Reading) (h k : Handshake) (m : RefMap)
       (r : Result (Option Outcome) (FetchError AllocError Left)) (ended : Result (Option Protocol) EngineError)
       → ShakesAlone plain old mid (Ok h) → MapsAlone context h plain mid behind (Ok m) → ends_refs behind.stopped ≡ true
@@ -44,7 +43,7 @@ module _ (Receives : RefMap → Handshake → Reading → Reading → Result (Op
       fetched h mid behind m r s l whole some (subst (λ x. Receives m x behind new r) e f)
       (q ∙ ap (λ (x : Handshake). end_of_fetch x.server_protocol_version r) e)
 
--- a ref map that was made, of refs that are whole
+-- a ref map that was made
 pub maps-made : (context : Context) (h : Handshake) (plain : Bool) (old new : Reading) (r : Result RefMap MapError) (m : RefMap)
     → r ≡ Ok m → MapsAlone context h plain old new r → MapsAlone context h plain old new (Ok m)
 maps-made context h plain old new r m e f = subst (λ (x : Result RefMap MapError). MapsAlone context h plain old new x) e f
@@ -56,12 +55,12 @@ took-refs h k r m e f = subst (λ (x : Result RefMap MapError). IfOk x (λ _. k 
 pub ends-whole : (b b' : Bool) → b ≡ true → b ≡ b' → b' ≡ true
 ends-whole b b' h e = sym e ∙ h
 
--- why there is none, by where the refs end
+-- the error of a ref map depends only on where the refs end
 pub refused-by : (r : Result RefMap MapError) (b b' : Bool) (e : EngineError) → Err e ≡ map_of_whole r b → b ≡ b'
     → map_of_whole r b' ≡ Err e
 refused-by r b b' e h f = ap (map_of_whole r) (sym f) ∙ sym h
 
--- a test that fails refutes what it tells
+-- a test that fails refutes its statement
 pub untold : (b : Bool) {P : Type 0} → IsTrue b ↔ P → b ≡ false → P → ⊥
 untold true iff f p = absurd cc
 untold false iff f p = let t : IsTrue false = iff.1 p in absurd cc

@@ -1,4 +1,4 @@
--- Answers that are cut one after another: those so far stand in front of those to come.
+-- Responses that are split off in sequence: those so far precede the rest.
 use Rattle.std.proofs.Common.{◌≡◌, ◌==◌, ◌+◌, ◌-◌, ◌<◌, ◌≤◌, ◌⊎◌, ◌&&◌, ℕ, zero, suc, get_or, nat_le, nat_lt, Bool, true, false, if◌then◌else◌, List, [], ◌∷◌, ◌++◌, length, map, drop, Option, Some, None, refl, sym, ap, subst, ◌∙◌, append_assoc, append-nil, inl, inr, arith}
 use Rattle.std.specs.Prelude.{option_map, slice_range, slice_get, Vec, vec_items}
 use Rattle.std.specs.declared.alloc.Global.{Global}
@@ -12,7 +12,7 @@ use Rattle.gixp_wire.specs.Bodies.{answer_of, IsNewBodies}
 use Rattle.gixp_engine.specs.Handed.{answers_between, answer_in}
 use Rattle.gixp_engine.specs.NextStep.{start_of_last, OpensOver}
 
--- these answers in front of those to come
+-- these responses before the rest
 abbrev pub before_answers : List (List ℕ) → Option (List (List ℕ)) → Option (List (List ℕ))
 before_answers taken o = option_map (λ more. taken ++ more) o
 
@@ -36,7 +36,7 @@ out_of_order : (at end len : ℕ) → (end < at) ⊎ (len < end) → (nat_le at 
 out_of_order at end len (inl h) = grind (arith, nat_tests)
 out_of_order at end len (inr h) = grind (arith, nat_tests)
 
--- all answers are those so far in front of those that end at the places to come
+-- all responses are those so far, then those that end at the remaining offsets
 pub record AnswersSoFar (bytes ends : List ℕ) (at : ℕ) (left : List ℕ) (taken : List (List ℕ)) : Type 0 where
   pub split : answers_between bytes 0 ends ≡ before_answers taken (answers_between bytes at left)
 
@@ -47,7 +47,7 @@ none_before None = refl
 pub answers-start : (bytes ends : List ℕ) → AnswersSoFar bytes ends 0 ends []
 answers-start bytes ends = record { split = none_before (answers_between bytes 0 ends) }
 
--- with the answer that ends at the next place
+-- the response that ends at the next offset is split off
 pub answers-more : (bytes ends : List ℕ) (i at end : ℕ) (taken : List (List ℕ)) → AnswersSoFar bytes ends at (drop i ends) taken
     → i < length ends → at ≤ get_or ends i end → get_or ends i end ≤ length bytes
     → AnswersSoFar bytes ends (get_or ends i end) (drop (i + 1) ends) (taken ++ slice_range bytes at (get_or ends i end) ∷ [])
@@ -58,7 +58,7 @@ answers-more bytes ends i at end taken so h k l = record {
       ∙ one_more taken _ (answers_between bytes (get_or ends i end) (drop (i + 1) ends));
 }
 
--- the next place is out of order
+-- the next offset is out of order
 pub answers-refused : (bytes ends : List ℕ) (i at end : ℕ) (taken : List (List ℕ)) → AnswersSoFar bytes ends at (drop i ends) taken
     → i < length ends → (get_or ends i end < at) ⊎ (length bytes < get_or ends i end) → answers_between bytes 0 ends ≡ None
 answers-refused bytes ends i at end taken so h k =
@@ -66,7 +66,7 @@ answers-refused bytes ends i at end taken so h k =
     ∙ ap (before_answers taken) (by_no_test (nat_le at (get_or ends i end) && nat_le (get_or ends i end) (length bytes)) _ None
     (out_of_order at (get_or ends i end) (length bytes) k))
 
--- all places were read
+-- all offsets were read
 pub answers-all : (bytes ends : List ℕ) (at : ℕ) (left : List ℕ) (taken : List (List ℕ)) → AnswersSoFar bytes ends at left taken
     → left ≡ [] → at ≡ length bytes → answers_between bytes 0 ends ≡ Some taken
 answers-all bytes ends at left taken so e f =
@@ -80,14 +80,14 @@ answers-short bytes ends at left taken so e f =
     so.split ∙ ap (λ x. before_answers taken (answers_between bytes at x)) e
     ∙ ap (before_answers taken) (by_no_test (at == length bytes) (Some []) None f)
 
--- one more body reads as one more answer
+-- one more body is one more response
 pub bodies-more : (bodies new : List Body) (b : Body) (taken : List (List ℕ)) (a : List ℕ) → new ≡ bodies ++ b ∷ []
     → map answer_of bodies ≡ map answer_in taken → answer_of b ≡ answer_in a → map answer_of new ≡ map answer_in (taken ++ a ∷ [])
 bodies-more bodies new b taken a e f k =
     ap (map answer_of) e ∙ map-append answer_of bodies (b ∷ []) ∙ ap (λ l. l ++ answer_of b ∷ []) f
     ∙ ap (λ x. map answer_in taken ++ x ∷ []) k ∙ sym (map-append answer_in taken (a ∷ []))
 
--- what a test let through
+-- the response and the rest, if the test holds
 let_through : (b : Bool) (a : List ℕ) (o : Option (List (List ℕ))) (all : List (List ℕ))
     → (if b then option_map (λ more. a ∷ more) o else None) ≡ Some all → (b ≡ true) × ((more : List (List ℕ)) × (o ≡ Some more))
 let_through true a (Some more) all e = (refl, (more, refl))
@@ -97,7 +97,7 @@ let_through false a o all e = absurd cc
 end_within : (at end len : ℕ) → (nat_le at end && nat_le end len) ≡ true → end ≤ len
 end_within at end len h = grind (arith, nat_tests)
 
--- each place stands in the bytes
+-- each offset is within the bytes
 ends_within : (bytes : List ℕ) (at : ℕ) (ends : List ℕ) (answers : List (List ℕ)) (k : ℕ) → answers_between bytes at ends ≡ Some answers
     → k < length ends → get_or ends k 0 ≤ length bytes
 ends_within bytes at [] answers k e h = absurd (omega arith)
@@ -111,7 +111,7 @@ start_by : (b : Bool) (place len : ℕ) → (b ≡ false → place ≤ len) → 
 start_by true place len h = omega arith
 start_by false place len h = h refl
 
--- and so does the start of the last answer
+-- the start of the last response is within the bytes
 pub start-within : (bytes ends : List ℕ) (answers : List (List ℕ)) → answers_between bytes 0 ends ≡ Some answers
     → start_of_last ends ≤ length bytes
 start-within bytes ends answers e = start_by (nat_lt (length ends) 2) _ (length bytes)
@@ -120,7 +120,7 @@ start-within bytes ends answers e = start_by (nat_lt (length ends) 2) _ (length 
     two_more : (n : ℕ) → nat_lt n 2 ≡ false → n - 2 < n
     two_more n h = grind (arith, nat_tests)
 
--- a transport over the bodies of answers, with no URL and no version
+-- a transport over the bodies of responses, without a URL and a version
 pub opens-over : (answers : List (List ℕ)) (bodies : List Body) (transport : Bodies) (url : List ℕ) (versions : List Protocol)
     → map answer_of bodies ≡ map answer_in answers → url ≡ [] → versions ≡ [] → IsNewBodies bodies url versions transport
     → OpensOver answers transport
@@ -130,7 +130,7 @@ opens-over answers bodies transport url versions e f k it = record {
   fresh = subst (λ u. IsNewBodies bodies u [] transport) f (subst (λ v. IsNewBodies bodies url v transport) k it);
 }
 
--- the request at a place, and a copy of it
+-- a copy of the request at an index
 pub request-at : (sent : List (Vec ℕ Global)) (place : ℕ) (request copy : Vec ℕ Global) → place < length sent
     → request ≡ get_or sent place request → copy.items ≡ request.items → slice_get (map vec_items sent) place ≡ Some copy.items
 request-at sent place request copy h e f =

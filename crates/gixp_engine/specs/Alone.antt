@@ -1,4 +1,4 @@
--- A session without an account: a handshake, the ref map of the server's refs, and a fetch of what is mapped, whose pack is left.
+-- A session without an account: a handshake, a ref map, and a fetch of the mapped refs that leaves the pack to the caller.
 use Rattle.std.specs.Prelude.{◌≡◌, ◌⊎◌, ⊤, true, false, List, [], ◌∷◌, codes, Option, Some, None, Result, Ok, Err, IfOk, IsOk, Bool}
 use Rattle.std.specs.FinMap as finite
 use Rattle.std.specs.declared.alloc.AllocError.{AllocError}
@@ -36,11 +36,11 @@ use Rattle.gixp_engine.specs.declared.consumer.Left.{Left}
 use Rattle.gixp_engine.specs.declared.error.EngineError.{EngineError}
 use Rattle.gixp_engine.specs.declared.error.EngineError.TheVariants.{Handshake as Unshaken, Refs as Unmapped, UnterminatedRefs, Fetch as Unfetched}
 
--- how the client names itself
+-- the feature `agent`
 abbrev pub engine_agent : FeatureValue
 engine_agent = record { name = codes "agent"; value = Some (codes "git/gixp") }
 
--- whoever was asked for an account had none
+-- each request for an account was answered with none
 abbrev pub HaveNoAccount : List CredentialCall → Type 0
 HaveNoAccount [] = ⊤
 HaveNoAccount (t ∷ ts) = (t.answer ≡ Ok None) × HaveNoAccount ts
@@ -51,36 +51,36 @@ pub record ShakesAlone (plain : Bool) (old new : Reading) (r : Result Handshake 
   pub unanswered : HaveNoAccount calls
   pub shakes : CompletesHandshake UploadPack [] plain old new calls r
 
--- the ref map of the server, which is asked for the refspecs' prefixes; or an allocation failed before
+-- the ref map of the server, which lists the refs with the prefixes of the refspecs; or an allocation failed first
 abbrev pub MapsAlone : Context → Handshake → Bool → Reading → Reading → Result RefMap MapError → Type 0
 MapsAlone context h plain old new r = ObtainsMappings git_table engine_agent context h plain old new r
     ⊎ ((new ≡ old) × (r ≡ Err map.Memory))
 
--- refs are whole where the reader is at a flush packet behind them (gitprotocol-v2, "ls-refs"; gitprotocol-pack, "Reference Discovery")
+-- refs are complete if they end with a flush packet (gitprotocol-v2, "ls-refs"; gitprotocol-pack, "Reference Discovery")
 abbrev pub ends_refs : Option MessageKind → Bool
 ends_refs (Some Flush) = true
 ends_refs _ = false
 
--- why there is no ref map where the reader is at no flush packet: refs that were read aren't whole, whether they can be mapped or not
+-- the error of a ref map whose list didn't end with a flush packet: refs that were read are incomplete, whether they can be mapped
+-- or not
 abbrev pub unmapped_of_cut : MapError → EngineError
 unmapped_of_cut (map.UnknownObjectFormat format) = UnterminatedRefs
 unmapped_of_cut (map.MappingValidation e) = UnterminatedRefs
 unmapped_of_cut (map.ListRefs e) = Unmapped (map.ListRefs e)
 unmapped_of_cut map.Memory = Unmapped map.Memory
 
--- the ref map of refs, if these are whole
+-- the ref map, if its refs are complete
 abbrev pub map_of_whole : Result RefMap MapError → Bool → Result RefMap EngineError
 map_of_whole (Ok m) true = Ok m
 map_of_whole (Ok m) false = Err UnterminatedRefs
 map_of_whole (Err e) true = Err (Unmapped e)
 map_of_whole (Err e) false = Err (unmapped_of_cut e)
 
--- what a fetch is handed in: no tags come but those that are mapped
+-- the arguments of the fetch: only mapped tags are requested
 abbrev pub engine_call : Handshake → ShallowValue → FetchCall
 engine_call h shallow = call_of git_table h engine_agent [] tags.None shallow false
 
--- a negotiation over these objects and this ref map that offers these haves, in their order. It knows of no commits, no refs and no
--- alternates
+-- a negotiation over these objects and this ref map that offers these haves in order. It has no commits, no refs and no alternates
 pub record OffersAlone {O : Type 0} (here : O) (offered : List ObjectId) (made : RefMap) (asked : Shallow)
     (n : Negotiation O NoRefs (List ObjectId) NoObjects AllocError) : Type 0 where
   pub objects : n.context.objects.now ≡ here
@@ -92,18 +92,17 @@ pub record OffersAlone {O : Type 0} (here : O) (offered : List ObjectId) (made :
   pub opened : IsOk n.context.alternates
   pub lent : IfOk n.context.alternates (λ a. a.now ≡ [])
 
--- a boundary of these commits, whose lock nobody has
+-- an unlocked store of this shallow boundary
 pub record HoldsAlone (boundary : List ObjectId) (store : ShallowMemory) : Type 0 where
   pub ids : store.ids.items ≡ boundary
   pub unlocked : store.locked ≡ false
 
--- a fetch
 pub record CarriesCall {N I A S C P X : Type 0} (parties : Parties N I A S C P X) (call : FetchCall) (first : World N I S C)
     (r : Result (Option Outcome) (FetchError A X)) (last : World N I S C) (progress : P) : Type 0 where
   pub fetched : Fetches parties call first r last progress
 
 module _ {N I A C P X : Type 0} (parties : Parties N I A ShallowMemory C P X) where
-  -- one that asks some interrupt and leaves its pack to some consumer, with no lock before or after it
+  -- a fetch with some interrupt and some consumer, and without a lock before and after it
   pub record CarriesAlone (call : FetchCall) (first : N) (old : Reading) (store : ShallowMemory)
       (r : Result (Option Outcome) (FetchError A X)) (last : N) (new : Reading) (store' : ShallowMemory) : Type 0 where
     pub interrupt : I
@@ -114,14 +113,14 @@ module _ {N I A C P X : Type 0} (parties : Parties N I A ShallowMemory C P X) wh
     pub carries : CarriesCall parties call (unlocked_world first old interrupt store consumer) r
         (unlocked_world last new interrupt' store' consumer') progress
 
-  -- one over such a negotiation and such a boundary; or an allocation failed before
+  -- such a fetch with such a negotiation and such a boundary; or an allocation failed first
   pub data FetchesAlone (Offers : N → Type 0) (boundary : List ObjectId) (call : FetchCall) (old new : Reading)
       (r : Result (Option Outcome) (FetchError A X)) : Type 0 where
     carried : (first last : N) (store store' : ShallowMemory) → Offers first → HoldsAlone boundary store
         → CarriesAlone call first old store r last new store' → FetchesAlone Offers boundary call old new r
     uncarried : new ≡ old → r ≡ Err fetch.Memory → FetchesAlone Offers boundary call old new r
 
--- how a session ends by its fetch: the version under which a pack comes, none where there was nothing to ask for, or why it failed
+-- the result of a session by its fetch: the version of the response with a pack, or nothing to request, or the error
 abbrev pub end_of_fetch : Protocol → Result (Option Outcome) (FetchError AllocError Left) → Result (Option Protocol) EngineError
 end_of_fetch version (Ok (Some outcome)) = Ok (Some version)
 end_of_fetch version (Ok None) = Ok None
@@ -129,8 +128,7 @@ end_of_fetch version (Err e) = Err (Unfetched e)
 
 module _ (Receives : RefMap → Handshake → Reading → Reading → Result (Option Outcome) (FetchError AllocError Left) → Type 0)
     (context : Context) (plain : Bool) (old : Reading) where
-  -- a session up to its pack: its handshake was refused, or its ref map was, or its refs aren't whole, or nothing is mapped, or what is
-  -- mapped was fetched
+  -- a session up to its pack: the handshake failed, or the ref map failed, or nothing is mapped, or the mapped refs were fetched
   pub data EngineSession (new : Reading) (ended : Result (Option Protocol) EngineError) : Type 0 where
     unshaken : (e : HandshakeError) → ShakesAlone plain old new (Err e) → ended ≡ Err (Unshaken e) → EngineSession new ended
     unmapped : (h : Handshake) (mid : Reading) (r : Result RefMap MapError) (e : EngineError) → ShakesAlone plain old mid (Ok h)

@@ -5,13 +5,13 @@ use Rattle.gixp_packetline.specs.Pieces.{Pieces}
 use Rattle.gixp_sidebands.specs.Bands.{Side, IsFirstOf, side_content, side_reading, end_left}
 use Rattle.gixp_fetch.specs.Receive.{ReadsOn}
 
--- nothing came next, and all is still to come
+-- nothing was read, and everything is still to read
 stays : (s : Side) (o : Option Pieces) → IfSome o (λ p. IsFirstOf s p → (q : Pieces) × (o ≡ Some q) × IsFirstOf s q
     × (side_content s p ≡ [] ++ side_content s q))
 stays s None = tt
 stays s (Some p) = λ f. (p, refl, f, refl)
 
--- with the end that it had
+-- the end of the stream is the same
 ends : (s : Side) (o : Option Pieces) → IfSome o (λ p. (q : Pieces) × (o ≡ Some q) × (end_left s.reading q ≡ end_left s.reading p))
 ends s None = tt
 ends s (Some p) = (p, refl, refl)

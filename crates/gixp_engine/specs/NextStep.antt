@@ -1,4 +1,4 @@
--- What a client does next, from the answers so far (gitprotocol-v2; gitprotocol-pack, "Packfile Negotiation").
+-- The caller's next action, from the responses so far (gitprotocol-v2; gitprotocol-pack, "Packfile Negotiation").
 use Rattle.std.specs.Prelude.{◌≡◌, ℕ, ◌+◌, ◌-◌, ◌<◌, nat_lt, true, if◌then◌else◌, List, [], map, length, slice_get, slice_index, Option, Some, None, Vec, Result, Ok, Err}
 use Rattle.std.specs.declared.alloc.AllocError.{AllocError}
 use Rattle.std.specs.declared.alloc.Global.{Global}
@@ -25,39 +25,39 @@ use Rattle.gixp_engine.specs.declared.step.Wishes.{Wishes}
 use Rattle.gixp_engine.specs.Handed.{answers_between, answer_in, objects_held}
 use Rattle.gixp_engine.specs.Alone.{EngineSession}
 
--- where the last answer begins: where the one before it ends
+-- the last response begins where the one before it ends
 abbrev pub start_of_last : List ℕ → ℕ
 start_of_last ends = if nat_lt (length ends) 2 then 0 else slice_index ends (length ends - 2)
 
--- the pack begins at a place of the answer that begins at another: behind its header, or at the first line that is neither an
--- acknowledgement nor an update of the boundary
+-- the offset of the pack in the response that begins at `start`: after the header, or at the first line that is neither an
+-- acknowledgement nor a shallow update
 abbrev pub BeginsPack : Protocol → List ℕ → ℕ → ℕ → Type 0
 BeginsPack V2 bytes start place = FollowsHeader bytes start place
 BeginsPack V1 bytes start place = FollowsTold bytes start place
 BeginsPack V0 bytes start place = FollowsTold bytes start place
 
--- the step by the requests of a session and how it ended: the first answer is to no request, each further one to the next request
+-- the step by the requests of a session and its result; the first response is the advertisement, each other one is to the next request
 pub data StepsTo (bytes ends : List ℕ) (sent : List (List ℕ)) (ended : Result (Option Protocol) EngineError)
     (step : Result Step EngineError) : Type 0 where
-  -- a request has no answer yet
+  -- a request has no response yet
   asks : (request : Vec ℕ Global) → slice_get sent (length ends - 1) ≡ Some request.items → step ≡ Ok (Request request)
       → StepsTo bytes ends sent ended step
-  -- each has one, and a pack comes, or its beginning isn't there
+  -- each request has a response, and the last has the start of the pack, or lacks it
   takes : (version : Protocol) (place : ℕ) → length sent + 1 ≡ length ends → ended ≡ Ok (Some version)
       → BeginsPack version bytes (start_of_last ends) place → step ≡ Ok (Pack place) → StepsTo bytes ends sent ended step
   packless : (version : Protocol) (e : PacketRefused) → length sent + 1 ≡ length ends → ended ≡ Ok (Some version)
       → RefusedFrom bytes (start_of_last ends) e → step ≡ Err (Packless e) → StepsTo bytes ends sent ended step
-  -- each has one, and there is nothing to ask for
+  -- each request has a response, and there is nothing to request
   rests : length sent + 1 ≡ length ends → ended ≡ Ok None → step ≡ Ok Nothing → StepsTo bytes ends sent ended step
-  -- there is an answer more
+  -- there is one response too many
   overfull : (pack : Option Protocol) → length sent + 1 < length ends → ended ≡ Ok pack → step ≡ Err TooManyAnswers
       → StepsTo bytes ends sent ended step
-  -- the session failed over the answers
+  -- the session failed
   failed : (e : EngineError) → length sent < length ends → ended ≡ Err e → step ≡ Err e → StepsTo bytes ends sent ended step
-  -- the request couldn't be copied
+  -- an allocation failed while the request was copied
   uncopied : step ≡ Err Memory → StepsTo bytes ends sent ended step
 
--- a transport over these answers that has sent nothing
+-- a transport over these responses that has sent nothing
 pub record OpensOver (answers : List (List ℕ)) (transport : Bodies) : Type 0 where
   pub bodies : List Body
   pub answered : map answer_of bodies ≡ map answer_in answers
@@ -66,7 +66,7 @@ pub record OpensOver (answers : List (List ℕ)) (transport : Bodies) : Type 0 w
 module _ {O : Type 0} (contents : O → Objects)
     (Receives : O → RefMap → Handshake → Reading → Reading → Result (Option Outcome) (FetchError AllocError Left) → Type 0)
     (bytes ends : List ℕ) (wishes : Wishes) where
-  -- a session over the answers, whose haves alone are here, and what it sent
+  -- a session over the responses, with only the haves as local objects, and the requests that it sent
   pub record SessionOver (answers : List (List ℕ)) (sent : List (List ℕ)) (ended : Result (Option Protocol) EngineError) : Type 0 where
     pub here : O
     pub transport : Bodies
@@ -76,7 +76,7 @@ module _ {O : Type 0} (contents : O → Objects)
     pub session : EngineSession (Receives here) wishes.specs true (bodies_reading transport) new ended
     pub requests : sent ≡ new.held.sent
 
-  -- the step by that session, unless the places cut no answers, or there is none, or an allocation failed
+  -- the step by that session, unless the offsets are invalid, or there is no response, or an allocation failed
   pub data IsNextStep (step : Result Step EngineError) : Type 0 where
     uncut : answers_between bytes 0 ends ≡ None → step ≡ Err Lengths → IsNextStep step
     unanswered : answers_between bytes 0 ends ≡ Some [] → step ≡ Err NoAnswer → IsNextStep step

@@ -1,4 +1,4 @@
-//! A consumer that leaves the pack to its caller.
+//! A consumer that leaves the pack to the caller.
 ghost use Rattle.std.specs.Prelude.{◌≡◌, Ok, false};
 ghost use Rattle.gixp_engine.specs.Leave.{leaves_owes};
 
@@ -9,11 +9,11 @@ use gixp_packetline::{ExtendedBufRead, ServerMessage};
 use gixp_progress::Progress;
 use gixp_sidebands::Interrupt;
 
-/// Reads nothing of a pack, and lets nothing be read after it.
+/// Consumes nothing of a pack, so that the caller reads the pack itself. It also prevents reads of the rest of the response.
 #[derive(Clone, Copy, Debug)]
 pub struct LeavePack;
 
-/// Why a pack isn't left: there is no such error.
+/// The error of `LeavePack`, which never fails.
 #[derive(Clone, Copy, Debug, Drop)]
 pub struct Left;
 

@@ -1,4 +1,4 @@
-//! Why there is no next request.
+//! The errors of `next_step`.
 ghost use Rattle.std.specs.Prelude.{◌≡◌};
 ghost use Rattle.std.specs.Option.{option_map};
 ghost use Rattle.bstr.specs.BStr.{bstr_bytes};
@@ -15,34 +15,34 @@ use gixp_refspec::parse;
 use std::alloc::{AllocError, AllocFailed};
 use thiserror::Error as DeriveError;
 
-/// Why there is no next request.
+/// The error of `next_step`.
 #[derive(Debug, Drop, DeriveError)]
 pub enum EngineError {
-    /// There is no answer yet: the first is what the server says when it is asked for its service.
+    /// There is no response. The first response is the server's advertisement.
     #[error("no answer is there yet")]
     NoAnswer,
-    /// There are more answers than requests that were made.
+    /// There are more responses than requests.
     #[error("there are more answers than requests")]
     TooManyAnswers,
-    /// The places at which answers end, or the bytes of ids, don't go together.
+    /// The offsets don't match the responses, or the bytes aren't whole ids.
     #[error("lengths that don't fit")]
     Lengths,
-    /// A refspec is none.
+    /// A text isn't a valid refspec.
     #[error("{0}")]
     Spec(parse::Error),
     /// The handshake failed.
     #[error("{0}")]
     Handshake(handshake::Error),
-    /// The refs weren't listed, or their mappings don't go together.
+    /// The refs couldn't be listed, or their mappings conflict.
     #[error("{0}")]
     Refs(refmap::init::Error),
-    /// The list of refs ended at another packet than a flush packet, so that refs may be missing in it (gitprotocol-v2, "ls-refs").
+    /// The list of refs didn't end with a flush packet, so refs may be missing (gitprotocol-v2, "ls-refs").
     #[error("expected flush after ref listing")]
     UnterminatedRefs,
     /// The fetch failed.
     #[error("{0}")]
     Fetch(FetchError<AllocError, Left>),
-    /// The pack doesn't begin in what is there of the last answer.
+    /// The start of the pack isn't in the last response.
     #[error("no pack begins")]
     Pack(PacketRefused),
     /// An allocation failed.
@@ -73,7 +73,7 @@ impl<T: Drop> From<AllocFailed<T>> for EngineError {
 }
 
 impl EngineError {
-    /// The server's own words, where it is those.
+    /// The server's message, if the error is the server's.
     pub fn server_message(&self) -> Option<BStr<'_>>
         ensures { option_map bstr_bytes result ≡ engine_message self.now }
     {

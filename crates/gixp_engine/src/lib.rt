@@ -1,4 +1,5 @@
-//! The next request of a session, from the answers so far, for a caller that sends and receives itself, as over HTTP.
+//! The next request of a session, computed from the responses so far. For a caller that sends and receives by itself, for example
+//! over HTTP.
 #![tactic(auto)]
 
 mod consumer;

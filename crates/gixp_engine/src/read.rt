@@ -1,4 +1,4 @@
-//! What a caller hands in, as values.
+//! The caller's arguments as values.
 ghost use Rattle.std.specs.Prelude.{◌≡◌, IfOk, map};
 ghost use Rattle.std.specs.FinMap as finite;
 ghost use Rattle.gixp_refspec.specs.RefSpec.{value_of, owned_value_of};
@@ -13,7 +13,6 @@ use gixp_refspec::{RefSpec, RefSpecRef};
 use gixp_wire::Body;
 use std::alloc::{AllocError, Global};
 
-// The ids of these bytes.
 fn ids_from(alloc: Global, whole: &[[u8; 20]]) -> Result<Vec<ObjectId>, AllocError>
     ensures { IfOk result (λ ids. ids.items ≡ map id_from whole.now) }
 {
@@ -24,11 +23,11 @@ fn ids_from(alloc: Global, whole: &[[u8; 20]]) -> Result<Vec<ObjectId>, AllocErr
     Ok(ids)
 }
 
-/// The ids of twenty bytes each, one after another.
+/// The ids in some bytes, 20 bytes each.
 ///
 /// # Errors
 ///
-/// `Lengths` where they are no whole ids, or `Memory`.
+/// `Lengths` if the bytes aren't whole ids, or `Memory`.
 pub fn ids_of(alloc: Global, bytes: &[u8]) -> Result<Vec<ObjectId>, EngineError>
     ensures { HandsIds bytes.now result }
 {
@@ -42,7 +41,6 @@ pub fn ids_of(alloc: Global, bytes: &[u8]) -> Result<Vec<ObjectId>, EngineError>
     }
 }
 
-// Refspecs with texts of their own.
 fn owned_specs(alloc: Global, specs: &[RefSpecRef<'_>]) -> Result<Vec<RefSpec>, AllocError>
     ensures { IfOk result (λ owned. map owned_value_of owned.items ≡ map value_of specs.now) }
 {
@@ -53,7 +51,6 @@ fn owned_specs(alloc: Global, specs: &[RefSpecRef<'_>]) -> Result<Vec<RefSpec>, 
     Ok(owned)
 }
 
-// Why a text has no refspecs.
 fn refused_specs(e: SpecsRefused) -> EngineError
     ensures { result ≡ refused_specs e }
 {
@@ -63,11 +60,11 @@ fn refused_specs(e: SpecsRefused) -> EngineError
     }
 }
 
-/// The refspecs of a text, one on each line; a line that is empty is none.
+/// The refspecs of a text, one per line. Empty lines are skipped.
 ///
 /// # Errors
 ///
-/// `Spec` for the first line that is no refspec, or `Memory`.
+/// `Spec` for the first line that isn't a valid refspec, or `Memory`.
 pub fn specs_of(alloc: Global, text: &[u8]) -> Result<Context, EngineError>
     ensures { HandsSpecs text.now result }
 {
@@ -84,11 +81,11 @@ pub fn specs_of(alloc: Global, text: &[u8]) -> Result<Context, EngineError>
     }
 }
 
-/// The answers that end at these places, one after another.
+/// The responses that end at these offsets, one after another.
 ///
 /// # Errors
 ///
-/// `Lengths` where the places are in no order, or the last isn't the end of the bytes; or `Memory`.
+/// `Lengths` if the offsets aren't in order, or the last one isn't the end of the bytes. Or `Memory`.
 pub(crate) fn answers_of(
     alloc: Global,
     bytes: &[u8],
@@ -111,7 +108,7 @@ pub(crate) fn answers_of(
     Ok(answers)
 }
 
-/// The objects that are there: their kinds aren't known.
+/// The caller's objects, whose kinds are unknown.
 pub(crate) fn objects_of(alloc: Global, haves: &[ObjectId]) -> Result<StoredObjects, AllocError>
     ensures { IfOk result (λ objects. objects ≡ objects_held finite.empty haves.now) }
 {

@@ -1,4 +1,4 @@
-//! A session over the answers so far.
+//! A session over the responses so far.
 ghost use Rattle.std.specs.Prelude.{◌≡◌, true, None, Ok, IfOk};
 ghost use Rattle.gixp_requests.specs.Feature.{feature_value};
 ghost use Rattle.gixp_handshake.specs.Taken.{without_refs};
@@ -33,14 +33,13 @@ use gixp_sidebands::{Interrupt, NeverInterrupt};
 use gixp_wire::{Feature, Service, Transport};
 use std::alloc::{AllocError, Global};
 
-// How the client names itself.
+// The feature `agent`.
 fn engine_feature(alloc: Global) -> Result<Feature, AllocError>
     ensures { IfOk result (λ f. feature_value f ≡ engine_agent) }
 {
     agent_feature(alloc, "git/gixp")
 }
 
-// A handshake without an account.
 fn greet<T: Transport>(alloc: Global, transport: &mut T) -> Result<Handshake, handshake::Error>
     ensures { ShakesAlone T.is_plain (T.reading transport.old) (T.reading transport.new) result }
 {
@@ -57,14 +56,13 @@ fn greet<T: Transport>(alloc: Global, transport: &mut T) -> Result<Handshake, ha
     )
 }
 
-// Whether the reader is at a flush packet.
 fn is_at_flush<T: ExtendedBufRead>(reader: &T) -> bool
     ensures { result ≡ ends_refs (T.reading reader.now).stopped }
 {
     matches!(reader.stopped_at(), Some(MessageKind::Flush))
 }
 
-// Why there is no ref map where the reader is at no flush packet.
+// The error of a ref map whose list of refs didn't end with a flush packet.
 fn unmapped_of_cut(e: init::Error) -> EngineError
     ensures { result ≡ unmapped_of_cut e }
 {
@@ -77,7 +75,7 @@ fn unmapped_of_cut(e: init::Error) -> EngineError
     }
 }
 
-// The ref map, unless its refs were read and aren't whole.
+// Returns `UnterminatedRefs` for a ref map whose list of refs is incomplete.
 fn map_of_whole(made: Result<RefMap, init::Error>, is_whole: bool) -> Result<RefMap, EngineError>
     ensures whole { result ≡ map_of_whole made is_whole }
     ensures made { IfOk result (λ m. (made ≡ Ok m) × (is_whole ≡ true)) }
@@ -100,7 +98,7 @@ fn map_of_whole(made: Result<RefMap, init::Error>, is_whole: bool) -> Result<Ref
     }
 }
 
-// The ref map of the server, which is asked for the refspecs' prefixes.
+// The ref map of the server, which lists the refs with the prefixes of the refspecs.
 fn map_refs<T: Transport>(
     alloc: Global,
     handshake: &mut Handshake,
@@ -118,7 +116,7 @@ fn map_refs<T: Transport>(
     )
 }
 
-// The fetch of what a negotiation asks for, up to the pack.
+// Fetches by a negotiation, up to the pack.
 fn fetch_over<N: Negotiate, T: Transport>(
     alloc: Global,
     negotiation: &mut N,
@@ -161,14 +159,14 @@ fn fetch_over<N: Negotiate, T: Transport>(
     )
 }
 
-// What the caller has: ids of objects, and the boundary.
+// The objects that the caller has, and its shallow boundary.
 #[derive(Drop)]
 struct Here {
     haves: Vec<ObjectId>,
     boundary: Vec<ObjectId>,
 }
 
-// The fetch of what is mapped and isn't there. All that the context borrows but the objects is a local here.
+// Fetches the mapped refs that are missing. Everything that the negotiation borrows, except the objects, is local to this function.
 fn fetch_mapped<'a, O: Objects, T: Transport>(
     alloc: Global,
     objects: &'a O,
@@ -211,7 +209,7 @@ fn fetch_mapped<'a, O: Objects, T: Transport>(
     )
 }
 
-// How a session ends by its fetch.
+// The result of a session by its fetch.
 fn end_of(
     version: Protocol,
     fetched: Result<Option<Outcome>, FetchError<AllocError, Left>>,
@@ -225,7 +223,7 @@ fn end_of(
     }
 }
 
-/// A session up to its pack, and the version under which one comes; none where nothing is to be asked for.
+/// Runs a session up to its pack. Returns the version of the response with a pack, or `None` if there is nothing to request.
 pub(crate) fn run<'a, O: Objects, T: Transport>(
     alloc: Global,
     objects: &'a O,

@@ -27,31 +27,31 @@ use gixp_sidebands::{Interrupt, NeverInterrupt};
 use gixp_wire::Bodies;
 use std::alloc::{AllocError, Global};
 
-/// What a client wants.
+/// The arguments of a session.
 #[derive(Drop)]
 pub struct Wishes {
-    /// Which refs of the server, and under which local names.
+    /// The refspecs.
     pub specs: Context,
-    /// The objects that are there. They are offered in this order, and none of them is asked for.
+    /// The objects that exist locally. They are offered as haves in this order, and never requested.
     pub haves: Vec<ObjectId>,
-    /// How much of the history.
+    /// How much of the history to fetch.
     pub shallow: Shallow,
-    /// The boundary of a shallow repository.
+    /// The shallow boundary of the local repository.
     pub boundary: Vec<ObjectId>,
 }
 
-/// What a client does next.
+/// The caller's next action.
 #[derive(Debug, Drop)]
 pub enum Step {
-    /// It sends these bytes. What comes back is the next answer.
+    /// Send these bytes. The server's reply is the next response.
     Request(Vec<u8>),
-    /// It takes the pack out of the last answer: it begins at this place of all bytes.
+    /// Take the pack from the last response. It begins at this offset of all bytes.
     Pack(usize),
-    /// It is done: nothing is to be asked for.
+    /// Nothing: there is nothing to request.
     Nothing,
 }
 
-// Where the pack begins in the bytes from the start of the last answer on.
+// The offset of the pack in the response that begins at `start`.
 fn pack_place(bytes: &[u8], start: usize, version: Protocol) -> Result<usize, PacketRefused>
     requires { start ≤ length bytes.now }
     ensures { MatchResult result (BeginsPack version bytes.now start) (RefusedFrom bytes.now start) }
@@ -62,7 +62,7 @@ fn pack_place(bytes: &[u8], start: usize, version: Protocol) -> Result<usize, Pa
     }
 }
 
-// Where the last answer begins.
+// The offset at which the last response begins.
 fn start_of_last(ends: &[usize]) -> usize
     ensures { result ≡ start_of_last ends.now }
 {
@@ -72,7 +72,7 @@ fn start_of_last(ends: &[usize]) -> usize
     }
 }
 
-// The step behind a session whose requests all have an answer.
+// The step after a session whose requests all have a response.
 fn step_behind(bytes: &[u8], ends: &[usize], pack: Option<Protocol>) -> Result<Step, EngineError>
     requires { start_of_last ends.now ≤ length bytes.now }
     ensures { (sent : List (List ℕ)) → length sent + 1 ≡ length ends.now → StepsTo bytes.now ends.now sent (Ok pack) result }
@@ -86,7 +86,7 @@ fn step_behind(bytes: &[u8], ends: &[usize], pack: Option<Protocol>) -> Result<S
     }
 }
 
-// The step behind a session of so many requests, fewer than there are answers.
+// The step after a session with fewer requests than responses.
 fn step_unasked(
     bytes: &[u8],
     ends: &[usize],
@@ -108,7 +108,7 @@ fn step_unasked(
     }
 }
 
-// The step by the requests of a session and how it ended.
+// The step by the requests of a session and its result.
 fn step_of(
     alloc: Global,
     bytes: &[u8],
@@ -129,13 +129,13 @@ fn step_of(
     }
 }
 
-/// What a client does next, from the answers of a server so far: first to the handshake, then to each request that this function
-/// returned (gitprotocol-v2; gitprotocol-pack, "Packfile Negotiation"). The answers follow one another, and end at these
-/// places. Of the last one a beginning will do that reaches to the pack.
+/// Returns the caller's next action, from the server's responses so far: first its advertisement, then the response to each request
+/// that this function returned (gitprotocol-v2; gitprotocol-pack, "Packfile Negotiation"). `bytes` has the responses one after
+/// another, and `ends` the offsets at which they end. The last response may be incomplete if it reaches to the pack.
 ///
 /// # Errors
 ///
-/// Those of [`EngineError`]. Where the last answer isn't whole the error says that the stream ended.
+/// Those of [`EngineError`]. If the last response is incomplete, the error says that the stream ended.
 pub fn next_step(
     alloc: Global,
     bytes: &[u8],

@@ -1,4 +1,4 @@
-//! Clauses of a caller, over the definitions that `gix_protocol` gives.
+//! Contracts of a caller that use the definitions of `gix_protocol`.
 ghost use Rattle.std.specs.Prelude.{◌≡◌, Some, Ok, Err, true, false, IfOk, OnOk, IsSome, MatchResult};
 ghost use Rattle.std.specs.FinMap as finite;
 ghost use Rattle.gix_protocol.specs.ObjectIdType.{ObjectId};
@@ -23,7 +23,7 @@ use gix_protocol::transport::{
 use std::alloc::Global;
 use std::io::{self, Read};
 
-/// Marks what is complete from these tips down to the cutoff: all of it is then held.
+/// Marks everything complete that is reachable from these tips, down to the cutoff. The graph then holds all of it.
 pub fn marked_complete<O: Objects>(
     graph: &mut Graph<O>,
     tips: &[ObjectId],
@@ -35,14 +35,14 @@ pub fn marked_complete<O: Objects>(
     graph.mark_complete(tips, Some(cutoff))
 }
 
-/// A refspec for fetching, by its definition.
+/// Parses a refspec for fetching. The clause states its meaning.
 pub fn read_spec<'a>(text: BStr<'a>) -> Result<RefSpecRef<'a>, parse::Error>
     ensures { MatchResult result (λ s. spec_of (bstr_bytes text.entry) ≡ Ok (value_of s)) (λ e. spec_of (bstr_bytes text.entry) ≡ Err e) }
 {
     parse::parse(text, Operation::Fetch)
 }
 
-/// The answer to a request that said `done`, by its definition.
+/// Reads the response to a request that ends with `done`. The clause states its meaning.
 pub fn read_answer<R: ExtendedBufRead>(
     alloc: Global,
     version: Protocol,
@@ -53,7 +53,7 @@ pub fn read_answer<R: ExtendedBufRead>(
     Response::from_line_reader(alloc, version, reader, true, false)
 }
 
-/// Reads bytes of a pack from the sideband into a buffer: the next ones of band 1.
+/// Reads the next bytes of band 1 into a buffer.
 pub fn read_pack<T: ExtendedBufRead, P: BandText + Drop, I: Interrupt>(
     pack: &mut WithSidebands<'_, T, P, I>,
     buffer: &mut [u8],

@@ -1,15 +1,15 @@
-//! One fetch, up to its pack.
+//! One request for a pack, up to the start of the pack.
 use gix_protocol::command::{Command, CommandTable};
 use gix_protocol::fetch::{Arguments, Response, response};
 use gix_protocol::transport::{ObjectId, Service, Transport, client};
 use std::alloc::{AllocError, Global};
 
-/// Why a fetch came to no answer.
+/// The error of a fetch.
 #[derive(Debug, Drop)]
 pub enum Error {
     /// The handshake or the request failed.
     Transport(client::Error),
-    /// The answer can't be read.
+    /// The response can't be read.
     Answer(response::Error),
 }
 
@@ -31,8 +31,8 @@ impl From<AllocError> for Error {
     }
 }
 
-/// Asks for one commit, and reads the answer up to its pack; says whether there is one. The pack is
-/// then read from the transport, by [`gix_protocol::transport::WithSidebands`].
+/// Requests one commit, and reads the response up to the pack. Returns whether there is a pack. The caller then reads the pack from
+/// the transport, by [`gix_protocol::transport::WithSidebands`].
 pub fn fetch_one<T: Transport>(
     alloc: Global,
     transport: &mut T,

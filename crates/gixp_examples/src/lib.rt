@@ -1,4 +1,4 @@
-//! Uses of `gix_protocol`, as a caller writes them, over that crate alone.
+//! Uses of `gix_protocol`, as a caller writes them. Nothing else is used.
 #![tactic(auto)]
 
 mod clauses;

@@ -1,12 +1,12 @@
-//! After a fetch, which local refs are to be written.
+//! The local refs to write after a fetch.
 use gix_protocol::fetch::negotiate::{Graph, Shared, StoredObjects, StoredRefs};
 use gix_protocol::fetch::refs::Update;
 use gix_protocol::fetch::refs::update::{self, update};
 use gix_protocol::fetch::{RefMap, Tags};
 use std::alloc::Global;
 
-/// What becomes of the local ref of each mapping, once the pack is in: the objects are the repository's, with all that
-/// came. Where it fails, no ref is to be written.
+/// The update of the local ref of each mapping, after the pack is stored. `objects` has all received objects. After an error
+/// write no ref.
 pub fn refs_to_write(
     alloc: Global,
     map: &RefMap,
@@ -29,7 +29,7 @@ pub fn refs_to_write(
     )
 }
 
-/// Whether `git fetch` would end with a status other than 0 for one of the updates.
+/// Whether `git fetch` would exit with a status other than 0 because of one of the updates.
 pub fn has_failed(map: &RefMap, updates: &[Update]) -> bool {
     let mut pairs = updates.iter().zip(&map.mappings);
     pairs.any(|(update, mapping)| update.fails(map, mapping, Tags::Included))

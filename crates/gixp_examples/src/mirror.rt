@@ -1,14 +1,14 @@
-//! A mirror of a server's refs: which of them are made, moved and removed.
+//! A mirror of a server's refs: which refs to create, update and delete.
 use gix_protocol::client::{Error, LocalChange, Request, Session, Silent, local_changes};
 use gix_protocol::fetch::Tags;
 use gix_protocol::fetch::negotiate::StoredRefs;
 use gix_protocol::transport::Transport;
 use std::alloc::Global;
 
-/// What is to be done to the refs of a mirror: first of those that the server has, in its order, then of those that it has no more. A
-/// ref whose name isn't safe is left out, and stays where the mirror has it.
+/// The changes of a mirror's refs: first of those that the server has, in its order, then the removals of those that it no longer
+/// has. A ref whose name isn't safe is left out, and the mirror keeps its own.
 ///
-/// Nothing is fetched: a `fetch` of the same map brings the objects. Where a call fails nothing is planned.
+/// It fetches nothing: a `fetch` with the same map transfers the objects. If a call fails, there is no result.
 pub fn plan_mirror<T: Transport + Drop>(
     alloc: Global,
     transport: T,

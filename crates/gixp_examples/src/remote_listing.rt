@@ -5,7 +5,6 @@ use gix_protocol::handshake::Ref;
 use std::alloc::{AllocError, Global};
 use std::io::{Read, Write};
 
-// Adds the line of an id and a name.
 fn add_line(text: &mut Vec<u8>, id: &[u8], name: &[u8], suffix: &[u8]) -> Result<(), AllocError> {
     for part in [id, b"\t", name, suffix, b"\n"] {
         text.extend_from_slice(part)?;
@@ -13,8 +12,8 @@ fn add_line(text: &mut Vec<u8>, id: &[u8], name: &[u8], suffix: &[u8]) -> Result
     Ok(())
 }
 
-/// The lines of `git ls-remote` for these refs: the id, a tab and the name, and one more for what a tag leads to. A ref of
-/// an empty repository has no line.
+/// The lines of `git ls-remote` for these refs: the id, a tab and the name. A tag has a second line for its peeled object. An
+/// unborn ref has no line.
 pub fn ls_remote(alloc: Global, refs: &[Ref]) -> Result<Vec<u8>, AllocError> {
     let mut text = Vec::new(alloc);
     for found in refs {
@@ -29,9 +28,8 @@ pub fn ls_remote(alloc: Global, refs: &[Ref]) -> Result<Vec<u8>, AllocError> {
     Ok(text)
 }
 
-/// Writes the lines of `git ls-remote` for a server, over the streams from it and to it, such as the pipes of `git upload-pack PATH`
-/// on this machine, or of the same command by `ssh`. Where the server fails, nothing is written; where the writer fails, it may have a
-/// beginning of the lines.
+/// Writes the lines of `git ls-remote` for a server over two streams, such as the pipes of `git upload-pack PATH`, local or by
+/// `ssh`. If the server fails, nothing is written. If the writer fails, it may have received some of the lines.
 pub fn print_remote_refs<R: Read + Drop, W: Write + Drop, O: Write>(
     alloc: Global,
     from: R,

@@ -1,8 +1,8 @@
-//! A repository in memory, from what git writes of one on disk.
+//! A repository in memory, from git's output for one on disk.
 use gix_protocol::fetch::negotiate::{StoredObjects, StoredRefs, TextError};
 use std::alloc::Global;
 
-/// The objects and the refs of a repository, from the texts that git writes of it.
+/// The objects and the refs of a repository, from the texts that git prints about it.
 pub fn stored_repository(
     alloc: Global,
     commits: &[u8],

@@ -8,7 +8,7 @@ const LISTED: &[u8] =
     b"000eversion 2\n0013ls-refs=unborn\n0012fetch=shallow\n0017object-format=sha1\n0000\
     003d7257effbd41e1233eaae5744e614c5c728e3c979 refs/heads/main\n0000";
 
-// The same, and its answer to a fetch.
+// The same, and its response to a fetch.
 const FETCHED: &[u8] =
     b"000eversion 2\n0013ls-refs=unborn\n0012fetch=shallow\n0017object-format=sha1\n0000\
     003d7257effbd41e1233eaae5744e614c5c728e3c979 refs/heads/main\n0000\

@@ -5,10 +5,9 @@ use gix_protocol::fetch::{CopyPack, RefMap};
 use std::alloc::Global;
 use std::io::{Read, Write};
 
-/// Fetches what a request asks for from the server at two streams, and writes the pack into a writer, which isn't flushed.
+/// Fetches the objects of a request from the server at two streams. Writes the pack into a writer, and doesn't flush it.
 ///
-/// Where it fails, the writer may have a part of a pack, which is to be thrown away; the boundary and the refs are to stay
-/// as they are.
+/// After an error the writer may have a part of a pack: throw it away, and keep the boundary and the refs.
 pub fn fetch_from<R: Read + Drop, W: Write + Drop, F: Write>(
     alloc: Global,
     from: R,

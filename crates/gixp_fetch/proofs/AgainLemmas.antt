@@ -1,4 +1,4 @@
--- What requests name again.
+-- What requests repeat.
 use Rattle.std.proofs.Common.{◌≡◌, ◌⊎◌, inl, inr, ℕ, Bool, true, false, List, [], ◌∷◌, ◌++◌, map, refl, sym, ap, subst, ◌∙◌, Some, true≢false}
 use Rattle.std.specs.Prelude.{◌||◌, if◌then◌else◌}
 use Rattle.std.specs.List.{Contains}
@@ -69,7 +69,7 @@ lines_of_haves (id ∷ ids) q h = at (member_cases id ids q h) (lines_of_haves i
     at (inl e) rest = first_member (have_line id) (map have_line ids) (have_line q) (ap have_line e)
     at (inr b) rest = later_member (have_line id) (map have_line ids) (have_line q) (rest b)
 
--- lines stay where requests stand alone
+-- the lines stay where each request has to be complete in itself
 lines_stay : (persists : Bool) (a : ArgumentsValue) → (is_v2 a.version ≡ true) ⊎ (persists ≡ false) → (sent_off persists a).lines ≡ a.lines
 lines_stay persists a (inl e) = rw e refl
 lines_stay persists a (inr e) = rw e (at (is_v2 a.version))
@@ -79,7 +79,7 @@ lines_stay persists a (inr e) = rw e (at (is_v2 a.version))
     at false = refl
 
 module _ {N I A : Type 0} (m : Manner N I A) (law : Renames m.goes) where
-  -- where a run stands: these ids are kept or were named last
+  -- the state of a run: these ids are recorded or were acknowledged last
   record Knows (old : At N I) (lines : List (List ℕ)) (ids : List ObjectId) : Type 0 where
     kept : List ObjectId
     is_kept : old.window.kept ≡ Some kept
@@ -177,7 +177,7 @@ module _ {N I A : Type 0} (m : Manner N I A) (law : Renames m.goes) where
             (next_knows old t lines ids k r.0) r.3 h,
       )
 
-  -- what is negotiated after these rounds
+  -- the request after these rounds
   then_names : (old before : At N I) (ts : List (Turn N I)) (lines : List (List ℕ)) (ids : List ObjectId) → Knows old lines ids
       → Rounds m old ts before → (round : Round) (done : Bool) (next : N) (window : Window) (asked : ArgumentsValue)
       → m.goes before.negotiate before.window before.asked before.previous round done next window asked

@@ -1,4 +1,4 @@
--- Why a fetch failed, by its error.
+-- The cause of a failed fetch, by its error.
 use Rattle.std.proofs.Common.{◌≡◌, ◌⊎◌, inl, inr, arith, ℕ, suc, ◌+◌, Bool, true, false, not, List, [], ◌∷◌, ◌++◌, length, refl, sym, ap, subst, ◌∙◌, Option, Some, None}
 use Rattle.std.specs.Prelude.{Ok, Err, ℤ, IfSome, codes, ◌||◌, ◌&&◌, if◌then◌else◌}
 use Rattle.std.proofs.lemmas.List.{append-nil, length-append}
@@ -59,9 +59,9 @@ use Rattle.gixp_fetch.proofs.SessionLemmas.{fails_held, is_answer, rounds_answer
 use Rattle.gixp_fetch.proofs.KeptLemmas.{may_change, stays_same, goes_each}
 use Rattle.gixp_fetch.proofs.HeadlineLemmas.{answers_refused}
 
--- ---- the end of what comes after a pack
+-- ---- the end of the lines after a pack
 
--- the refusal that comes next ends the lines
+-- the next error ends the lines
 ends_refused_by : (v : Protocol) (list : List Piece) (end e : Refusal) → next_from v list end ≡ refuses e
     → (lines_from v list end).ending ≡ ends_refused e
 ends_refused_by v [] end e h = cc
@@ -206,7 +206,7 @@ lacks_feature s ids a name e = at (can_use (codes "shallow") a) refl e
         without true e = ap (λ n. has_feature n a.features) (same_asking (codes "shallow") name e) ∙ q
         without false e = absurd (let x = e in cc)
 
--- ---- which error becomes which
+-- ---- the error by the lower layer's
 
 module _ {A E : Type 0} where
   abbrev Fails_as : {F : Type 0} → (F → Error A E) → (F → Error A E) → F → F → Type 0
@@ -304,7 +304,7 @@ module _ {N I S A C P X : Type 0} (parties : Parties N I A S C P X) (call : Fetc
           by_this (MissingServerFeature f d) g (subst (λ n. FeatureLacked parties call old new n d.now) (sym m.0) (l d.now m.1))
       at d g m = absurd m
 
--- ---- whom a refused answer asked
+-- ---- whether a failed response asked the interrupt
 
 module _ {I : Type 0} (says : I → Bool → I → Type 0) where
   none_more : (xs : List I) (a b : I) → SaysEach says xs false a b → SaysGoOn says (length xs) a b
@@ -312,7 +312,7 @@ module _ {I : Type 0} (says : I → Bool → I → Type 0) where
       let k : length xs + 0 ≡ length xs = omega arith in
       subst (λ n. SaysGoOn says n a b) k (goes_each says xs a b b 0 s refl)
 
-  -- up to the last question
+  -- all questions but the last
   parts : (xs : List I) (a b : I) → SaysEach says xs true a b → (mid : I) × SaysEach says xs false a mid × says mid true b
   parts [] a b s = (a, refl, s)
   parts (x ∷ xs) a b s = let r = parts xs x b s.1 in (r.0, (s.0, r.1), r.2)
@@ -350,12 +350,12 @@ module _ {S : Type 0} (locks releases : S → S → Type 0) (s : ShallowValue) (
   back_by true first held last c l r = inr (may_change s c, subst (λ b. ReleasesIf releases b last new) l.1 r)
   back_by false first held last c l r = inl (stays_same s c, subst (λ b. ReleasesIf releases b last new) l.1 r)
 
-  -- where it isn't had first, the boundary may not change
+  -- where the lock isn't taken first, the boundary may not change
   unlocked_by : (c : Bool) (held : S) → is_change s ≡ c → LocksFirst locks c old held false → (s ≡ no_change) × (held ≡ old)
   unlocked_by true held c l = absurd (false≢true l.1)
   unlocked_by false held c l = (stays_same s c, l.0)
 
--- ---- a whole fetch
+-- ---- the whole fetch
 
 requests_append : {N I : Type 0} (ts : List (Turn N I)) (t : Turn N I) → requests_of (ts ++ t ∷ []) ≡ requests_of ts ++ request_of t ∷ []
 requests_append [] t = refl
@@ -541,7 +541,7 @@ module _ {N I S A C P X : Type 0} (parties : Parties N I A S C P X) (call : Fetc
       unpacked_cause rounds (inr (inl l)) = unanswered_cause l.turns l.before l.asked l.run l.said l.refused
       unpacked_cause rounds (inr (inr u)) = by_memory parties call old new progress e u.gives
 
-    -- ---- what follows a pack
+    -- ---- after a pack
     module _ (ids : List ObjectId) (read : S) (reads : parties.store_calls.reads held ids read) (us : List ShallowUpdate)
         (from : Reading) (stopped : from.stopped ≡ None) where
       unheld_cause : (c u reject had : Bool) → is_change call.wishes.shallow ≡ c → call.wishes.reject ≡ reject → first ≡ had

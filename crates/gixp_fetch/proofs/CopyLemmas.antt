@@ -1,4 +1,4 @@
--- A pack that is copied piece by piece.
+-- Copying a pack piece by piece.
 use Rattle.std.proofs.Common.{◌≡◌, ℕ, ◌+◌, ◌≤◌, ◌<◌, List, [], ◌++◌, length, take, arith, refl, ap, sym, ◌∙◌, subst, Option, Some, None, IsSome, inl, inr}
 use Rattle.std.proofs.lemmas.List.{append-nil, take_all}
 use Rattle.std.specs.Prelude.{IfSome}
@@ -23,7 +23,7 @@ copied_none w s = record {
   written = appends_nil w;
 }
 
--- one piece more
+-- one more piece
 pub copied_more : (old w w' : Option (List ℕ)) (start now mid next : Side) (read piece : List ℕ) → Copied old start read w now
     → ShowsContent now mid → ReadsBytes mid next piece → Appends w w' piece
     → Copied old start (read ++ piece) w' next
@@ -59,7 +59,7 @@ module _ (now mid next : Side) (piece : List ℕ) (n : ℕ) (s : ShowsContent no
   whole_piece : take n (shown mid.place mid.reading) ≡ piece
   whole_piece = ap (λ x. take n x) (sym e) ∙ take_all n piece (omega (arith, l))
 
-  -- a piece that was lent is copied and returned
+  -- a borrowed piece is copied and returned
   pub copied_piece : (old w w' : Option (List ℕ)) (start : Side) (read : List ℕ) → Copied old start read w now → Appends w w' piece
       → (read' : List ℕ) × Copied old start read' w' next
   copied_piece old w w' start read h a =
@@ -68,7 +68,7 @@ module _ (now mid next : Side) (piece : List ℕ) (n : ℕ) (s : ShowsContent no
   pub passed_piece : (start : Side) (read : List ℕ) → Copied None start read None now → (read' : List ℕ) × Copied None start read' None next
   passed_piece start read h = copied_piece None None None start read h tt
 
-  -- and fewer bytes may still come
+  -- fewer bytes are left
   pub falls : content_bound next < content_bound now
   falls =
       let some : 0 < length (shown mid.place mid.reading) = s.some in
@@ -77,7 +77,7 @@ module _ (now mid next : Side) (piece : List ℕ) (n : ℕ) (s : ShowsContent no
       let high : content_bound mid ≤ content_bound now = s.bound in
       omega arith
 
--- all was copied
+-- all pieces were copied
 pub copied_all : (old w : Option (List ℕ)) (start now end : Side) (read : List ℕ) → Copied old start read w now → EndsContent now end
     → (whole : List ℕ) × Copied old start whole w end × IfSome start.reading.to_come (λ p. IsFirstOf start p → side_content start p ≡ whole)
     × IsSome end.reading.stopped
@@ -104,7 +104,7 @@ copied_all old w start now end read h t = (
         let same : u.0 ≡ r = cc in
         u.3 ∙ (ap (λ z. read ++ side_content now z) same ∙ (ap (λ z. read ++ z) y ∙ append-nil read))
 
--- a read was refused, and its refusal taken out of the reader
+-- a read failed, and its error was taken out of the reader
 pub copied_refused : (old w : Option (List ℕ)) (start now failed end : Side) (read : List ℕ) (e : io_error) (refusal : Refusal)
     → Copied old start read w now → RefusesContent now failed e
     → IfSome failed.fault (λ r. refusal ≡ r) → end ≡ record failed { fault = None }

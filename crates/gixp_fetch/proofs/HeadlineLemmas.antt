@@ -1,4 +1,4 @@
--- What is true of a client's whole run.
+-- What holds for the whole run of a client.
 use Rattle.std.proofs.Common.{◌≡◌, ◌⊎◌, inl, inr, ℕ, Bool, true, false, List, [], ◌∷◌, map, refl, sym, ap, subst, ◌∙◌, Option, Some, None}
 use Rattle.std.specs.Prelude.{Result, Ok, Err, IfSome, Vec}
 use Rattle.std.specs.declared.alloc.Global.{Global}
@@ -62,11 +62,11 @@ use Rattle.gixp_fetch.specs.Sessions.{Starts, SessionFails, at_depth, at_wants, 
 use Rattle.gixp_fetch.specs.Headline.{AnswerBodies, said_call, IsOfAll, FindsRefMap, of_shown, of_listed, unlisted, unmade, MapsAreOfAll, AnswersAreRefused, RefsAreRefused, AdvertisementsAreRefused, WordsAreSaid, SaysBy, Greeted, ShownByHandshake, ListedByCommand, RefsRefused, AsksAccount, HasAccount, IsErased, NoAccount, unanswered, none_known, untaken, unheard_again, bad, unkept, HandshakeFails, unbegun, unheard, denied, unaccepted, unread, HandshakesAreRefused, WantsOfMap, NoWants, NoneOfMap, DecidesOfMap, RefusalOfMap, AsksOfMap, Run, Promise}
 use Rattle.gixp_fetch.proofs.SessionLemmas.{session_held}
 
--- ---- frames
+-- ---- packet lines
 
 module _ (no_others : (bytes : List ℕ) (frames : List Frame) (end : End) → AreFrames bytes frames end
     → frames_of bytes ≡ record { list = frames; end = end }) where
-  -- the pieces of any frames that the grammar has of some bytes
+  -- the pieces of the packet lines that the grammar finds in some bytes
   pub pieces_are : (bytes : List ℕ) (frames : List Frame) (end : End) → AreFrames bytes frames end
       → pieces_of (frames_of bytes) ≡ pieces_from frames end
   pieces_are bytes frames end h = ap (λ (fs : Frames). pieces_of fs) (no_others bytes frames end h)
@@ -76,7 +76,7 @@ module _ (no_others : (bytes : List ℕ) (frames : List Frame) (end : End) → A
   answer_bodies (Bytes bytes ∷ bs) = (λ frames end h. ap body (pieces_are bytes.items frames end h), answer_bodies bs)
   answer_bodies (Fail kind ∷ bs) = (refl, answer_bodies bs)
 
--- ---- refusals
+-- ---- errors
 
 pub answers_refused : AnswersAreRefused
 answers_refused found plain old new e (inl h) = inl (h.refusal, h.first, h.error)
@@ -98,7 +98,7 @@ advertisements_refused t plain old new e (inl (inr (inr (inl h)))) =
 advertisements_refused t plain old new e (inl (inr (inr (inr h)))) = inr (inl (h.taken, inr (h.read, h.stopped, h.error)))
 advertisements_refused t plain old new e (inr h) = inr (inr (h.texts, h.now, h.read, h.at, h.error))
 
--- ---- refs, and the map of them
+-- ---- refs, and their map
 
 if_some : {X : Type 0} (o : Option X) (P Q : X → Type 0) → ((x : X) → P x → Q x) → IfSome o P → IfSome o Q
 if_some None P Q f h = tt
@@ -111,7 +111,7 @@ lines_read t from new refs updates h =
     (λ p. v1_refs t (lines_ahead from p) ≡ Ok (map ref_value refs))
     (λ p l. ap (v1_refs t) l.2 ∙ h.values) h.lines
 
--- what stands next to a handshake: its refs, or none, and nothing more was read
+-- the advertised refs, or none, and nothing more was read
 abbrev By : Handshake → Option (Vec Ref Global) → SetServiceResponse → Reading → Reading → Type 0
 By h (Some refs) found from shaken = ShownByHandshake found from shaken shaken h refs.items
 By h None found from shaken = (found.has_refs ≡ false) × (shaken ≡ from) × (h.v1_shallow_updates ≡ None)
@@ -184,7 +184,7 @@ module _ (service : Service) (ps : List Parameter) (plain : Bool) (turns : List 
 abbrev ok_map : RefMap → Result RefMap map_error
 ok_map made = Ok made
 
--- what a map is made of: its refs came with the handshake, or answered the command
+-- the origin of the refs of a map: they were advertised, or listed
 pub record Stands (found : SetServiceResponse) (from shaken mapped : Reading) (h : Handshake) (table : TableValue)
     (agent : FeatureValue) (context : Context) (made : RefMap) : Type 0 where
   pub came : ShownByHandshake found from shaken mapped h made.remote_refs.items ⊎ ((found.has_refs ≡ false) × (shaken ≡ from)
@@ -247,7 +247,7 @@ module _ (plain : Bool) (found : SetServiceResponse) (from shaken mapped : Readi
         maps = subst (λ given. MakesMap h.capabilities context given (Ok made)) (sym are) mapped_so;
       }
 
--- ---- the server's first words
+-- ---- the server's first message
 
 abbrev no_words : client_error → Result SetServiceResponse client_error
 no_words e = Err e
@@ -284,7 +284,7 @@ refs_refused_by : (capabilities : List CapabilityValue) (plain : Bool) (old new 
 refs_refused_by capabilities plain old new e (inl h) = inl (h.0, no_table capabilities e (symref_table capabilities) refl h.1)
 refs_refused_by capabilities plain old new e (inr h) = inr (h.0, h.1, advertisements_refused h.0 plain old new e h.2)
 
--- ---- the table of accounts
+-- ---- credential errors
 
 abbrev unopened : shake_error → OpeningResult
 unopened e = Err e
@@ -343,7 +343,7 @@ no_account service ps old new turns e (inl l) =
     inl (by_answer service ps old new turns e l.turn l.later (record { all = l.all; asked = l.asked }) l.turn.answer refl l.got)
 no_account service ps old new turns e (inr n) = inr n
 
--- ---- handshakes that are refused
+-- ---- handshakes that fail
 
 abbrev no_handshake : shake_error → Result Handshake shake_error
 no_handshake e = Err e
@@ -395,7 +395,7 @@ pub handshakes_refused : HandshakesAreRefused
 handshakes_refused service ps plain start reached turns e s =
     by_opening service ps plain start reached turns e s.opened s.mid s.opens s.goes_on
 
--- ---- ref maps and their refusals
+-- ---- ref maps and their errors
 
 module _ (table : TableValue) (agent : FeatureValue) (context : Context) (h : Handshake) (plain : Bool) (shaken reached : Reading)
     (r : Result RefMap map_error) where
@@ -435,7 +435,7 @@ pub maps_are_of_all : MapsAreOfAll
 maps_are_of_all table agent context h plain shaken reached r o =
     answers_by table agent context h plain shaken reached r o.prepared h.refs refl o.prepares o.obtains
 
--- ---- what is asked for of a map
+-- ---- the wants of a map
 
 module _ {N I A S C P X : Type 0} (parties : Parties N I A S C P X) (map_of : N → RefMap) (knows : N → Knowledge)
     (follows : FollowsMap parties.negotiation_calls.marks parties.negotiation_calls.adds map_of knows) (made : RefMap) where
@@ -487,7 +487,7 @@ module _ {N I A S C P X : Type 0} (parties : Parties N I A S C P X) (map_of : N 
   asks_of_map call old (Err e) new progress same (inl u) = tt
   asks_of_map call old (Err e) new progress same (inr h) = refusal_of_map call old e h.0 progress same h.1
 
--- ---- a whole run
+-- ---- the whole fetch
 
 module _ {N I A S C P X : Type 0} (parties : Parties N I A S C P X) (map_of : N → RefMap) (knows : N → Knowledge)
     (follows : FollowsMap parties.negotiation_calls.marks parties.negotiation_calls.adds map_of knows)

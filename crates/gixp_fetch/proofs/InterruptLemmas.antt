@@ -1,4 +1,4 @@
--- Whom an answer asks that is read through bands.
+-- Whether reading a response through a sideband asks the interrupt.
 use Rattle.std.proofs.Common.{◌≡◌, ◌+◌, ap, sym, subst, ◌∙◌, Bool, true, false, length, None, IfSome, refl, inl, inr, arith}
 use Rattle.std.specs.Borrow.{GName}
 use Rattle.gixp_packetline.specs.Reading.{Reading, TakesLine}
@@ -9,7 +9,7 @@ use Rattle.gixp_sidebands.specs.QuestionsAgain.{takes-all}
 use Rattle.gixp_fetch.specs.View.{AsksThrough}
 
 module _ {I : Type 0} (says : I → Bool → I → Type 0) where
-  -- nobody is asked any more
+  -- the interrupt isn't asked any more
   asked-behind : (stops : Bool) (ra rb rc : Reading) (a b : I) → Asked says stops ra rb a b → NoFewer rb rc
       → IfSome rb.to_come (TakesTexts 0 rb rc) → Asked says stops ra rc a b
   asked-behind stops ra rb rc a b g f h = record {
@@ -34,7 +34,7 @@ module _ {I : Type 0} (says : I → Bool → I → Type 0) where
       by true t f = let x = (t refl).failures in omega (arith, x)
       by false t f = let x = ap (λ (r : Reading). r.failures) (f refl) in omega (arith, x)
 
-  -- the transport and the interrupt are given back by a reader of bands that was made over them
+  -- a sideband reader returns the transport and the interrupt
   pub back_asks : {P : Type 0} (plain stops : Bool) (start end : Side) (from out new : Reading) (side_name side_asks : GName)
       (heard : Listener P I) (first : P) (old last given now : I) (name start_name end_name out_name : GName)
       → start ≡ record { place = None; name = side_name; asks = side_asks; reading = from; fault = None }

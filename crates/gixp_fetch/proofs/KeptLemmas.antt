@@ -1,4 +1,4 @@
--- What a fetch does to the store of the shallow boundary, and how often it asks the interrupt.
+-- The calls of a fetch on the store of the shallow boundary, and how often it asks the interrupt.
 use Rattle.std.proofs.Common.{◌≡◌, inl, inr, ℕ, suc, ◌+◌, Bool, true, false, not, length, map, List, [], ◌∷◌, ◌++◌, refl, sym, ap, subst, ◌∙◌, arith, Option, Some, None}
 use Rattle.std.specs.Prelude.{◌&&◌, Result, Ok, Err, IfSome}
 use Rattle.std.proofs.lemmas.List.{append_assoc, append-nil, map-append}
@@ -52,7 +52,7 @@ module _ {S : Type 0} (calls : StoreCalls S) (wishes : Wishes) (us : List Shallo
   abbrev Story : Type 0
   Story = CallsStore calls wishes us old new
 
-  -- the lock was got first, and is had at the end
+  -- the lock was taken first, and is held at the end
   where_asked : (u locked : Bool) → is_any us ≡ u → (wishes.shallow ≡ no_change → ⊥) → calls.locks old held → calls.reads held ids read
       → (had ≡ read) × (locked ≡ true) → SettlesBy calls u ids us had last → ReleasesIf calls.releases locked last new → Story
   where_asked true locked u may l r h s t = record {
@@ -80,7 +80,7 @@ module _ {S : Type 0} (calls : StoreCalls S) (wishes : Wishes) (us : List Shallo
     last = inr (inr may, subst (λ b. ReleasesIf calls.releases b last new) h.1 t);
   }
 
-  -- it wasn't, and is where the boundary changes
+  -- the lock wasn't taken first, and is held if the boundary changes
   where_unasked : (u reject locked : Bool) → is_any us ≡ u → wishes.reject ≡ reject → wishes.shallow ≡ no_change → held ≡ old
       → calls.reads held ids read → HoldsBy calls (u && true) reject read false had locked → SettlesBy calls u ids us had last
       → ReleasesIf calls.releases locked last new → Story
@@ -173,7 +173,7 @@ module _ {I : Type 0} (says : I → Bool → I → Type 0) where
       let k : suc (length xs + n) ≡ length (x ∷ xs) + n = omega arith in
       subst (λ k. SaysGoOn says k a c) k (x, s.0, goes_each xs x b c n s.1 g)
 
-  -- the questions of one answer
+  -- the questions of one response
   record Each (banded : Bool) (from new : Reading) (a b : I) : Type 0 where
     count : ℕ
     said : (c : I) (n : ℕ) → SaysGoOn says n b c → SaysGoOn says (count + n) a c

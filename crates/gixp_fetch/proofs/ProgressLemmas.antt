@@ -1,17 +1,17 @@
--- What a fetch tells its progress reporter, round by round.
+-- The progress of a fetch, round by round.
 use Rattle.std.proofs.Common.{◌≡◌, ℕ, ◌+◌, suc, Bool, List, [], ◌∷◌, ◌++◌, length, length-append, sym, ap, subst, ◌∙◌, add-one}
 use Rattle.gixp_progress.specs.Progress.{ProgressCall, ToldCalls}
 use Rattle.gixp_negotiate.specs.declared.negotiate.Round.{Round}
 use Rattle.gixp_fetch.specs.FetchProgress.{round_calls, AddsRemote, TellsRounds}
 
 module _ {P : Type 0} (told : P → ProgressCall → P → Type 0) where
-  -- a round's calls, after rounds that go by another name
+  -- the calls of a round, by an equal list of rounds
   pub named_as : (rounds same : List Round) (old new : P) → rounds ≡ same → ToldCalls told old (round_calls (length rounds + 1)) new
       → ToldCalls told old (round_calls (length same + 1)) new
   named_as rounds same old new e h = subst (λ (rs : List Round). ToldCalls told old (round_calls (length rs + 1)) new) e h
 
 module _ {P Q : Type 0} (told : P → ProgressCall → P → Type 0) (adds : P → List ℕ → List ℕ → Q → P → Type 0) where
-  -- one more was told of, and then it had its part
+  -- one more round was reported, and then got its part
   pub tells_more : (banded given : Bool) (rounds after : List Round) (round : Round) (start old named new : P) → given ≡ banded
       → after ≡ rounds ++ round ∷ [] → TellsRounds told adds banded (length rounds) start old
       → ToldCalls told old (round_calls (length rounds + 1)) named → AddsRemote told adds given named new

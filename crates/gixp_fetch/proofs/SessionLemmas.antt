@@ -38,7 +38,7 @@ use Rattle.gixp_fetch.specs.Session as session
 use Rattle.gixp_fetch.specs.Sessions.{IsAnswer, AreAnswers, GoOn, begun_by, begun_in, AreNegotiated, manner_of, Asks, Starts, TakesPack, TakesAll, RefusesPack, Unpacks, lacks_memory, lacks_lock, lacks_room, untaken, unwritten, Unlent, RoundsBreakOff, unnamed, by_caller, exhausted, at_round, behind_pack, one_more, answered_at, unanswered, told_last, BrokenOff, SessionFails, at_depth, at_wants, in_session, HoldsSession}
 use Rattle.gixp_fetch.proofs.SentLemmas.{none_written, both_written, held_written, turn_written}
 
--- ---- what a transport holds stays while a pack is read
+-- ---- reading a pack changes nothing of what the transport holds
 
 inner : held_data → held_data
 inner h = record h { names = drop 1 h.names }
@@ -88,7 +88,7 @@ module _ {C P X : Type 0} (consumes : C → Side → P → Result Bool X → C �
     undelivered_held e d store' locked' reading q (at_pack h u) = unreceived_held from e d reading q u
     undelivered_held e d store' locked' reading q (at_boundary held h r u) = received_held from d reading q r
 
--- ---- answers
+-- ---- responses
 
 pub is_answer : (found : Pieces → Found) (version : Protocol) (old new : Reading) (value : AnswerValue)
     → Answered found version old new value → IsAnswer found version old new value
@@ -249,7 +249,7 @@ module _ {N I A S C P X : Type 0} (parties : Parties N I A S C P X) where
     back = r.back;
   }
 
-  -- the consumer refused it, or what comes after it was refused
+  -- the consumer failed, or the rest after the pack did
   pub refuses_pack : (c : C) (from : Reading) (d : C) (new : Reading) (q : P) (name asks : GName) (p : P) (error : PackFailure X)
       (end : Side)
       → from.stopped ≡ None → PackFails parties.consumes c (fresh_side name asks from) p error d end q
@@ -257,7 +257,7 @@ module _ {N I A S C P X : Type 0} (parties : Parties N I A S C P X) where
   refuses_pack c from d new q name asks p (Consumer x) end s f b = (end, taken c from d name asks p (Err x) end q s f, b)
   refuses_pack c from d new q name asks p (Rest x) end s f b = (f.0, end, taken c from d name asks p (Ok true) f.0 q s f.1, f.2, b)
 
-  -- where the rounds begin
+  -- the state before the first round
   abbrev pub begin_at : World N I S C → N → ArgumentsValue → At N I
   begin_at old ready wanted = record {
     negotiate = ready;

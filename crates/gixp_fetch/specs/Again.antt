@@ -1,5 +1,5 @@
--- What requests name again where each stands alone: under version 2, and where the connection doesn't persist (gitprotocol-v2, "fetch";
--- gitprotocol-http, "Smart Service git-upload-pack").
+-- What requests repeat where each has to be complete in itself: with version 2, and over a transport that doesn't
+-- persist (gitprotocol-v2, "fetch"; gitprotocol-http, "Smart Service git-upload-pack").
 use Rattle.std.specs.Prelude.{◌≡◌, ◌⊎◌, ℕ, ⊤, Bool, true, false, List, [], ◌∷◌, ◌++◌, Option, Some, None}
 use Rattle.std.specs.List.{Contains}
 use Rattle.gixp_hash.specs.declared.object_id.ObjectId.{ObjectId}
@@ -10,7 +10,8 @@ use Rattle.gixp_negotiate.specs.Negotiate.{Window, Goes}
 use Rattle.gixp_negotiate.specs.Rounds.{commons, commons_of, kept_with, kept_ids, have_line, asks_haves}
 use Rattle.gixp_fetch.specs.FetchRounds.{At, Turn}
 
--- where ids are kept, the commits that the last answer named as common join them, and the haves of a round begin with all of these
+-- where ids are recorded, the commits that the previous response acknowledged as common are added to them, and the
+-- haves of a round begin with all of them
 pub record Renames {N : Type 0} (goes : Goes N) : Type 0 where
   pub keeps : (n : N) (s : Window) (a : ArgumentsValue) (p : Option AnswerValue) (r : Round) (d : Bool) (m : N) (t : Window)
       (b : ArgumentsValue) → goes n s a p r d m t b → t.kept ≡ kept_with s.kept (commons_of p)
@@ -18,25 +19,26 @@ pub record Renames {N : Type 0} (goes : Goes N) : Type 0 where
       (b : ArgumentsValue) → goes n s a p r d m t b
       → (haves : List ObjectId) × (b ≡ asks_haves (kept_ids t.kept ++ haves) a)
 
--- rounds begin here whose requests stand alone: nothing is kept yet, and no answer came
+-- rounds whose requests are complete in themselves begin here: no id is recorded yet, and there was no response
 pub record StandsAlone {N I : Type 0} (start : At N I) : Type 0 where
   pub kept : start.window.kept ≡ Some []
   pub first : start.previous ≡ None
   pub alone : (is_v2 start.asked.version ≡ true) ⊎ (start.reading.held.persists ≡ false)
 
--- each request has these lines, and a have for each of these commits and for each that an earlier answer named as common
+-- each request has these lines, and a have for each of these commits and for each that an earlier response
+-- acknowledged as common
 abbrev pub NamesAgain : {N I : Type 0} → List (List ℕ) → List ObjectId → List (Turn N I) → Type 0
 NamesAgain lines ids [] = ⊤
 NamesAgain lines ids (t ∷ ts) =
     (t.asked.lines ≡ lines) × ((id : ObjectId) → Contains ids id → Contains t.asked.haves (have_line id))
     × NamesAgain lines (ids ++ commons t.reply.acknowledgements) ts
 
--- what the answers of these rounds named as common
+-- the commits that the responses of these rounds acknowledged as common
 abbrev pub named_in : {N I : Type 0} → List (Turn N I) → List ObjectId
 named_in [] = []
 named_in (t ∷ ts) = commons t.reply.acknowledgements ++ named_in ts
 
--- what one more round asks for, whether its request is answered or not: these lines, and a have for each of these commits
+-- one more request, whether it gets a response or not, has these lines, and a have for each of these commits
 pub record NamesAll (lines : List (List ℕ)) (ids : List ObjectId) (asked : ArgumentsValue) : Type 0 where
   pub same : asked.lines ≡ lines
   pub haves : (id : ObjectId) → Contains ids id → Contains asked.haves (have_line id)

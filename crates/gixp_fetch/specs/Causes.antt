@@ -1,4 +1,4 @@
--- Why a fetch failed, by its error alone: which call gave it, and what that call was about (gitprotocol-pack, "Packfile Negotiation").
+-- The cause of a failed fetch, by its error alone: which call failed, and why (gitprotocol-pack, "Packfile Negotiation").
 use Rattle.std.specs.Prelude.{◌≡◌, ◌⊎◌, ⊤, ℕ, suc, Bool, true, false, not, codes, length, List, [], ◌∷◌, ◌++◌, Option, Some, IfSome, Ok, Err}
 use Rattle.gixp_packetline.specs.Lines.{refusal as ends_refused}
 use Rattle.gixp_packetline.specs.Pieces.{Refusal, Pieces}
@@ -39,53 +39,55 @@ use Rattle.gixp_fetch.specs.Sessions.{AreAnswers, TakesPack, RefusesPack}
 use Rattle.gixp_fetch.specs.Kept.{SaysGoOn}
 use Rattle.gixp_fetch.specs.Headline.{AnswerFromOutside}
 
--- lines aren't read up to a stop, for this reason: it is what ends them, or after some of them something came from outside
+-- reading lines up to a special packet failed: this error ends the lines, or is an I/O error, an interrupt or an
+-- allocation failure after some of them
 abbrev pub EndsShort : Reading → Reading → Refusal → Type 0
 EndsShort old new e = (IfSome old.to_come (λ p. (lines_ahead old p).ending ≡ ends_refused e) × (new.failures ≡ old.failures))
     ⊎ ((now : Reading) × IsOutside now new e × (now.failures ≡ old.failures)
     × IfSome old.to_come (λ p. (q : Pieces) × (now.to_come ≡ Some q) × ((lines_ahead now q).ending ≡ (lines_ahead old p).ending)))
 
--- of those that were left behind a pack
+-- the same for the lines after a pack
 pub record StopsShort (old new : Reading) (e : Refusal) : Type 0 where
   pub why : EndsShort old new e
   pub version : new.version ≡ old.version
   pub held : new.held ≡ old.held
 
 module _ {I : Type 0} (says : I → Bool → I → Type 0) where
-  -- the interrupt was asked once after each packet of bands 2 and 3 that was taken, and said each time to go on, or the last time to
-  -- stop
+  -- the interrupt was asked once after each packet of bands 2 and 3, and let reading go on each time, or stopped it the last
+  -- time
   abbrev pub AsksPackets : Bool → Reading → Reading → I → I → Type 0
   AsksPackets false old new first last = (n : ℕ) × IfSome old.to_come (TakesTexts n old new) × SaysGoOn says n first last
   AsksPackets true old new first last = (n : ℕ) × (mid : I) × IfSome old.to_come (TakesTexts (suc n) old new)
       × SaysGoOn says n first mid × says mid true last
 
-  -- a refused answer asked it so where all is banded, and else not at all; and said to stop where it is refused as interrupted, unless
-  -- that is another's doing below
+  -- reading a failed response asked the interrupt like this with `sideband-all`, and otherwise not at all; if the error is an
+  -- interrupt, it stopped reading, unless a reader below did
   abbrev pub AsksAnswer : (banded plain stops : Bool) → Reading → Reading → I → I → Type 0
   AsksAnswer false plain stops old new first last = last ≡ first
   AsksAnswer true plain stops old new first last = AsksPackets stops old new first last
       ⊎ ((plain ≡ false) × (stops ≡ true) × AsksPackets false old new first last)
 
 module _ {N I A S C P X : Type 0} (parties : Parties N I A S C P X) (call : FetchCall) (old new : World N I S C) where
-  -- whether the boundary may change
+  -- the boundary may change
   abbrev pub MayChange : Type 0
   MayChange = call.wishes.shallow ≡ no_change → ⊥
 
-  -- then its lock is got first
+  -- the lock is taken first if the boundary may change
   abbrev pub IsLockedFirst : S → Type 0
   IsLockedFirst held = ((call.wishes.shallow ≡ no_change) × (held ≡ old.store)) ⊎ (MayChange × parties.store_calls.locks old.store held)
 
-  -- and given back
+  -- the lock is released if the boundary may change
   abbrev pub IsGivenBack : S → Type 0
   IsGivenBack last = ((call.wishes.shallow ≡ no_change) × (new.store ≡ last)) ⊎ (MayChange × parties.store_calls.releases last new.store)
 
-  -- the lock was refused: where the boundary may change before all else, or else where changes came unasked, after it was read
+  -- taking the lock failed: first of all if the boundary may change, or after the boundary was read, for updates that
+  -- weren't requested
   abbrev pub LockRefused : ShallowError → Type 0
   LockRefused e = (MayChange × parties.store_calls.failures to_lock old.store e new.store)
       ⊎ ((call.wishes.shallow ≡ no_change) × (call.wishes.reject ≡ false) × (ids : List ObjectId) × (read : S)
       × parties.store_calls.reads old.store ids read × parties.store_calls.failures to_lock read e new.store)
 
-  -- the boundary couldn't be read
+  -- reading the boundary failed
   pub record BoundaryUnread (e : ShallowError) : Type 0 where
     pub held : S
     pub first : IsLockedFirst held
@@ -95,17 +97,17 @@ module _ {N I A S C P X : Type 0} (parties : Parties N I A S C P X) (call : Fetc
     pub negotiate : new.negotiate ≡ old.negotiate
     pub reading : new.reading ≡ old.reading
 
-  -- it couldn't be written, and the lock was given back
+  -- writing the boundary failed, and the lock was released
   abbrev pub BoundaryUnwritten : ShallowError → Type 0
   BoundaryUnwritten e =
       (had : S) × (last : S) × parties.store_calls.failures to_write had e last × parties.store_calls.releases last new.store
 
-  -- changes came unasked and weren't to, after the boundary was read
+  -- updates that weren't requested were rejected, after the boundary was read
   abbrev pub IsRejected : Type 0
   IsRejected = (call.wishes.shallow ≡ no_change) × (call.wishes.reject ≡ true)
       × ((ids : List ObjectId) × parties.store_calls.reads old.store ids new.store) × (new.consumer ≡ old.consumer)
 
-  -- the server lacks a feature that its answers need: the first of these
+  -- the server lacks a feature that responses need: the first of these
   pub record LacksRequired (e : answer_error) : Type 0 where
     pub raw : List Feature
     pub values : feature_values raw ≡ features call
@@ -114,7 +116,8 @@ module _ {N I A S C P X : Type 0} (parties : Parties N I A S C P X) (call : Fetc
     pub error : answer_refusal e ≡ missing_capability name
     pub rests : new ≡ old
 
-  -- the answer to the last of some requests was refused: by the grammar, for that reason, or from outside
+  -- the response to the last request failed: by the grammar, for that reason, or with an I/O error, an interrupt or
+  -- an allocation failure
   pub record AnswerRefused (e : answer_error) : Type 0 where
     pub banded : Bool
     pub bands : banded ≡ has_feature (codes "sideband-all") (features call)
@@ -131,7 +134,7 @@ module _ {N I A S C P X : Type 0} (parties : Parties N I A S C P X) (call : Fetc
     pub goes_on : parties.says before false first
     pub asks : AsksAnswer parties.says banded parties.plain (is_interruption (answer_refusal e)) sent new.reading first new.interrupt
 
-  -- a request wasn't sent, after others
+  -- a request couldn't be sent, after others
   pub record RequestRefused (e : client_error) : Type 0 where
     pub before : Reading
     pub requests : List (List ℕ)
@@ -141,7 +144,7 @@ module _ {N I A S C P X : Type 0} (parties : Parties N I A S C P X) (call : Fetc
     pub refused : SendsRound before new.reading asked done (Err e)
     pub asks : (first : I) × parties.says first false new.interrupt
 
-  -- the rounds were this many, and the caller stopped them, or the last was done without a pack
+  -- after so many rounds the caller stopped, or the last was done without a pack
   pub record NoPackAfter (n : ℕ) : Type 0 where
     pub banded : Bool
     pub turns : List (Turn N I)
@@ -151,7 +154,7 @@ module _ {N I A S C P X : Type 0} (parties : Parties N I A S C P X) (call : Fetc
     pub why : ((before : I) × parties.says before true new.interrupt) ⊎ ((first : List (Turn N I)) × (last : Turn N I)
         × (turns ≡ first ++ last ∷ []) × (last.done ≡ true) × (last.reply.pack ≡ false))
 
-  -- one of the calls of the negotiation was refused
+  -- a call of the negotiation failed
   abbrev pub NegotiationRefused : negotiate_error A → Type 0
   NegotiationRefused e = parties.negotiation_calls.marking_fails old.negotiate e new.negotiate
       ⊎ ((known : List Bool) × (marked : N) × (given : ArgumentsValue) × (asked : ArgumentsValue)
@@ -162,7 +165,7 @@ module _ {N I A S C P X : Type 0} (parties : Parties N I A S C P X) (call : Fetc
       × ((requests : List (List ℕ)) × WroteRequests old.reading new.reading requests)
       × ((before : I) × parties.says before false new.interrupt))
 
-  -- or there was no pack
+  -- there was no pack, or a call of the negotiation failed
   abbrev pub NegotiationCause : negotiate_error A → Type 0
   NegotiationCause (NegotiationFailed n) = NoPackAfter n
   NegotiationCause e = (e ≡ negotiate_memory → ⊥) × NegotiationRefused e
@@ -178,7 +181,7 @@ module _ {N I A S C P X : Type 0} (parties : Parties N I A S C P X) (call : Fetc
     pub store : (new.store ≡ old.store) ⊎ ((ids : List ObjectId) × (held : S) × (read : S) × IsLockedFirst held
         × parties.store_calls.reads held ids read × IsGivenBack read)
 
-  -- the consumer took the pack to its end, and what it left ends otherwise than at a stop
+  -- the consumer asked to read the pack to its end, and the rest doesn't end in a flush packet
   pub record RestRefused (e : read_error) (progress : P) : Type 0 where
     pub from : Reading
     pub left : Side
@@ -187,7 +190,7 @@ module _ {N I A S C P X : Type 0} (parties : Parties N I A S C P X) (call : Fetc
     pub short : StopsShort (side_reading left) (side_reading end) (refusal_of e)
     pub back : GivesBack end new.reading
 
-  -- by the error: an allocation failure may come anywhere, and is told as nothing else
+  -- the cause of each error; an allocation failure may happen anywhere, and is always reported as one
   abbrev pub IsCause : P → Error A X → Type 0
   IsCause progress (FetchResponse e) = (e ≡ answer_memory → ⊥) × (LacksRequired e ⊎ AnswerRefused e)
   IsCause progress (Negotiate e) = NegotiationCause e

@@ -1,25 +1,25 @@
--- What a fetch tells its progress reporter, one call after another: of each round, and of the pack.
+-- The calls of a progress reporter during a fetch, in order: for each round, and for the pack.
 use Rattle.std.specs.Prelude.{◌≡◌, ⊤, ℕ, zero, suc, Bool, true, false, not, List, [], ◌∷◌, ◌++◌, length, codes, Option, Some, None, Result, Ok, Err}
 use Rattle.std.specs.Fmt.{decimal}
 use Rattle.gixp_progress.specs.Progress.{ProgressCall, step, set_name, ToldCalls}
 use Rattle.gixp_sidebands.specs.Bands.{Side}
 use Rattle.gixp_fetch.specs.declared.options.Outcome.{Outcome}
 
--- before the round of this number, which counts from 1
+-- the calls before the round with this number, counted from 1
 abbrev pub round_calls : ℕ → List ProgressCall
 round_calls k = step ∷ set_name (codes "negotiate (round " ++ decimal k ++ codes ")") ∷ []
 
--- before the pack
+-- the calls before the pack
 abbrev pub pack_calls : List ProgressCall
 pack_calls = step ∷ set_name (codes "receiving pack") ∷ []
 
 module _ {P Q : Type 0} (told : P → ProgressCall → P → Type 0) (adds : P → List ℕ → List ℕ → Q → P → Type 0) where
-  -- a part was added for the server's texts, where it was to be
+  -- a part for the server's messages is added, if there is to be one
   abbrev pub AddsRemote : Bool → P → P → Type 0
   AddsRemote false old new = new ≡ old
   AddsRemote true old new = (part : Q) × adds old (codes "remote") (codes "FERP") part new
 
-  -- one round: its calls, and then its part where all is banded
+  -- one round: its calls, then with `sideband-all` its part
   abbrev pub TellsRound : Bool → ℕ → P → P → Type 0
   TellsRound banded k old new = (named : P) × ToldCalls told old (round_calls k) named × AddsRemote banded named new
 
@@ -29,7 +29,8 @@ module _ {P Q : Type 0} (told : P → ProgressCall → P → Type 0) (adds : P �
   TellsRounds banded (suc k) old new = (met : P) × TellsRounds banded k old met × TellsRound banded (suc k) met new
 
   module _ {C X : Type 0} (consumes : C → Side → P → Result Bool X → C → Side → P → Type 0) (c : C) where
-    -- a part was added for the texts beside the pack, where one was to be, and the consumer was lent what came of that, and took the pack
+    -- a part for the messages of the pack was added, if there was to be one, and the consumer got the progress and
+    -- took the pack
     pub record LendsProgress (needed : Bool) (old : P) (d : C) (new : P) : Type 0 where
       pub lent : P
       pub added : AddsRemote needed old lent
@@ -38,8 +39,8 @@ module _ {P Q : Type 0} (told : P → ProgressCall → P → Type 0) (adds : P �
       pub end : Side
       pub took : consumes c start lent (Ok finished) d end new
 
-    -- a fetch that came to a pack told of each of its rounds, then of the pack, and then the consumer had it; and one without anything
-    -- to ask for told nothing
+    -- a fetch with a pack reported each round, then the pack, and then the consumer had the progress; a fetch with
+    -- nothing to do reported nothing
     abbrev pub TellsFetch : {E : Type 0} → Bool → P → Result (Option Outcome) E → C → P → Type 0
     TellsFetch banded old (Ok (Some outcome)) d new =
         (met : P) × (named : P) × TellsRounds banded (length outcome.negotiate.rounds.items) old met × ToldCalls told met pack_calls named

@@ -1,4 +1,4 @@
--- A whole fetch, by its result (gitprotocol-capabilities; gitprotocol-pack, "Packfile Negotiation"; gitprotocol-v2, "fetch").
+-- The whole fetch, by its result (gitprotocol-capabilities; gitprotocol-pack, "Packfile Negotiation"; gitprotocol-v2, "fetch").
 use Rattle.std.specs.Prelude.{◌≡◌, ◌⊎◌, Bool, true, false, List, Option, Result, Ok, Err}
 use Rattle.gixp_packetline.specs.declared.protocol.Protocol.{Protocol}
 use Rattle.gixp_packetline.specs.Reading.{Reading}
@@ -16,8 +16,8 @@ use Rattle.gixp_fetch.specs.FetchShallow.{ShallowValue, is_change}
 use Rattle.gixp_fetch.specs.Prepare.{features_of, Prepared, PrepareFails, LocksFirst, ReleasesIf, LockFails}
 use Rattle.gixp_fetch.specs.Fetch.{Wishes, World, Parties, SessionEnds}
 
--- what a fetch is handed in: what the client asks for by default, what the server said first, the client's name, what it says of itself
--- beside, which tags are to come, and what is asked for
+-- the input of a fetch: the table of the client, the version and the capabilities of the server, the agent and further features
+-- of the client, the tags, and the shallow options
 pub record FetchCall : Type 0 where
   pub table : TableValue
   pub version : Protocol
@@ -27,7 +27,7 @@ pub record FetchCall : Type 0 where
   pub tags : Tags
   pub wishes : Wishes
 
--- what these hand in
+-- the input by these parts
 abbrev pub call_of : TableValue → Handshake → FeatureValue → List FeatureValue → Tags → ShallowValue → Bool → FetchCall
 call_of table handshake agent more tags shallow reject = record {
   table = table;
@@ -39,7 +39,7 @@ call_of table handshake agent more tags shallow reject = record {
   wishes = record { shallow = shallow; told = update_items handshake.v1_shallow_updates; reject = reject };
 }
 
--- what a fetch changes, before and after which no lock is had
+-- the state that a fetch changes, while no lock is held
 abbrev pub unlocked_world : {N I S C : Type 0} → N → Reading → I → S → C → World N I S C
 unlocked_world n r i s c = record {
   negotiate = n;
@@ -50,18 +50,19 @@ unlocked_world n r i s c = record {
   consumer = c;
 }
 
--- an outcome says that objects were asked for, and ends in an answer with a pack
+-- an outcome has a decision to negotiate, and a response with a pack
 pub record IsNegotiated (outcome : Outcome) : Type 0 where
   pub known : List Bool
   pub action : action_value outcome.negotiate.action ≡ negotiate known
   pub pack : outcome.last_response.pack ≡ true
 
--- the features of its requests
+-- the features of the requests
 abbrev pub features : FetchCall → List FeatureValue
 features call = features_of call.table call.version call.capabilities call.agent call.more
 
 module _ {N I A S C P X : Type 0} (parties : Parties N I A S C P X) (call : FetchCall) (old : World N I S C) where
-  -- the first arguments are there, the lock is got where the boundary may change, the rest is met, and a lock that is had is released
+  -- the first arguments are made, the lock is taken if the boundary may change, the rest is done, and a lock that is held is
+  -- released
   pub record CarriesOut (result : Result (Option Outcome) (Error A X)) (new : World N I S C) (progress : P) : Type 0 where
     pub asked : ArgumentsValue
     pub banded : Bool
@@ -74,14 +75,14 @@ module _ {N I A S C P X : Type 0} (parties : Parties N I A S C P X) (call : Fetc
     pub releases : ReleasesIf parties.store_calls.releases last.locked last.store new.store
     pub stands : new ≡ record last { store = new.store; locked = false }
 
-  -- the first arguments or the lock were refused, and nothing else changed
+  -- the first arguments or the lock failed, and nothing else changed
   pub data StartFails (e : Error A X) (new : World N I S C) : Type 0 where
     unprepared : PrepareFails call.table call.version (features call) call.tags e → new ≡ old → StartFails e new
     unlocked : (asked : ArgumentsValue) (banded : Bool) → Prepared call.table call.version (features call) call.tags asked banded
         → is_change call.wishes.shallow ≡ true → LockFails parties.store_calls.failures old.store e new.store
         → new ≡ record old { store = new.store } → StartFails e new
 
-  -- by its result, before and after which no lock is had
+  -- the fetch, by its result; no lock is held before and after it
   abbrev pub Fetches : Result (Option Outcome) (Error A X) → World N I S C → P → Type 0
   Fetches (Ok o) new progress = CarriesOut (Ok o) new progress
   Fetches (Err e) new progress = StartFails e new ⊎ CarriesOut (Err e) new progress

@@ -1,5 +1,5 @@
--- A client's whole run over one transport, and what is true of it: frames, capabilities, refs, answers and refusals, requests, the
--- pack, the bound on requests, and ref maps of filtered refs.
+-- The whole run of a client over one transport, and what holds for it: packet lines, capabilities, refs, responses and errors,
+-- requests, the pack, the bound on requests, and ref maps of filtered refs.
 use Rattle.std.proofs.Common.{inl, inr}
 use Rattle.std.specs.declared.alloc.Global.{Global}
 use Rattle.std.specs.declared.io.ErrorKind.{ErrorKind}
@@ -79,9 +79,10 @@ use Rattle.gixp_fetch.specs.Fetched.{FetchCall, call_of, Fetches}
 use Rattle.gixp_fetch.specs.Mapped.{Knowledge, decided, lines_of}
 use Rattle.gixp_fetch.specs.Sessions.{Starts, SessionFails, at_depth, at_wants, in_session, HoldsSession}
 
--- ---- frames
+-- ---- packet lines
 
--- these answers are those bodies' pieces, one for one: of a body's bytes those of the frames that the grammar has of them, or none comes
+-- these responses are the pieces of these bodies, one for one: the packet lines that the grammar finds in the bytes
+-- of a body, or an I/O error
 abbrev pub AnswerBodies : List Body → List Answer → Type 0
 AnswerBodies [] [] = ⊤
 AnswerBodies [] (a ∷ rest) = ⊥
@@ -90,8 +91,9 @@ AnswerBodies (Bytes bytes ∷ bs) (a ∷ rest) =
     ((frames : List Frame) (end : End) → AreFrames bytes.items frames end → a ≡ body (pieces_from frames end)) × AnswerBodies bs rest
 AnswerBodies (Fail kind ∷ bs) (a ∷ rest) = (a ≡ fails kind) × AnswerBodies bs rest
 
--- what a connection that has read nothing has to come are the pieces of the frames that the grammar has of its bytes, whichever way
--- these are found, and where each request has its own answer those of each body's; each text has such frames, and no others
+-- the unread input of a new connection is the pieces of the packet lines that the grammar finds in its bytes, however it
+-- finds them. Where each request has its own response, the same holds for each body. Each text has such packet lines, and
+-- only these
 pub record FramesAreGrammar : Type 0 where
   pub connections : (bytes : List ℕ) (frames : List Frame) (end : End) → AreFrames bytes frames end → (holds : Option (List ℕ))
       (at : List ℕ) (asked : Protocol) (versions : List Protocol) (opening : Option Opening) (r : Reading)
@@ -104,10 +106,10 @@ pub record FramesAreGrammar : Type 0 where
   pub no_others : (bytes : List ℕ) (frames : List Frame) (end : End) → AreFrames bytes frames end
       → frames_of bytes ≡ record { list = frames; end = end }
 
--- ---- refusals
+-- ---- errors
 
--- after the pieces or lines that were taken a read failed, an interrupt came, or an allocation failed, of which a plain reader has
--- less: nothing that the stream says
+-- after the pieces or lines that were read, a read failed, an interrupt happened, or an allocation failed; a plain
+-- reader has fewer of these errors
 abbrev pub OutsideOf : Bool → Reading → Reading → Refusal → Type 0
 OutsideOf plain now new refusal = IsOutside now new refusal × (plain ≡ true → IsPlain new refusal)
 
@@ -123,17 +125,17 @@ RefsFromOutside plain old new e =
     × (parse_refusal e ≡ refusal_from refusal))
     ⊎ (SoFar old new taken × (new.stopped ≡ None) × (e ≡ refs_memory)))
 
--- the refs of an advertisement may also lack memory after the stop
+-- for the refs of an advertisement an allocation may also fail after the flush packet
 abbrev pub AdvertisementFromOutside : Bool → Reading → Reading → refs_error → Type 0
 AdvertisementFromOutside plain old new e = RefsFromOutside plain old new e
     ⊎ ((taken : List (List ℕ)) × (now : Reading) × SoFar old now taken × AtStop now new × (e ≡ refs_memory))
 
--- a refused answer is refused by the grammar, for that reason, or from outside
+-- the error of a response is an error by the grammar, for that reason; or an I/O error, an interrupt or an allocation failure
 abbrev pub AnswersAreRefused : Type 0
 AnswersAreRefused = (found : Pieces → Found) (plain : Bool) (old new : Reading) (e : answer_error) → AnswerFails found plain old new e
     → ((r : AnswerRefusal) × IfSome old.to_come (λ p. found p ≡ refused r) × IsAnswerRefusal e r) ⊎ AnswerFromOutside plain old new e
 
--- so are refused refs, of either kind
+-- the same for the error of listed refs, and of advertised refs
 abbrev pub RefsAreRefused : Type 0
 RefsAreRefused = (plain : Bool) (old new : Reading) (e : refs_error) → RefsFail plain old new e
     → ((r : RefsRefusal) × IfSome old.to_come (λ p. v2_refs (lines_ahead old p) ≡ Err r) × IsParseRefusal e r)
@@ -144,21 +146,21 @@ AdvertisementsAreRefused = (t : List Symref) (plain : Bool) (old new : Reading) 
     → ((r : RefsRefusal) × IfSome old.to_come (λ p. v1_refs t (lines_ahead old p) ≡ Err r) × IsParseRefusal e r)
     ⊎ AdvertisementFromOutside plain old new e
 
--- ---- what a server says first
+-- ---- the server's first message
 
--- its first words were asked for: over a connection by a greeting, and else they are the next answer
+-- the first message is requested: over a connection by a greeting, otherwise as the next response
 abbrev pub AsksWords : Bool → Service → List Parameter → Reading → Reading → Type 0
 AsksWords true service parameters old new = Greets service parameters old new (Ok tt)
 AsksWords false service parameters old new = TakesAnswer old new × ByAnswer old new None
 
--- the greeting wasn't written, or the call that takes the answer failed
+-- writing the greeting failed, or taking the response did
 abbrev pub UnaskedWords : Bool → Service → List Parameter → Reading → Reading → client_error → Type 0
 UnaskedWords true service parameters old new e = Greets service parameters old new (Err e)
 UnaskedWords false service parameters old new e = (kind : ErrorKind) × (e ≡ client_io kind) × TakesAnswer old new
     × ByAnswer old new (Some kind)
 
--- its version and its capabilities are those of the definition, or its refusal is, unless a read, a write or an allocation failed,
--- which is told apart whether the bytes are known or not
+-- version and capabilities are the definition's, or the error is, unless a read, a write or an allocation failed; the
+-- error shows which, whether the bytes are known or not
 abbrev pub SaysBy : Bool → Service → List Parameter → Reading → Reading → Result SetServiceResponse client_error → Type 0
 SaysBy persists service parameters old new (Ok found) =
     (mid : Reading) × AsksWords persists service parameters old mid
@@ -172,9 +174,9 @@ abbrev pub WordsAreSaid : Type 0
 WordsAreSaid = (service : Service) (parameters : List Parameter) (old new : Reading) (r : Result SetServiceResponse client_error)
     → Handshakes service parameters old new r → SaysBy old.held.persists service parameters old new r
 
--- ---- handshakes and their refusals
+-- ---- handshakes and their errors
 
--- a handshake has the version and the capabilities of the server's first words, and its version is one of those that are accepted
+-- a handshake has the version and the capabilities of the server's first message, and the version is accepted
 pub record Greeted (service : Service) (parameters : List Parameter) (credentials : List CredentialCall) (start shaken : Reading)
     (handshake : Handshake) : Type 0 where
   pub found : SetServiceResponse
@@ -185,7 +187,7 @@ pub record Greeted (service : Service) (parameters : List Parameter) (credential
   pub capabilities : handshake.capabilities ≡ found.capabilities
   pub held : shaken.held ≡ from.held
 
--- these refs came with the handshake, and are those of its lines, after which nothing more was read
+-- these refs were advertised: they are in the lines after the capabilities, and nothing more was read
 pub record ShownByHandshake (found : SetServiceResponse) (from shaken reached : Reading) (handshake : Handshake)
     (given : List Ref) : Type 0 where
   pub follow : found.has_refs ≡ true
@@ -200,7 +202,7 @@ pub record ShownByHandshake (found : SetServiceResponse) (from shaken reached : 
   pub values : IfSome from.to_come (λ p. v1_refs table (lines_ahead from p) ≡ Ok (map ref_value given))
   pub stays : reached ≡ shaken
 
--- or none came, and they are those of the lines that answer the command, which asks for the prefixes of the refspecs
+-- no refs were advertised, and these are the refs in the response to the command, which has the prefixes of the refspecs
 pub record ListedByCommand (table : TableValue) (agent : FeatureValue) (context : Context) (handshake : Handshake)
     (shaken reached : Reading) (given : List Ref) : Type 0 where
   pub none : handshake.refs ≡ None
@@ -212,7 +214,8 @@ pub record ListedByCommand (table : TableValue) (agent : FeatureValue) (context 
   pub read : ReadsRefs from reached given
   pub held : reached.held ≡ from.held
 
--- the refs of an advertisement are refused: by its symrefs before the first line, by the first refusal of the lines, or from outside
+-- the error of advertised refs: by the symrefs before the first line, by the first wrong line, or an I/O error, an
+-- interrupt or an allocation failure
 abbrev pub RefsRefused : List CapabilityValue → Bool → Reading → Reading → refs_error → Type 0
 RefsRefused capabilities plain old new e =
     ((new ≡ old) × (((r : RefsRefusal) × (symref_table capabilities ≡ Err r) × IsParseRefusal e r) ⊎ (e ≡ refs_memory)))
@@ -220,24 +223,24 @@ RefsRefused capabilities plain old new e =
     × (((r : RefsRefusal) × IfSome old.to_come (λ p. v1_refs t (lines_ahead old p) ≡ Err r) × IsParseRefusal e r)
     ⊎ AdvertisementFromOutside plain old new e))
 
--- an account for the server's URL was asked for first
+-- credentials for the server's URL were requested first
 pub record AsksAccount (old : Reading) (credentials : List CredentialCall) (turn : CredentialCall)
     (later : List CredentialCall) : Type 0 where
   pub all : credentials ≡ turn ∷ later
   pub asked : action_value turn.action ≡ get old.held.url
 
--- one was got, and the transport has it
+-- the helper had credentials, and the transport has them
 pub record HasAccount (old now : Reading) (turn : CredentialCall) (account : Account) : Type 0 where
   pub got : turn.answer ≡ Ok (Some account)
   pub taken : Identifies old now account.identity (Ok tt)
 
--- a bad account was told to be so, or wasn't
+-- wrong credentials were erased, or erasing them failed
 abbrev pub IsErased : CredentialAnswer → List ℕ → shake_error → Type 0
 IsErased (Ok x) url e = (u : BString) × (bstring_bytes u ≡ url) × (e ≡ InvalidCredentials u)
 IsErased (Err x) url e = e ≡ Credentials x
 
--- the table of accounts: who has them refused or has none for the server; the transport takes none; the server's first words weren't
--- had again, for another reason; they weren't for want of a good account, which is then told; or that it is good wasn't told
+-- the credential errors. The helper failed or has no credentials for the server; the transport takes none; the second handshake
+-- failed for another reason; it failed since the credentials are wrong, and they were erased; or storing them failed
 pub data NoAccount (service : Service) (parameters : List Parameter) (old new : Reading) (credentials : List CredentialCall)
     (e : shake_error) : Type 0 where
   unanswered : (turn : CredentialCall) → AsksAccount old credentials turn [] → (x : credentials_error) → turn.answer ≡ Err x → new ≡ old
@@ -259,8 +262,8 @@ pub data NoAccount (service : Service) (parameters : List Parameter) (old new : 
       → action_value told.action ≡ store (next_value account.next) → (x : credentials_error) → told.answer ≡ Err x → e ≡ Credentials x
       → NoAccount service parameters old new credentials e
 
--- a handshake is refused, for this reason: no memory; the server's first words weren't had, and not for want of an account; they
--- weren't had without an account, and the table of accounts has the refusal; the version isn't accepted; or the refs are refused
+-- the error of a handshake: an allocation failed; the first message failed, and not for missing credentials; the server
+-- requires credentials, and there was a credential error; the version isn't accepted; or the refs can't be read
 pub data HandshakeFails (service : Service) (parameters : List Parameter) (plain : Bool) (start reached : Reading)
     (credentials : List CredentialCall) (e : shake_error) : Type 0 where
   unbegun : StopsForMemory start reached credentials (Err e) → HandshakeFails service parameters plain start reached credentials e
@@ -283,18 +286,18 @@ HandshakesAreRefused = (service : Service) (parameters : List Parameter) (plain 
     → CompletesHandshake service parameters plain start reached credentials (Err e)
     → HandshakeFails service parameters plain start reached credentials e
 
--- ---- ref maps and their refusals
+-- ---- ref maps and their errors
 
--- the answer for these refs: the mappings and fixes, or the refusal; and it is that for all refs from which a server that was asked for
--- the prefixes of the refspecs may have left some out
+-- the result for these refs is their mappings and fixes, or the error; and it is the result for each list of refs from which a
+-- server that got the prefixes of the refspecs may have left out some
 abbrev pub IsOfAll : Context → List CapabilityValue → List Ref → Result RefMap map_error → Type 0
 IsOfAll context capabilities given r =
     AnswersMap capabilities context.fetch_refspecs.items context.extra_refspecs.items (map ref_value given) r
     × HoldsOfAll (joined_specs context.fetch_refspecs.items context.extra_refspecs.items) (map ref_value given)
     (λ all. AnswersMap capabilities context.fetch_refspecs.items context.extra_refspecs.items all r)
 
--- a ref map, or why there is none: it is that of the refs that came with the handshake, or of those that the server lists, or these
--- weren't listed; or an allocation failed before
+-- a ref map or its error. It is made of the advertised refs, or of those that the server lists; or listing failed, or an
+-- allocation before it
 pub data FindsRefMap (table : TableValue) (agent : FeatureValue) (context : Context) (handshake : Handshake) (plain : Bool)
     (shaken reached : Reading) (r : Result RefMap map_error) : Type 0 where
   of_shown : (refs : Vec Ref Global) → handshake.refs ≡ Some refs → reached ≡ shaken
@@ -313,10 +316,10 @@ MapsAreOfAll = (table : TableValue) (agent : FeatureValue) (context : Context) (
     (shaken reached : Reading) (r : Result RefMap map_error)
     → Obtains table agent context handshake plain shaken reached r → FindsRefMap table agent context handshake plain shaken reached r
 
--- ---- what is asked for of a map
+-- ---- the wants of a map
 
 module _ {N I A S C P X : Type 0} (parties : Parties N I A S C P X) (k : Knowledge) (made : RefMap) where
-  -- the rounds begin: the decision is what the mappings of this map call for, and their lines are asked for
+  -- the rounds begin: the decision follows from the mappings of this map, and their lines were added
   pub record WantsOfMap {call : FetchCall} {old : World N I S C} {banded : Bool} {ids : List
       ObjectId} {action : ActionValue} {locked : Bool} {read : S} {start : At N I}
       (starts : Starts parties call old banded ids action locked read start) : Type 0 where
@@ -324,18 +327,18 @@ module _ {N I A S C P X : Type 0} (parties : Parties N I A S C P X) (k : Knowled
     pub wants : AddsWants (lines_of k made starts.asked starts.known) true starts.asked start.asked
 
   module _ {last marked : N} {asked : ArgumentsValue} {action : ActionValue} where
-    -- no line of theirs is a want
+    -- none of their lines is a want
     abbrev pub NoWants : (((action ≡ no_change) ⊎ (action ≡ skip)) × (last ≡ marked)) ⊎ ((known : List Bool) × (wanted : ArgumentsValue)
         × (action ≡ negotiate known) × parties.negotiation_calls.adds marked known asked false wanted last) → Type 0
     NoWants (inl x) = ⊤
     NoWants (inr x) = AddsWants (lines_of k made asked x.0) false asked x.1
 
-  -- there was nothing to ask for: they call for no objects, or no line of theirs is a want
+  -- there was nothing to fetch: the mappings need no objects, or none of their lines is a want
   pub record NoneOfMap {first last : N} {asked : ArgumentsValue} (idle : Idle parties.negotiation_calls first asked last) : Type 0 where
     pub decides : idle.action ≡ decided k made
     pub wants : NoWants idle.idle
 
-  -- where the second step was refused the first decided what they call for
+  -- if the second step failed, the first decided by the mappings
   abbrev pub DecidesOfMap : {first last : N} {asked : ArgumentsValue} {e : Error A X}
       → ReadyFails parties.negotiation_calls first asked e last → Type 0
   DecidesOfMap (inl u) = ⊤
@@ -347,7 +350,7 @@ module _ {N I A S C P X : Type 0} (parties : Parties N I A S C P X) (k : Knowled
   RefusalOfMap (at_wants banded ids asked a u t) = DecidesOfMap u
   RefusalOfMap (in_session b) = WantsOfMap b.starts
 
-  -- as far as a fetch came, what it asked for is what the mappings of this map call for
+  -- as far as a fetch went, its arguments follow from the mappings of this map
   abbrev pub AsksOfMap : (call : FetchCall) (old : World N I S C) (result : Result (Option Outcome) (Error A X)) (new : World N I S C)
       (progress : P) → HoldsSession parties call old result new progress → Type 0
   AsksOfMap call old (Ok (Some outcome)) new progress h = WantsOfMap h.1.starts
@@ -357,13 +360,13 @@ module _ {N I A S C P X : Type 0} (parties : Parties N I A S C P X) (k : Knowled
 
 -- ---- a run
 
--- what a fetch is handed in of this handshake
+-- the input of a fetch after this handshake
 abbrev pub said_call : FetchCall → Handshake → FetchCall
 said_call call handshake = call_of call.table handshake call.agent call.more call.tags call.wishes.shallow call.wishes.reject
 
 module _ {N I A S C P X : Type 0} (parties : Parties N I A S C P X) (map_of : N → RefMap) (knows : N → Knowledge) where
-  -- a handshake, the ref map that stands on it, and a fetch whose negotiation is over this map, each where the one before left the
-  -- transport
+  -- a handshake, the ref map that follows it, and a fetch whose negotiation is over this map; each begins where the one before
+  -- left the transport
   pub record Run (call : FetchCall) (context : Context) (start : Reading) (made : RefMap) (old : World N I S C)
       (result : Result (Option Outcome) (Error A X)) (new : World N I S C) (progress : P) : Type 0 where
     pub service : Service
@@ -379,7 +382,7 @@ module _ {N I A S C P X : Type 0} (parties : Parties N I A S C P X) (map_of : N 
     pub negotiates : map_of old.negotiate ≡ made
     pub fetches : Fetches parties call old result new progress
 
-  -- what is true of a run
+  -- what holds for a run
   pub record Promise (call : FetchCall) (context : Context) (start : Reading) (made : RefMap) (old : World N I S C)
       (result : Result (Option Outcome) (Error A X)) (new : World N I S C) (progress : P)
       (run : Run call context start made old result new progress) : Type 0 where
@@ -392,6 +395,6 @@ module _ {N I A S C P X : Type 0} (parties : Parties N I A S C P X) (map_of : N 
         (spec_at m.spec_index made.refspecs.items made.extra_refspecs.items)) made.mappings.items
     pub explicit : made.refspecs ≡ context.fetch_refspecs
     pub extra : made.extra_refspecs ≡ context.extra_refspecs
-    -- of the version, the capabilities and the changes of the boundary that the server said first
+    -- with the version, the capabilities and the shallow updates of the server's first message
     pub conversation : HoldsSession parties (said_call call run.handshake) old result new progress
     pub asks : AsksOfMap parties (knows old.negotiate) made (said_call call run.handshake) old result new progress conversation

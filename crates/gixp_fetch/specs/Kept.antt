@@ -1,4 +1,4 @@
--- What a fetch does to the store of the shallow boundary, call by call, and how often it asks the interrupt.
+-- The calls of a fetch on the store of the shallow boundary, in order, and how often it asks the interrupt.
 use Rattle.std.specs.Prelude.{◌≡◌, ◌⊎◌, ⊤, ℕ, zero, suc, ◌+◌, Bool, true, false, List, [], ◌∷◌, ◌++◌, Option, Some, None, IfSome, Result, Ok, Err}
 use Rattle.gixp_hash.specs.declared.object_id.ObjectId.{ObjectId}
 use Rattle.gixp_sidebands.specs.Questions.{TakesTexts}
@@ -13,14 +13,15 @@ use Rattle.gixp_fetch.specs.Fetch.{Parties, Wishes}
 use Rattle.gixp_fetch.specs.Fetched.{FetchCall}
 use Rattle.gixp_fetch.specs.Sessions.{AreAnswers, rounds_of}
 
--- what these answers told of the boundary, one after another
+-- the shallow updates of these responses, in order
 abbrev pub told_in : {N I : Type 0} → List (Turn N I) → List ShallowUpdate
 told_in [] = []
 told_in (t ∷ ts) = t.reply.shallow_updates ++ told_in ts
 
 module _ {S : Type 0} (calls : StoreCalls S) (wishes : Wishes) (updates : List ShallowUpdate) where
-  -- the calls, one after another: the lock is got where the boundary may change; the boundary is read; the lock is got where it
-  -- changes and isn't had, which isn't to be refused; the new one is written where it changes; and a lock that is had is released
+  -- the calls, in order: the lock is taken if the boundary may change; the boundary is read; the lock is taken if the boundary
+  -- changes and it isn't held, unless that is rejected; the new boundary is written if it changes; a lock that is
+  -- held is released
   pub record CallsStore (old new : S) : Type 0 where
     pub held : S
     pub first : ((wishes.shallow ≡ no_change) × (held ≡ old)) ⊎ ((wishes.shallow ≡ no_change → ⊥) × calls.locks old held)
@@ -37,7 +38,7 @@ module _ {S : Type 0} (calls : StoreCalls S) (wishes : Wishes) (updates : List S
         ⊎ (((updates ≡ [] → ⊥) ⊎ (wishes.shallow ≡ no_change → ⊥)) × calls.releases wrote new)
 
 module _ {N I S A C P X : Type 0} (parties : Parties N I A S C P X) (call : FetchCall) where
-  -- of a fetch that isn't refused: changes are those of all answers, and then those of the handshake
+  -- the calls of a fetch that doesn't fail; the updates are of all responses, then of the handshake
   abbrev pub KeepsStore : S → Result (Option Outcome) (Error A X) → S → Type 0
   KeepsStore old (Ok (Some outcome)) new = (banded : Bool) × (turns : List (Turn N I))
       × (outcome.negotiate.rounds.items ≡ rounds_of turns) × AreAnswers call.version banded turns
@@ -48,12 +49,12 @@ module _ {N I S A C P X : Type 0} (parties : Parties N I A S C P X) (call : Fetc
 -- ---- the interrupt
 
 module _ {I : Type 0} (says : I → Bool → I → Type 0) where
-  -- it was asked so often, and said each time to go on
+  -- the interrupt was asked so often, and let the fetch go on each time
   abbrev pub SaysGoOn : ℕ → I → I → Type 0
   SaysGoOn zero a b = b ≡ a
   SaysGoOn (suc n) a b = (mid : I) × says a false mid × SaysGoOn n mid b
 
--- as many packets of bands 2 and 3 were taken for each of these answers; and none count where not all is banded
+-- for each of these responses so many packets of bands 2 and 3 were read; none count without `sideband-all`
 abbrev pub HaveTexts : {N I : Type 0} → Bool → List (Turn N I) → List ℕ → Type 0
 HaveTexts banded [] [] = ⊤
 HaveTexts banded [] (n ∷ ns) = ⊥
@@ -61,11 +62,11 @@ HaveTexts banded (t ∷ ts) [] = ⊥
 HaveTexts false (t ∷ ts) (n ∷ ns) = (n ≡ 0) × HaveTexts false ts ns
 HaveTexts true (t ∷ ts) (n ∷ ns) = IfSome t.sent.to_come (TakesTexts n t.sent t.after.reading) × HaveTexts true ts ns
 
--- so many questions: one before each round, and one after each of these packets
+-- the number of questions: one before each round, and one after each of these packets
 abbrev pub questions : List ℕ → ℕ
 questions [] = 0
 questions (n ∷ ns) = suc (n + questions ns)
 
--- these rounds asked it so often
+-- these rounds asked the interrupt so often
 abbrev pub AsksRounds : {N I : Type 0} → (I → Bool → I → Type 0) → Bool → List (Turn N I) → I → I → Type 0
 AsksRounds says banded turns first last = (counts : List ℕ) × HaveTexts banded turns counts × SaysGoOn says (questions counts) first last

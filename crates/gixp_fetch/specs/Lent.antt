@@ -1,4 +1,4 @@
--- What a fetch lends to its steps, as plain data.
+-- The values that a fetch lends to its steps, as plain data.
 use Rattle.std.specs.Prelude.{◌≡◌, Bool, false, [], ◌∷◌, ◌++◌, Option, None}
 use Rattle.gixp_packetline.specs.Reading.{Reading}
 use Rattle.gixp_response.specs.Answer.{AnswerValue}
@@ -12,7 +12,7 @@ use Rattle.gixp_fetch.specs.FetchRounds.{At, Manner, manner_of, Turns}
 use Rattle.gixp_fetch.specs.Fetch.{World}
 
 module _ {T P I : Type 0} where
-  -- the same transport, progress and interrupt are lent, and the same is spoken
+  -- a step gets the same transport, progress and interrupt, with the same version
   pub record IsSameSession (old new : FetchSession T P I) : Type 0 where
     pub transport : new.transport.ghost_name ≡ old.transport.ghost_name
     pub progress : new.progress.ghost_name ≡ old.progress.ghost_name
@@ -20,12 +20,12 @@ module _ {T P I : Type 0} where
     pub version : new.version ≡ old.version
     pub sideband_all : new.sideband_all ≡ old.sideband_all
 
-  -- how its rounds are carried on
+  -- the relations of its rounds
   abbrev pub manner_in : {N A : Type 0} → NegotiationCalls N A → (I → Bool → I → Type 0) → Bool → FetchSession T P I → Manner N I A
   manner_in calls says plain session = manner_of calls says session.version session.sideband_all plain
 
   module _ {N : Type 0} (reading : T → Reading) where
-    -- where it stands between two rounds
+    -- its state between two rounds
     abbrev pub stands : {Q : Type 0} → N → FetchSession T P I → RoundsSoFar Q → Option AnswerValue → At N I
     stands negotiate session so_far previous = record {
       negotiate = negotiate;
@@ -36,7 +36,7 @@ module _ {T P I : Type 0} where
       interrupt = session.interrupt.now;
     }
 
-    -- and before the first
+    -- its state before the first round
     abbrev pub begins : N → FetchSession T P I → Bool → ArgumentsValue → At N I
     begins negotiate session stateless asked = record {
       negotiate = negotiate;
@@ -47,7 +47,7 @@ module _ {T P I : Type 0} where
       interrupt = session.interrupt.now;
     }
 
-    -- what a fetch changes
+    -- the state that it changes
     abbrev pub world_of : {S C : Type 0} → N → FetchSession T P I → StoreLock S → C → World N I S C
     world_of negotiate session lock consumer = record {
       negotiate = negotiate;
@@ -59,13 +59,13 @@ module _ {T P I : Type 0} where
     }
 
 module _ {S : Type 0} where
-  -- the same store is lent, and the same is refused
+  -- a step gets the same store, with the same option to reject
   pub record IsSameLock (old new : StoreLock S) : Type 0 where
     pub store : new.store.ghost_name ≡ old.store.ghost_name
     pub reject : new.reject ≡ old.reject
 
 module _ {N I A Q : Type 0} (m : Manner N I A) where
-  -- a round was met after the interrupt said to go on, and what it told stands after what was told before
+  -- a round was done after the interrupt let it begin, and its report is appended to the earlier ones
   pub record TurnEnds (old : At N I) (before : RoundsSoFar Q) (done : Bool) (reply : AnswerValue) (new : At N I)
       (after : RoundsSoFar Q) : Type 0 where
     pub round : Round

@@ -1,4 +1,4 @@
--- A fetch seen from outside: what it asked for, its rounds with their requests and answers, the pack, and why it was refused
+-- A fetch seen from outside: its arguments, its rounds with their requests and responses, the pack, and its error
 -- (gitprotocol-pack, "Packfile Negotiation"; gitprotocol-v2, "fetch").
 use Rattle.std.proofs.Common.{inl, inr}
 use Rattle.std.specs.Borrow.{GName}
@@ -39,10 +39,10 @@ use Rattle.gixp_fetch.specs.Session.{OpenFails, Idle, ReadyFails, Holds, HoldFai
 use Rattle.gixp_fetch.specs.Fetch.{World, Parties}
 use Rattle.gixp_fetch.specs.Fetched.{FetchCall, features, StartFails}
 
--- ---- what a round asks for, and its answer
+-- ---- the arguments of a round, and its response
 
--- an answer is that of the grammar in what was to come; or a read failed as at the stream's end, and it is that of the grammar in the
--- pieces before
+-- a response is the one that the grammar finds in the unread input; or a read failed like at the end of the stream,
+-- and it is the one that the grammar finds in the pieces before
 abbrev pub IsAnswer : (Pieces → Found) → Protocol → Reading → Reading → AnswerValue → Type 0
 IsAnswer found version old new value = IfSome old.to_come (λ p. (q : Pieces) × (new.to_come ≡ Some q) × (found p ≡ whole value q))
     ⊎ AnswerBrokeOff found version old new value
@@ -57,13 +57,13 @@ abbrev pub GoOn : {N I : Type 0} → List (Turn N I) → Type 0
 GoOn [] = ⊤
 GoOn (t ∷ ts) = (t.done ≡ false) × (t.reply.pack ≡ false) × GoOn ts
 
--- what these rounds told
+-- the reports of these rounds
 abbrev pub rounds_of : {N I : Type 0} → List (Turn N I) → List Round
 rounds_of ts = map (λ t. t.round) ts
 
 module _ {N I A : Type 0} (m : Manner N I A) where
-  -- what each round asks for is what the negotiation makes of what was asked for before, of its window and of the last answer; after
-  -- its request no have is left, and the lines are where each request says them again
+  -- the arguments of each round are made by the negotiation from the arguments before, its window and the previous
+  -- response; after its request no have is left, and the lines are kept if each request has to repeat them
   abbrev pub AreNegotiated : At N I → List (Turn N I) → Type 0
   AreNegotiated old [] = ⊤
   AreNegotiated old (t ∷ ts) =
@@ -72,7 +72,7 @@ module _ {N I A : Type 0} (m : Manner N I A) where
       × AreNegotiated t.after ts
 
   module _ {E : Type 0} where
-    -- the request of a round that came to no answer, where it was begun
+    -- the request of a round without a response, if sending it was begun
     abbrev pub begun_by : {old : At N I} {asked : ArgumentsValue} {done : Bool} {e : Error A E} {reading : Reading}
         → Breaks m old asked done e reading → List (List ℕ)
     begun_by (before_request w r) = []
@@ -87,7 +87,7 @@ module _ {N I A : Type 0} (m : Manner N I A) where
     begun_in (inr b) = begun_by b.breaks
 
 module _ {N I A S C P X : Type 0} (parties : Parties N I A S C P X) where
-  -- how the rounds of a call go
+  -- the relations of the rounds of a call
   abbrev pub manner_of : FetchCall → Bool → Manner N I A
   manner_of call banded = record {
     goes = parties.negotiation_calls.goes;
@@ -98,10 +98,10 @@ module _ {N I A S C P X : Type 0} (parties : Parties N I A S C P X) where
     plain = parties.plain;
   }
 
-  -- ---- what is asked for
+  -- ---- the first arguments
 
-  -- before any object: the features, the tags, the boundary and the depth, of what the client and the server can do and of the boundary
-  -- that the store has, whose lock is had where it may change
+  -- before any want: the features, the tags, the boundary and the depth, by the table, the capabilities and the boundary of the
+  -- store, whose lock is held if the boundary may change
   pub record Asks (call : FetchCall) (store : S) (banded : Bool) (ids : List ObjectId) (asked : ArgumentsValue) (locked : Bool)
       (read : S) : Type 0 where
     pub raw : List Feature
@@ -115,8 +115,8 @@ module _ {N I A S C P X : Type 0} (parties : Parties N I A S C P X) where
     pub reads : parties.store_calls.reads held ids read
     pub depth : shallow_asks call.wishes.shallow ids given ≡ Ok asked
 
-  -- the rounds begin: the wants of the negotiation are asked for next, the window is the first, no answer came, and nothing was written
-  -- or read
+  -- the rounds begin: the wants of the negotiation were added, the window is the first, there was no response, and nothing was
+  -- written or read
   pub record Starts (call : FetchCall) (old : World N I S C) (banded : Bool) (ids : List ObjectId) (action : ActionValue)
       (locked : Bool) (read : S) (start : At N I) : Type 0 where
     pub asked : ArgumentsValue
@@ -131,13 +131,13 @@ module _ {N I A S C P X : Type 0} (parties : Parties N I A S C P X) where
     pub reading : start.reading ≡ old.reading
     pub interrupt : start.interrupt ≡ old.interrupt
 
-  -- nothing was written or read, the interrupt wasn't asked, and no pack was lent
+  -- nothing was written or read, the interrupt wasn't asked, and the consumer got no pack
   pub record Untouched (old last : World N I S C) : Type 0 where
     pub reading : last.reading ≡ old.reading
     pub interrupt : last.interrupt ≡ old.interrupt
     pub consumer : last.consumer ≡ old.consumer
 
-  -- there was nothing to ask for: the refs call for no objects, or no want was among what the negotiation added
+  -- there was nothing to fetch: the decision needs no objects, or the negotiation added no want
   pub record AsksNothing (call : FetchCall) (old last : World N I S C) : Type 0 where
     pub banded : Bool
     pub ids : List ObjectId
@@ -148,9 +148,9 @@ module _ {N I A S C P X : Type 0} (parties : Parties N I A S C P X) where
 
   -- ---- the pack
 
-  -- the consumer was lent a reader of the bands that stands here. What it read begins the joined payloads of band 1, and the rest of
-  -- these is what its reader has left: where that is nothing it read all of them. What ends them is what it was, unless a failure was
-  -- counted
+  -- the consumer got a sideband reader over this transport. The bytes that it read begin the joined payloads of band
+  -- 1, and the rest of these payloads is unread: if nothing is, it read all of them. They end as before, unless a
+  -- failure was counted
   pub record TakesPack (c : C) (from : Reading) (returned : Result Bool X) (d : C) (left : Side) (progress : P) : Type 0 where
     pub name : GName
     pub asks : GName
@@ -161,14 +161,14 @@ module _ {N I A S C P X : Type 0} (parties : Parties N I A S C P X) where
     pub all : IfSome from.to_come (λ p. IfSome left.reading.to_come (λ q. side_content left q ≡ [] → content_of p ≡ read))
     pub ending : KeepsEndUncounted from left.reading
 
-  -- all lines up to a stop were read, and the stop, and no read failed
+  -- all lines up to a special packet were read, and that packet, and no read failed
   pub record ReadsToStop (old new : Reading) : Type 0 where
     pub kind : MessageKind
     pub stopped : new.stopped ≡ Some kind
     pub failures : new.failures ≡ old.failures
     pub rest : IfSome old.to_come (λ p. (q : Pieces) × (new.to_come ≡ Some q) × ((lines_ahead old p).ending ≡ stop kind q))
 
-  -- where the consumer answered true what it left was read up to the stop, and else nothing more
+  -- if the consumer returned true, the rest up to the special packet was read, else nothing more
   pub record TakesAll (c : C) (from : Reading) (d : C) (new : Reading) (progress : P) : Type 0 where
     pub finished : Bool
     pub left : Side
@@ -178,16 +178,16 @@ module _ {N I A S C P X : Type 0} (parties : Parties N I A S C P X) where
     pub stays : finished ≡ false → end ≡ left
     pub back : GivesBack end new
 
-  -- the consumer refused the pack, or what it left was refused before a stop
+  -- the consumer failed, or the rest failed before a special packet
   abbrev pub RefusesPack : C → Reading → PackFailure X → C → Reading → P → Type 0
   RefusesPack c from (Consumer x) d new progress = (left : Side) × TakesPack c from (Err x) d left progress × GivesBack left new
   RefusesPack c from (Rest x) d new progress = (left end : Side) × TakesPack c from (Ok true) d left progress
       × DrainFails (side_reading left) (side_reading end) x × GivesBack end new
 
-  -- ---- a session that came to a pack
+  -- ---- a session with a pack
 
-  -- its rounds one after another, each with its request, which is the stated function of what was asked for, and its answer; and then
-  -- the lock, the pack and the boundary
+  -- its rounds, each with its request, which is the stated function of its arguments, and its response; then the
+  -- lock, the pack and the boundary
   pub record Conversation (call : FetchCall) (old : World N I S C) (action : ActionValue) (rounds : List Round) (answer : AnswerValue)
       (last : World N I S C) (progress : P) : Type 0 where
     pub banded : Bool
@@ -216,19 +216,19 @@ module _ {N I A S C P X : Type 0} (parties : Parties N I A S C P X) where
 
   -- ---- a session that broke off
 
-  -- the boundary and its lock are what they were before the rounds, and no pack was lent
+  -- the boundary and its lock are the same as before the rounds, and the consumer got no pack
   pub record Unlent (c : C) (read : S) (had : Bool) (last : World N I S C) : Type 0 where
     pub consumer : last.consumer ≡ c
     pub store : last.store ≡ read
     pub lock : last.locked ≡ had
 
-  -- the negotiation and the transport are where they were between two rounds
+  -- the negotiation and the transport are in a state between two rounds
   pub record StandsAt (at : At N I) (last : World N I S C) : Type 0 where
     pub negotiate : last.negotiate ≡ at.negotiate
     pub reading : last.reading ≡ at.reading
 
-  -- a pack came, and the rest was refused for this reason: an allocation failed, the lock wasn't had, the pack or what comes after it
-  -- was refused, or the boundary wasn't written
+  -- a pack was received, and the rest failed for this reason: an allocation, the lock, the consumer or the rest after the
+  -- pack, or writing the boundary
   pub data Unpacks (ids : List ObjectId) (updates : List ShallowUpdate) (reject : Bool) (c : C) (read : S) (locked : Bool)
       (from : Reading) (e : Error A X) (last : World N I S C) (progress : P) : Type 0 where
     lacks_memory : e ≡ Memory → last.reading ≡ from → Unlent c read locked last
@@ -244,9 +244,9 @@ module _ {N I A S C P X : Type 0} (parties : Parties N I A S C P X) where
         → TakesAll c from last.consumer last.reading progress → SettleFails parties.store_calls updates held e last.store
         → Unpacks ids updates reject c read locked from e last progress
 
-  -- after rounds that were neither the last nor had a pack, with this refusal: the name of one more wasn't allocated; the caller
-  -- stopped it; one more round was the last and had no pack; one more was refused, by the negotiation, in its request or in its answer;
-  -- or one more had a pack, and the rest was refused
+  -- after rounds that weren't the last and had no pack, with this error: the name of one more couldn't be allocated;
+  -- the caller stopped; one more round was the last and had no pack; one more failed in the negotiation, its request
+  -- or its response; or one more had a pack, and the rest failed
   pub data RoundsBreakOff (call : FetchCall) (banded : Bool) (ids : List ObjectId) (c : C) (read : S) (locked : Bool)
       (turns : List (Turn N I)) (before : At N I) (e : Error A X) (last : World N I S C) (progress : P) : Type 0 where
     unnamed : e ≡ Memory → StandsAt before last → last.interrupt ≡ before.interrupt → Unlent c read locked last
@@ -269,7 +269,7 @@ module _ {N I A S C P X : Type 0} (parties : Parties N I A S C P X) where
 
   module _ {call : FetchCall} {banded : Bool} {ids : List ObjectId} {c : C} {read : S} {locked : Bool} {turns : List
       (Turn N I)} {before : At N I} {e : Error A X} {last : World N I S C} {progress : P} where
-    -- the one round more that was answered, if there is one
+    -- the one more round with a response, if there is one
     abbrev pub one_more : RoundsBreakOff call banded ids c read locked turns before e last progress → List (Turn N I)
     one_more (unnamed g at i u) = []
     one_more (by_caller s g at u) = []
@@ -277,7 +277,7 @@ module _ {N I A S C P X : Type 0} (parties : Parties N I A S C P X) where
     one_more (at_round i s f u) = []
     one_more (behind_pack t r p n h u) = t ∷ []
 
-    -- where the transport stood after the last answer
+    -- the transport after the last response
     abbrev pub answered_at : RoundsBreakOff call banded ids c read locked turns before e last progress → Reading
     answered_at (unnamed g at i u) = before.reading
     answered_at (by_caller s g at u) = before.reading
@@ -285,7 +285,7 @@ module _ {N I A S C P X : Type 0} (parties : Parties N I A S C P X) where
     answered_at (at_round i s f u) = before.reading
     answered_at (behind_pack t r p n h u) = t.after.reading
 
-    -- the one request more that was begun and not answered, if there is one
+    -- the one more request that was begun and got no response, if there is one
     abbrev pub unanswered : RoundsBreakOff call banded ids c read locked turns before e last progress → List (List ℕ)
     unanswered (unnamed g at i u) = []
     unanswered (by_caller s g at u) = []
@@ -293,7 +293,7 @@ module _ {N I A S C P X : Type 0} (parties : Parties N I A S C P X) where
     unanswered (at_round i s f u) = begun_in (manner_of call banded) f
     unanswered (behind_pack t r p n h u) = []
 
-    -- what the last round told, if it told anything
+    -- the report of the last round, if it has one
     abbrev pub told_last : RoundsBreakOff call banded ids c read locked turns before e last progress → List Round
     told_last (unnamed g at i u) = []
     told_last (by_caller s g at u) = []
@@ -301,7 +301,7 @@ module _ {N I A S C P X : Type 0} (parties : Parties N I A S C P X) where
     told_last (at_round i s f u) = told_of (manner_of call banded) f
     told_last (behind_pack t r p n h u) = t.round ∷ []
 
-  -- its rounds one after another, each with its request and its answer, and why there is no pack or the rest was refused
+  -- its rounds, each with its request and its response, and why there is no pack or the rest failed
   pub record BrokenOff (call : FetchCall) (old : World N I S C) (e : Error A X) (last : World N I S C) (progress : P) : Type 0 where
     pub banded : Bool
     pub ids : List ObjectId
@@ -324,8 +324,8 @@ module _ {N I A S C P X : Type 0} (parties : Parties N I A S C P X) where
 
   -- ---- by the result
 
-  -- refused after its first arguments and its lock, for this reason: the boundary wasn't read, or it and the depth not asked for; the
-  -- negotiation refused one of its first two steps; or the session broke off
+  -- a fetch that failed after its first arguments and its lock, for this reason: reading the boundary failed, or
+  -- adding its lines or the depth's; the negotiation failed in one of its first two steps; or the session broke off
   pub data SessionFails (call : FetchCall) (old : World N I S C) (e : Error A X) (last : World N I S C) (progress : P) : Type 0 where
     at_depth : (given : ArgumentsValue) (banded : Bool) (held : S) → Prepared call.table call.version (features call) call.tags given banded
         → LocksFirst parties.store_calls.locks (is_change call.wishes.shallow) old.store held last.locked
@@ -337,13 +337,13 @@ module _ {N I A S C P X : Type 0} (parties : Parties N I A S C P X) where
         → Untouched old last → SessionFails call old e last progress
     in_session : BrokenOff call old e last progress → SessionFails call old e last progress
 
-  -- a lock that is had is released, and nothing else changes
+  -- a lock that is held is released, and nothing else changes
   pub record Releases (last new : World N I S C) : Type 0 where
     pub releases : ReleasesIf parties.store_calls.releases last.locked last.store new.store
     pub stands : new ≡ record last { store = new.store; locked = false }
 
-  -- a fetch by its result: an outcome is that of a session that came to a pack; without one there was nothing to ask for; and a refusal
-  -- is that of the first part that is refused
+  -- a fetch by its result: an outcome is the one of a session with a pack; without an outcome there was nothing to
+  -- fetch; an error is the one of the first part that failed
   abbrev pub HoldsSession : FetchCall → World N I S C → Result (Option Outcome) (Error A X) → World N I S C → P → Type 0
   HoldsSession call old (Ok (Some outcome)) new progress =
       (last : World N I S C) × Conversation call old

@@ -1,14 +1,14 @@
-//! What requests name again.
+//! Negotiations whose requests repeat the common commits.
 ghost use Rattle.gixp_fetch.specs.Again.{Renames};
 
 use gixp_graph::{Negotiator, Objects, RefStore};
 use gixp_negotiate::negotiate::Negotiate;
 use gixp_negotiate::negotiate::negotiation::Negotiation;
 
-/// A negotiation whose requests name all common commits again, where each stands alone.
+/// A negotiation whose requests repeat all common commits, where each request has to be complete in itself.
 pub trait NamesCommons: Negotiate {
-    /// Where ids are kept, the commits that the last answer named as common join them, and the haves of
-    /// a round begin with all of these.
+    /// Where ids are recorded, the commits that the previous response acknowledged as common are added to them, and the
+    /// haves of a round begin with all of them.
     ghost renames: { Renames Self.calls.goes };
 }
 

@@ -18,17 +18,17 @@ fn is_none(updates: &[ShallowUpdate]) -> bool
     }
 }
 
-/// The store of the boundary, and whether its lock is had.
+/// The store of the boundary, and whether its lock is held.
 #[derive(Drop)]
 pub(crate) struct StoreLock<'s, S> {
     pub(crate) store: &'s mut S,
     pub(crate) locked: bool,
-    /// Whether the lock is refused to changes that come unasked.
+    /// Whether updates that weren't requested are an error.
     pub(crate) reject: bool,
 }
 
 impl<S: ShallowStore> StoreLock<'_, S> {
-    /// Gets the lock where there are changes and it isn't had.
+    /// Gets the lock if there are updates and it isn't held.
     pub(crate) fn hold<A, E>(&mut self, updates: &[ShallowUpdate]) -> Result<(), Error<A, E>>
         ensures same { IsSameLock self.old self.new }
         ensures held { MatchResult result
@@ -53,7 +53,7 @@ impl<S: ShallowStore> StoreLock<'_, S> {
         }
     }
 
-    /// Writes the new boundary where there are changes.
+    /// Writes the new boundary if there are updates.
     pub(crate) fn settle<A, E>(
         &mut self,
         alloc: Global,
@@ -76,7 +76,7 @@ impl<S: ShallowStore> StoreLock<'_, S> {
         }
     }
 
-    /// Releases the lock where it is had.
+    /// Releases the lock if it is held.
     pub(crate) fn release(&mut self)
         ensures same { IsSameLock self.old self.new }
         ensures released { ReleasesIf S.calls.releases self.old.locked self.old.store.now self.new.store.now }

@@ -1,4 +1,4 @@
-//! What is asked for of a ref map.
+//! Negotiations over a ref map.
 ghost use Rattle.gixp_refmap.specs.declared.refmap.map.RefMap.{RefMap};
 ghost use Rattle.gixp_fetch.specs.Mapped.{Knowledge, FollowsMap};
 
@@ -6,15 +6,15 @@ use gixp_graph::{Negotiator, Objects, RefStore};
 use gixp_negotiate::negotiate::Negotiate;
 use gixp_negotiate::negotiate::negotiation::Negotiation;
 
-/// A negotiation over a ref map, whose decision and whose wants follow from the map's mappings.
+/// A negotiation over a ref map: its decision and its wants follow from the map's mappings.
 pub trait NegotiatesMap: Negotiate {
-    /// The map.
+    /// The ref map.
     ghost map_of: { Self → RefMap };
 
-    /// What it knows beside the map.
+    /// What the negotiation knows in addition to the map.
     ghost knows: { Self → Knowledge };
 
-    /// The first step decides what the mappings call for, and the second asks for their lines.
+    /// The first step decides what the mappings need, and the second adds their lines.
     ghost follows: { FollowsMap Self.calls.marks Self.calls.adds map_of knows };
 }
 

@@ -1,4 +1,4 @@
-//! What a fetch tells of its own progress.
+//! Reports the progress of a fetch.
 ghost use Rattle.std.specs.Prelude.{◌≡◌, ◌+◌, ◌∷◌, [], OnOk, OnErr, length};
 ghost use Rattle.std.specs.String.{string_bytes};
 ghost use Rattle.gixp_progress.specs.Progress.{ToldCalls, step, set_name};
@@ -8,7 +8,7 @@ use gixp_negotiate::negotiate::Round;
 use gixp_progress::Progress;
 use std::alloc::{AllocError, Global};
 
-// One more step was made, and this is done now.
+// Reports one more step, with this name.
 fn tell_step<P: Progress>(progress: &mut P, name: String)
     ensures { ToldCalls P.told progress.old (step ∷ set_name (string_bytes name) ∷ []) progress.new }
 {
@@ -16,7 +16,7 @@ fn tell_step<P: Progress>(progress: &mut P, name: String)
     progress.set_name(name);
 }
 
-/// One more round begins after these. Where the name can't be allocated, nothing is reported.
+/// Reports a new round after these. If the name can't be allocated, nothing is reported.
 pub(crate) fn tell_round<P: Progress>(
     alloc: Global,
     progress: &mut P,
@@ -31,7 +31,7 @@ pub(crate) fn tell_round<P: Progress>(
     Ok(())
 }
 
-/// A pack comes. Where the name can't be allocated, nothing is reported.
+/// Reports that a pack is received. If the name can't be allocated, nothing is reported.
 pub(crate) fn tell_pack<P: Progress>(alloc: Global, progress: &mut P) -> Result<(), AllocError>
     ensures ok { OnOk result (ToldCalls P.told progress.old pack_calls progress.new) }
     ensures err { OnErr result (progress.new ≡ progress.old) }

@@ -2,7 +2,7 @@
 //! `git upload-pack`, and `gixp_fetch_pack --list [OPTION..] FROM TO` lists its refs. `--help` lists the options.
 #![tactic(auto)]
 
-use gixp_fetch_session::run;
+use gixp_fetch_cli::run;
 use std::process::ExitCode;
 
 fn main(rt: HostRuntime) -> ExitCode {

@@ -1,4 +1,4 @@
--- Many visits.
+-- Several visits.
 use Rattle.std.proofs.Common.{◌≡◌, ℕ, ◌<◌, ◌⊎◌, inl, inr, true, List, [], ◌∷◌, ◌++◌, length, get_or, arith}
 use Rattle.std.proofs.lemmas.List.Elements.{All-nil, All-push, All-head, All-weaker}
 use Rattle.gixp_hash.specs.declared.object_id.ObjectId.{ObjectId}
@@ -10,7 +10,6 @@ use Rattle.gixp_graph.proofs.StepLemmas.{marking_step, due_complete, visits_besi
 use Rattle.gixp_graph.proofs.LeftLemmas.{visit_left}
 use Rattle.gixp_graph.proofs.WalkLemmas.{all_left, all_right}
 
--- none
 pub each_none : (objects : Objects) (old : Walk) → VisitsEach objects [] old old
 each_none objects old = record {
   walk = λ g ids cutoff others same due w. w;
@@ -19,7 +18,7 @@ each_none objects old = record {
   less = λ g same only. (only, omega arith);
 }
 
--- one visit more
+-- one more visit
 pub each_more : (objects : Objects) (wanted : List ObjectId) (old mid new : Walk) (id : ObjectId) → VisitsEach objects wanted old mid
     → Visits objects id mid new → VisitsEach objects (wanted ++ id ∷ []) old new
 each_more objects wanted old mid new id e v = record {
@@ -38,7 +37,7 @@ each_more objects wanted old mid new id e v = record {
       );
 }
 
--- some of these ids were visited, also where the last visit was refused
+-- some of these ids were visited, also where the last visit failed
 pub some_more : (objects : Objects) (wanted : List ObjectId) (old held held' : Commits) → VisitsSome objects wanted old held
     → (i : ℕ) (d : ObjectId) → i < length wanted
     → (held' ≡ held) ⊎ (held' ≡ marked_found (graph_of objects held) (get_or wanted i d)) → VisitsSome objects wanted old held'

@@ -1,4 +1,4 @@
--- What was marked, by what the objects have.
+-- Which commits are marked and held, by the objects.
 use Rattle.std.proofs.Common.{◌≡◌, ◌⊎◌, ◌∙◌, ⊎_elim, inl, inr, Option, Some, None, List, ℤ, refl, sym, ap, true, false}
 use Rattle.std.specs.Prelude.{◌↔◌, IsTrue, IsSome, is_some}
 use Rattle.std.specs.Option.{option_map_or}
@@ -13,13 +13,13 @@ use Rattle.gixp_graph.proofs.FaithfulLemmas.{complete_same}
 
 module _ (g : GraphData) (new : Commits) (ids : List ObjectId) (cutoff : Option ℤ) (sound : (id : ObjectId) → is_marked new id ≡ true
     → (is_marked g.held id ≡ true) ⊎ IsComplete (commit_in g) ids cutoff id) (faithful : IsFaithful g) where
-  -- what was marked is complete by the objects
+  -- each newly marked commit is complete by the objects
   pub sound_exact : (id : ObjectId) → is_marked new id ≡ true → (is_marked g.held id ≡ true)
       ⊎ IsComplete (commit_at g.objects) ids cutoff id
   sound_exact id m = ⊎_elim (λ a. inl a) (λ a.
       inr (complete_same (commit_in g) (commit_at g.objects) (faithful_reads g faithful) ids cutoff id a)) (sound id m)
 
-  -- and with what was marked before, just that
+  -- the marked commits are the complete ones and those that were marked before
   pub complete_exact : OnlyMarks g new → ((id : ObjectId) → IsComplete (commit_in g) ids cutoff id → is_marked new id ≡ true)
       → (id : ObjectId) → IsTrue (is_marked new id) ↔ (IsTrue (is_marked g.held id) ⊎ IsComplete (commit_at g.objects) ids cutoff id)
   complete_exact only all id = (
@@ -34,7 +34,7 @@ marked_held : (o : Option HeldCommit) → option_map_or is_complete o false ≡ 
 marked_held None e = cc
 marked_held (Some h) e = refl
 
--- a commit that is held was held before, or is complete
+-- a held commit was held before, or is complete
 pub held_exact : (g : GraphData) (new : Commits) (ids : List ObjectId) (cutoff : Option ℤ) → OnlyMarks g new
     → ((id : ObjectId) → is_marked new id ≡ true → (is_marked g.held id ≡ true) ⊎ IsComplete (commit_in g) ids cutoff id) → IsFaithful g
     → (id : ObjectId) → IsSome (finite.get new id) → IsSome (finite.get g.held id) ⊎ IsComplete (commit_at g.objects) ids cutoff id
@@ -44,7 +44,7 @@ held_exact g new ids cutoff only sound faithful id s = ⊎_elim
     (sound_exact g new ids cutoff sound faithful id (marked_by g new only id n.0 n.2)))
     (only id)
 
--- and each that is complete is
+-- each complete commit is held
 pub reads_exact : (g : GraphData) (new : Commits) (ids : List ObjectId) (cutoff : Option ℤ) → IsFaithful g
     → ((id : ObjectId) → IsComplete (commit_in g) ids cutoff id → is_marked new id ≡ true) → (id : ObjectId)
     → IsComplete (commit_at g.objects) ids cutoff id → IsSome (finite.get new id)

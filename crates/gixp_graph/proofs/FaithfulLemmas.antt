@@ -1,4 +1,4 @@
--- Graphs that hold nothing but what their objects have.
+-- Graphs whose held commits are equal to the commits of their objects.
 use Rattle.std.proofs.Common.{◌≡◌, ◌∙◌, Option, Some, None, List, ℤ, sym, ap, subst, refl, false, true, cond}
 use Rattle.std.specs.Prelude.{option_map, is_some, Bool}
 use Rattle.std.proofs.Common.{Result, Ok, Err}
@@ -15,7 +15,7 @@ use Rattle.gixp_graph.specs.GraphLaws.{faithful_reads, same_from}
 use Rattle.gixp_graph.proofs.MarkLemmas.{get_insert_same, get_insert_other}
 use Rattle.gixp_graph.specs.Complete.{IsComplete}
 
--- an empty graph holds nothing else
+-- an empty graph is one
 pub faithful_empty : (objects : FinMap id_cmp Object) → IsFaithful (graph_of objects finite.empty)
 faithful_empty objects id h e =
     absurd (let n : ◌≡◌ {A = Option HeldCommit} (finite.get (finite.empty {R = id_cmp}) id) None = get-empty id_cmp id in cc)
@@ -27,7 +27,7 @@ complete_same r s e ids cutoff id (IsComplete.tip i f) = IsComplete.tip i (ap is
 complete_same r s e ids cutoff p (IsComplete.parent {id = id} k d l t i f) =
     IsComplete.parent (complete_same r s e ids cutoff id k) (sym (e id) ∙ d) l t i (ap is_some (sym (e p)) ∙ f)
 
--- a commit that is new is found
+-- a new commit is found
 found_at : (o : Option HeldCommit) (k : HeldCommit) → if_unmarked o ≡ Some k → o ≡ Some k
 found_at None k e = cc
 found_at (Some h) k e = at (is_complete h) e
@@ -36,7 +36,7 @@ found_at (Some h) k e = at (is_complete h) e
     at true e = cc
     at false e = e
 
--- to hold what the objects have keeps it so
+-- a graph stays one after a commit of its objects is inserted
 faithful_insert : (g : GraphData) → IsFaithful g → (id : ObjectId) (h : HeldCommit) → commit_at g.objects id ≡ Some (as_read h)
     → IsFaithful (graph_of g.objects (finite.insert g.held id h))
 faithful_insert g f id h at q k e = here (eq_by_cmp id_cmp q id) refl
@@ -49,7 +49,7 @@ faithful_insert g f id h at q k e = here (eq_by_cmp id_cmp q id) refl
         ap (commit_at g.objects) one ∙ at ∙ ap (λ (x : HeldCommit). Some (as_read x)) (let t : h ≡ k = cc in t)
     here false apart = f q k (sym (get_insert_other g.held id h q apart) ∙ e)
 
--- to look up keeps it so
+-- a graph stays one after a look-up
 pub faithful_looked_up : (g : GraphData) → IsFaithful g → (id : ObjectId) → IsFaithful (graph_of g.objects (looked_up g id))
 faithful_looked_up g f id = at (found_in g id) (sym (faithful_reads g f id))
   where
@@ -57,7 +57,7 @@ faithful_looked_up g f id = at (found_in g id) (sym (faithful_reads g f id))
     at None e = f
     at (Some h) e = faithful_insert g f id h e
 
--- to add marks keeps it so
+-- a graph stays one after marks are added
 pub faithful_flagged : (g : GraphData) → IsFaithful g → (id : ObjectId) (flags : Flags)
     → IsFaithful (graph_of g.objects (flagged g.held id flags))
 faithful_flagged g f id flags = at (finite.get g.held id) refl
@@ -67,7 +67,7 @@ faithful_flagged g f id flags = at (finite.get g.held id) refl
     at None e = f
     at (Some h) e = faithful_insert g f id (with_flags flags h) (f id h e)
 
--- whether the look-up succeeded or not
+-- a graph stays one whether a look-up succeeds or fails
 pub faithful_lookup : {T E : Type 0} (r : Result T E) (g : GraphData) → IsFaithful g → (id : ObjectId) (objects : FinMap id_cmp Object)
     (new : Commits) → objects ≡ g.objects → OnOk r (new ≡ looked_up g id) → OnErr r (new ≡ g.held) → IsFaithful (graph_of objects new)
 faithful_lookup (Ok x) g f id objects new o a b = subst (λ m. IsFaithful (graph_of m new)) (sym o)

@@ -19,19 +19,19 @@ use Rattle.gixp_graph.proofs.VisitedLemmas.{none_visited}
 use Rattle.gixp_graph.proofs.WalkLemmas.{stands, marking_start, walk_start, walk_permuted, walk_seen, due_parents, expanded_parents}
 use Rattle.gixp_graph.proofs.WaitingLemmas.{waiting_taken}
 
--- the tips are looked for
+-- the tips may be read
 pub tips_due : (g : GraphData) (ids : List ObjectId) (cutoff : Option ℤ) → AreDue g ids cutoff ids
 tips_due g ids cutoff k d l = IsDue.tip (Contains-get_or ids k d l)
 
 -- the tips are visited first
 module _ (g : GraphData) (ids : List ObjectId) (cutoff : Option ℤ) (objects : Objects) (same : objects ≡ g.objects)
     (wanted : List ObjectId) (are : wanted ≡ ids) where
-  -- also where that was refused, only what is complete is marked
+  -- also after an error only complete commits are marked
   pub tips_marking : (held held' : Commits) → held ≡ g.held → VisitsSome objects wanted held held' → IsMarking g ids cutoff held'
   tips_marking held held' first s = s g ids cutoff same (subst (AreDue g ids cutoff) (sym are) (tips_due g ids cutoff))
       (subst (IsMarking g ids cutoff) (sym first) (marking_start g ids cutoff))
 
-  -- then the walk stands
+  -- once the tips were visited, the invariant holds
   pub tips_walk : (commits : Table) (bits : List Bool) (queue : List Entry) (new : Walk) → commits.held ≡ g.held → bits ≡ []
       → queue ≡ [] → VisitsEach objects wanted (walk_of commits bits queue) new → IsWalk g ids cutoff new
   tips_walk commits bits queue new first none empty e =
@@ -41,13 +41,13 @@ module _ (g : GraphData) (ids : List ObjectId) (cutoff : Option ℤ) (objects : 
       (subst (λ m. IsWalk g ids cutoff (stands m (is_visited commits.ids []) [])) (sym first)
       (walk_start g ids cutoff (is_visited commits.ids []) (none_visited commits.ids)))))
 
-  -- and what was asked for is due
+  -- each id that was read is due
   pub tips_asked : (commits : Table) (bits : List Bool) (new : Walk) → commits.held ≡ g.held → (before after : List ObjectId)
       → AsksAll objects wanted (walk_of commits bits []) new before after → HasAsked g ids cutoff before new.visited after
   tips_asked commits bits new first before after a = a g ids cutoff before same (subst (AreDue g ids cutoff) (sym are)
       (tips_due g ids cutoff)) (subst (OnlyMarks g) (sym first) (marking_start g ids cutoff).only_marks) (asks_none _ before)
 
-  -- also where that was refused
+  -- each id that was read is due, also after an error
   pub tips_asked_some : (commits : Table) (bits : List Bool) → commits.held ≡ g.held → (before after : List ObjectId)
       → AsksSome objects wanted (walk_of commits bits []) before after → AsksDue g ids cutoff before after
   tips_asked_some commits bits first before after a = a g ids cutoff before same (subst (AreDue g ids cutoff) (sym are)
@@ -56,16 +56,14 @@ module _ (g : GraphData) (ids : List ObjectId) (cutoff : Option ℤ) (objects : 
 module _ (g : GraphData) (ids : List ObjectId) (cutoff : Option ℤ) (held : Commits) (visited : ObjectId → Bool) (names : List ObjectId)
     (newest : Entry) (old rest : List Entry) (taken : IsPermutation old (newest ∷ rest))
     (w : IsWalk g ids cutoff (stands held visited (waiting_in names old))) where
-  -- the commit that is taken, before the others
   newest_first : IsWalk g ids cutoff (stands held visited (waiting_of names newest ∷ waiting_in names rest))
   newest_first = walk_permuted g ids cutoff held visited (waiting_in names old) (waiting_of names newest ∷ waiting_in names rest) w
       (waiting_taken names newest old rest taken)
 
-  -- it is complete and marked
   newest_queued : IsQueued g ids cutoff held (waiting_of names newest)
   newest_queued = All-head (IsQueued g ids cutoff held) (waiting_of names newest) (waiting_in names rest) newest_first.queued
 
-  -- from the cutoff on, its parents are looked for
+  -- where its time is at least the cutoff, its parents may be read
   pub newest_due : (least : ℤ) → cutoff ≡ Some least → least ≤ℤ newest.time
       → AreDue g ids cutoff (parents_in held (id_at names newest.number))
   newest_due = due_parents g ids cutoff held w.marking.only_marks (waiting_of names newest) newest_queued
@@ -73,7 +71,7 @@ module _ (g : GraphData) (ids : List ObjectId) (cutoff : Option ℤ) (held : Com
   module _ (objects : Objects) (same : objects ≡ g.objects) (wanted : List ObjectId)
       (are : wanted ≡ parents_in held (id_at names newest.number)) (new : Walk)
       (e : VisitsEach objects wanted (stands held visited (waiting_in names rest)) new) where
-    -- once they were visited, the walk goes on without it
+    -- once its parents were visited, the invariant holds without it
     pub newest_walk : AreDue g ids cutoff wanted → IsWalk g ids cutoff new
     newest_walk due =
         walk_seen g ids cutoff new.held new.visited (waiting_of names newest) new.waiting
@@ -81,7 +79,7 @@ module _ (g : GraphData) (ids : List ObjectId) (cutoff : Option ℤ) (held : Com
         (expanded_parents g ids cutoff held w.marking.only_marks (waiting_of names newest) newest_queued new.visited
         (subst (AllVisited new.visited) are e.visited))
 
-    -- and there is less to do
+    -- less is left to do
     pub newest_left : (after : List Entry) (names' : List ObjectId) → new.waiting ≡ waiting_in names' after
         → left g new.visited + length after + 1 ≤ left g visited + length old
     newest_left after names' is =
@@ -92,7 +90,7 @@ module _ (g : GraphData) (ids : List ObjectId) (cutoff : Option ℤ) (held : Com
         let d : suc (length rest) ≡ length old = length_permutation old (newest ∷ rest) taken in
         omega arith
 
--- what was visited stays so
+-- visited ids stay visited
 pub still_visited : (objects : Objects) (wanted ids : List ObjectId) (old new : Walk) → VisitsEach objects wanted old new
     → AllVisited old.visited ids → AllVisited new.visited ids
 still_visited objects wanted ids old new e m = All-weaker (λ id. old.visited id ≡ true) (λ id. new.visited id ≡ true) e.keeps ids m

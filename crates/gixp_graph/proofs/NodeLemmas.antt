@@ -22,12 +22,11 @@ use Rattle.gixp_hash.specs.IdLaws.{ids_exact, ids_total}
 use Rattle.gixp_graph.proofs.HeldLemmas.{flagged_held}
 use Rattle.gixp_graph.proofs.MarkLemmas.{same_id, true_or_false, get_insert_other, get_insert_same}
 
--- a node, where it was found
+-- the commit of a node, where it was found
 abbrev pub shown_node : List ObjectId → List ℕ → Node → Option HeldCommit
 shown_node ids parents x = cond x.is_found (Some (held_of ids parents x)) None
 
 module _ (ids : List ObjectId) (parents : List ℕ) where
-  -- an id that no node has is held by none
   find_none : (nodes : List Node) (q : ObjectId) → ((k : ℕ) (d : Node) → k < length nodes → eq_by_cmp id_cmp q (get_or nodes k d).id
       ≡ false) → find id_cmp q (filter_map (entry_of ids parents) nodes) ≡ None
   find_none [] q h = refl
@@ -38,7 +37,7 @@ module _ (ids : List ObjectId) (parents : List ℕ) where
       here true e r = ap (λ t. cond t (Some (held_of ids parents x)) (find id_cmp q (filter_map (entry_of ids parents) xs))) e ∙ r
       here false e r = r
 
-  -- the node that has an id alone says whether it is held
+  -- the only node with an id has its commit
   find_node : (nodes : List Node) (q : ObjectId) (n : ℕ) (x : Node) → n < length nodes → ((d : Node) → get_or nodes n d ≡ x)
       → eq_by_cmp id_cmp q x.id ≡ true
       → ((k : ℕ) (d : Node) → k < length nodes → eq_by_cmp id_cmp q (get_or nodes k d).id ≡ true → k ≡ n)
@@ -66,32 +65,30 @@ module _ (ids : List ObjectId) (parents : List ℕ) where
       here true f r = ap (λ v. cond v (Some (held_of ids parents y)) (find id_cmp q (filter_map (entry_of ids parents) ys))) f ∙ r
       here false f r = r
 
--- the id of a number is that of its node
 pub id_of_node : (nodes : List Node) (n : ℕ) (d : Node) → n < length nodes → id_at (ids_of nodes) n ≡ (get_or nodes n d).id
 id_of_node [] n d l = absurd (omega arith)
 id_of_node (x ∷ xs) zero d l = refl
 id_of_node (x ∷ xs) (suc n) d l = id_of_node xs n d (omega arith)
 
--- there are as many ids as nodes
 pub length_ids : (nodes : List Node) → length (ids_of nodes) ≡ length nodes
 length_ids [] = refl
 length_ids (x ∷ xs) = ap suc (length_ids xs)
 
--- a node that is there is the same whatever stands for one that isn't
+-- a lookup within the list doesn't depend on its default
 pub node_same : (nodes : List Node) (n : ℕ) (d e : Node) → n < length nodes → get_or nodes n d ≡ get_or nodes n e
 node_same [] n d e l = absurd (omega arith)
 node_same (x ∷ xs) zero d e l = refl
 node_same (x ∷ xs) (suc n) d e l = node_same xs n d e (omega arith)
 
--- the commits held, where their parents are read by other ids
+-- the held commits, with ids for their parents that may be others
 abbrev pub held_by : List ObjectId → List ℕ → List Node → Commits
 held_by ids parents nodes = finite.from_entries (filter_map (entry_of ids parents) nodes)
 
--- a number is that of an id
+-- a number names an id
 abbrev pub Names : List ObjectId → ℕ → ObjectId → Type 0
 Names ids n q = (n < length ids) × (id_at ids n ≡ q)
 
--- an id that no number names isn't held
+-- an id without a number isn't held
 pub get_unnumbered : (ids : List ObjectId) (parents : List ℕ) (nodes : List Node) (q : ObjectId) → IsNew (ids_of nodes) q
     → finite.get (held_by ids parents nodes) q ≡ None
 get_unnumbered ids parents nodes q new = get-from_entries ids_total _ q ∙ find_none ids parents nodes q (λ k d l. ⊎_elim
@@ -99,7 +96,7 @@ get_unnumbered ids parents nodes q new = get-from_entries ids_total _ q ∙ find
     (λ f. f) (true_or_false (eq_by_cmp id_cmp q (get_or nodes k d).id)))
 
 module _ (ids : List ObjectId) (parents : List ℕ) (nodes : List Node) (w : IsOneToOne (ids_of nodes)) where
-  -- one with a number is held as its node says
+  -- an id with a number is held as its node has it
   pub get_numbered : (q : ObjectId) (n : ℕ) → Names (ids_of nodes) n q → (x : Node) → x ≡ get_or nodes n x
       → finite.get (held_by ids parents nodes) q ≡ shown_node ids parents x
   get_numbered q n here x at =
@@ -112,12 +109,12 @@ module _ (ids : List ObjectId) (parents : List ℕ) (nodes : List Node) (w : IsO
       w k n (omega (arith, length_ids nodes)) here.0 (sym same ∙ sym here.1))
 
 module _ (nodes : List Node) (parents : List ℕ) (w : IsOneToOne (ids_of nodes)) where
-  -- the commit of a number is held as its node says
+  -- the commit of a number is held as its node has it
   pub held_at : (n : ℕ) → n < length (ids_of nodes) → (x : Node) → x ≡ get_or nodes n x
       → finite.get (held_in nodes parents) (id_at (ids_of nodes) n) ≡ shown_node (ids_of nodes) parents x
   held_at n l x at = get_numbered (ids_of nodes) parents nodes w (id_at (ids_of nodes) n) n (l, refl) x at
 
-  -- its parents are those of its node
+  -- the parents of a commit are the parents of its node
   pub parents_at_node : (n : ℕ) → n < length (ids_of nodes) → (x : Node) → x ≡ get_or nodes n x
       → ids_at (ids_of nodes) (parent_numbers_of parents x) ≡ parents_in (held_in nodes parents) (id_at (ids_of nodes) n)
   parents_at_node n l x at = here x.is_found
@@ -128,7 +125,7 @@ module _ (nodes : List Node) (parents : List ℕ) (w : IsOneToOne (ids_of nodes)
       here true = refl
       here false = refl
 
--- an id that is looked for and has no number isn't held
+-- an id that wasn't found by its number isn't held
 pub no_number : (nodes : List Node) (parents : List ℕ) (o : Option ℕ) (q : ObjectId) → IfNone o (IsNew (ids_of nodes) q)
     → IfNone o (finite.get (held_in nodes parents) q ≡ None)
 no_number nodes parents None q new = get_unnumbered (ids_of nodes) parents nodes q new
@@ -142,7 +139,6 @@ named_node ids parents x h = here x.is_found
     here true = All-take (λ n. n < length ids) (x.end - x.first) (drop x.first parents) (All-drop (λ n. n < length ids) x.first parents h)
     here false = All-nil (λ n. n < length ids)
 
--- an id has a number or has none
 pub named_or_new : (ids : List ObjectId) (q : ObjectId) → IsNew ids q ⊎ ((k : ℕ) × Names ids k q)
 named_or_new [] q = inl (λ k l e. omega (arith, l))
 named_or_new (i ∷ is) q = here (true_or_false (eq_by_cmp id_cmp i q)) (named_or_new is q)
@@ -157,18 +153,15 @@ named_or_new (i ∷ is) q = here (true_or_false (eq_by_cmp id_cmp i q)) (named_o
     here (inr f) (inl new) = inl (none f new)
     here (inr f) (inr (k, h)) = inr (suc k, (omega (arith, h.0), h.1))
 
--- two numbers are equal or aren't
 pub nat_cases : (k n : ℕ) → (k ≡ n) ⊎ (k ≡ n → ⊥)
 nat_cases k n = ⊎_elim (λ a. inr (λ e. omega arith)) (λ a. ⊎_elim (λ b. inr (λ e. omega arith)) (λ b. inl (omega arith)) (cases_lt n k))
     (cases_lt k n)
 
--- a node that is written is there
 set_here : (nodes : List Node) (n : ℕ) (x d : Node) → n < length nodes → get_or (set nodes n x) n d ≡ x
 set_here [] n x d l = absurd (omega arith)
 set_here (y ∷ ys) zero x d l = refl
 set_here (y ∷ ys) (suc n) x d l = set_here ys n x d (omega arith)
 
--- the others stay
 set_other : (nodes : List Node) (n k : ℕ) (x d : Node) → (k ≡ n → ⊥) → get_or (set nodes n x) k d ≡ get_or nodes k d
 set_other [] n k x d a = refl
 set_other (y ∷ ys) zero zero x d a = absurd (a refl)
@@ -176,7 +169,7 @@ set_other (y ∷ ys) zero (suc k) x d a = refl
 set_other (y ∷ ys) (suc n) zero x d a = refl
 set_other (y ∷ ys) (suc n) (suc k) x d a = set_other ys n k x d (λ e. a (ap suc e))
 
--- a node that is written keeps its id
+-- a node that is replaced keeps its id
 pub ids_set : (nodes : List Node) (n : ℕ) (x : Node) → n < length nodes → x.id ≡ id_at (ids_of nodes) n
     → ids_of (set nodes n x) ≡ ids_of nodes
 ids_set [] n x l e = absurd (omega arith)
@@ -185,19 +178,18 @@ ids_set (y ∷ ys) (suc n) x l e = ap (λ is. y.id ∷ is) (ids_set ys n x (omeg
 
 module _ (nodes : List Node) (parents : List ℕ) (w : IsOneToOne (ids_of nodes)) (q : ObjectId) (n : ℕ) (some : Names (ids_of nodes) n q)
     (x : Node) (own : x.id ≡ q) where
-  -- the number names a node
   place : n < length nodes
   place = omega (arith, some.0, length_ids nodes)
 
-  -- the ids stay
+  -- the ids stay the same
   pub ids_kept : ids_of (set nodes n x) ≡ ids_of nodes
   ids_kept = ids_set nodes n x place (own ∙ sym some.1)
 
-  -- each still has one number
+  -- each id still has one number
   once_set : IsOneToOne (ids_of (set nodes n x))
   once_set = subst IsOneToOne (sym ids_kept) w
 
-  -- the table stays one
+  -- the table keeps its invariant
   pub table_set : (numbers : Numbers) → IsTable nodes numbers parents → IsInRange parents x → IsTable (set nodes n x) numbers parents
   table_set numbers t r = record {
     numbering = subst (λ is. IsNumbered is numbers) (sym ids_kept) t.numbering;
@@ -206,7 +198,7 @@ module _ (nodes : List Node) (parents : List ℕ) (w : IsOneToOne (ids_of nodes)
     ranged = All-set (IsInRange parents) nodes n x r t.ranged;
   }
 
-  -- to write the node of an id is to put what it says
+  -- replacing the node of an id inserts its commit
   pub held_set : x.is_found ≡ true → held_in (set nodes n x) parents ≡ finite.insert (held_in nodes parents) q
       (held_of (ids_of nodes) parents x)
   held_set found = ap (λ is. held_by is parents (set nodes n x)) ids_kept
@@ -246,22 +238,21 @@ with_marks y f = record { id = y.id; time = y.time; flags = f; is_found = y.is_f
 
 module _ (nodes : List Node) (parents : List ℕ) (w : IsOneToOne (ids_of nodes)) (q : ObjectId) (n : ℕ) (some : Names (ids_of nodes) n q)
     (y : Node) (at : y ≡ get_or nodes n y) where
-  -- the node has the id
   own_id : y.id ≡ q
   own_id = (let l : n < length nodes = omega (arith, some.0, length_ids nodes) in ap (λ (z : Node). z.id) at
       ∙ sym (id_of_node nodes n y l) ∙ some.1)
 
-  -- the table stays one
+  -- the table keeps its invariant
   pub table_marks : (numbers : Numbers) → IsTable nodes numbers parents → (f : Flags)
       → IsTable (set nodes n (with_marks y f)) numbers parents
   table_marks numbers t f = table_set nodes parents w q n some (with_marks y f) own_id numbers t
       (let l : n < length nodes = omega (arith, some.0, length_ids nodes) in subst (IsInRange parents) (sym at) (t.ranged n y l))
 
-  -- the ids stay
+  -- the ids stay the same
   pub ids_marks : (f : Flags) → ids_of (set nodes n (with_marks y f)) ≡ ids_of nodes
   ids_marks f = ids_kept nodes parents w q n some (with_marks y f) own_id
 
-  -- to write a node with more marks is to add them to its commit
+  -- replacing a node with one with more marks adds them to its commit
   pub held_marks : y.is_found ≡ true → (flags f : Flags) → f.0 ≡ bit_or y.flags.0 flags.0
       → held_in (set nodes n (with_marks y f)) parents ≡ flagged (held_in nodes parents) q flags
   held_marks found flags f e =

@@ -1,4 +1,4 @@
--- Places in slots.
+-- Slots of tags.
 use Rattle.std.proofs.Common.{◌≡◌, ℕ, ◌+◌, ◌-◌, ◌<◌, ◌≤◌, ◌∙◌, ◌==◌, ◌||◌, ◌⊎◌, ⊎_elim, zero, suc, ◌∷◌, [], cond, Bool, true, false, List, Option, Some, None, inl, inr, refl, sym, ap, arith, set, length}
 use Rattle.std.specs.List.{slice_get}
 use Rattle.std.proofs.lemmas.Bool.{eqb-true, eq-eqb}
@@ -13,7 +13,7 @@ use Rattle.gixp_hash.specs.declared.object_id.ObjectId.{ObjectId}
 use Rattle.gixp_graph.specs.declared.numbers.Slot.{Slot}
 use Rattle.gixp_graph.specs.Slots.{tag_of, slot_of, place_at, place_from, place_of, other_at, IsTaken, IsPlaced, IsReachedIn}
 
--- where there is a slot to look at, it says where the place is
+-- a window of at least one slot: its first slot fits, or the search goes on
 pub place_step : (slots : List Slot) (tag i k : ℕ) → 0 < k
     → place_from slots tag i k ≡ place_at (slice_get slots i) tag i (place_from slots tag (i + 1) (k - 1))
 unfolding place_from
@@ -21,11 +21,9 @@ place_step slots tag i zero l = absurd (omega arith)
 place_step slots tag i (suc k) l =
     let e : k ≡ suc k - 1 = omega arith in ap (λ m. place_at (slice_get slots i) tag i (place_from slots tag (i + 1) m)) e
 
--- whether a slot is free or has a tag
 abbrev pub fits : Slot → ℕ → Bool
 fits s tag = s.end == 0 || s.tag == tag
 
--- it is free, or has the tag
 fits_true : (s : Slot) (tag : ℕ) → (s.end ≡ 0) ⊎ (s.tag ≡ tag) → fits s tag ≡ true
 fits_true s tag h = ⊎_elim
     (λ e. ap (λ b. b || s.tag == tag) (eq-eqb s.end 0 e))
@@ -35,7 +33,6 @@ fits_true s tag h = ⊎_elim
     here true b e = refl
     here false b e = e
 
--- it isn't and hasn't
 fits_false : (s : Slot) (tag : ℕ) → (s.end ≡ 0 → ⊥) → (s.tag ≡ tag → ⊥) → fits s tag ≡ false
 fits_false s tag f g = here (s.end == 0) (s.tag == tag) (λ e. f (eqb-true s.end 0 e)) (λ e. g (eqb-true s.tag tag e))
   where
@@ -45,33 +42,33 @@ fits_false s tag f g = here (s.end == 0) (s.tag == tag) (λ e. f (eqb-true s.end
     here false false f g = refl
 
 module _ (slots : List Slot) (tag i k : ℕ) (l : 0 < k) where
-  -- past the last slot there is no place
+  -- no slot is found past the last one
   pub place_past : length slots ≤ i → place_from slots tag i k ≡ None
   place_past e = place_step slots tag i k l
       ∙ ap (λ o. place_at o tag i (place_from slots tag (i + 1) (k - 1))) (slice_get_past slots i e)
 
-  -- here it is
+  -- this slot fits
   pub place_here : (s : Slot) → slice_get slots i ≡ Some s → (s.end ≡ 0) ⊎ (s.tag ≡ tag) → place_from slots tag i k ≡ Some i
   place_here s e t = place_step slots tag i k l
       ∙ ap (λ o. place_at o tag i (place_from slots tag (i + 1) (k - 1))) e
       ∙ ap (λ b. cond b (Some i) (place_from slots tag (i + 1) (k - 1))) (fits_true s tag t)
 
-  -- here it isn't
+  -- this slot doesn't fit
   pub place_next : (s : Slot) → slice_get slots i ≡ Some s → (s.end ≡ 0 → ⊥) → (s.tag ≡ tag → ⊥)
       → place_from slots tag i k ≡ place_from slots tag (i + 1) (k - 1)
   place_next s e f g = place_step slots tag i k l
       ∙ ap (λ o. place_at o tag i (place_from slots tag (i + 1) (k - 1))) e
       ∙ ap (λ b. cond b (Some i) (place_from slots tag (i + 1) (k - 1))) (fits_false s tag f g)
 
--- in no slots there is none
+-- no slot is found in none
 pub place_none : (slots : List Slot) (tag i k : ℕ) → k ≡ 0 → place_from slots tag i k ≡ None
 unfolding place_from
 place_none slots tag i zero e = refl
 place_none slots tag i (suc k) e = absurd (omega arith)
 
--- ---- what a place is
+-- ---- slots that are found
 
--- a place is that of a slot
+-- a slot that is found is one of the slots
 pub place_within : (slots : List Slot) (tag i k p : ℕ) → place_from slots tag i k ≡ Some p → p < length slots
 unfolding place_from
 place_within slots tag i zero p e = (let c : ◌≡◌ {A = Option ℕ} None (Some p) = e in absurd (cc))
@@ -87,13 +84,13 @@ place_within slots tag i (suc k) p e = here (slice_get slots i) refl (place_with
     here None at rest e = (let c : ◌≡◌ {A = Option ℕ} None (Some p) = e in absurd (cc))
     here (Some s) at rest e = there (fits s tag) (slice_get_within slots i s at) rest e
 
--- a place of the same slots and tag
+-- the same slots and tag find the same slot
 pub place_of_parts : (slots' slots : List Slot) (mask tag' tag : ℕ) → slots' ≡ slots → tag' ≡ tag → (o : Option ℕ) (p : ℕ)
     → o ≡ place_of slots' mask tag' → o ≡ Some p → place_of slots mask tag ≡ Some p
 place_of_parts slots' slots mask tag' tag a b o p e is =
     ap (λ ss. place_of ss mask tag) (sym a) ∙ ap (place_of slots' mask) (sym b) ∙ sym e ∙ is
 
--- ---- what a look-up comes to
+-- ---- the result of a look-up
 
 module _ (slots : List Slot) (mask : ℕ) (others : List (ObjectId × ℕ)) (id : ObjectId) (n : ℕ)
     (h : IsReachedIn slots mask others id n) where
@@ -107,7 +104,7 @@ module _ (slots : List Slot) (mask : ℕ) (others : List (ObjectId × ℕ)) (id 
       let end : n + 1 ≡ s.end = cc in omega (arith, free))
       (λ (z : IsTaken slots mask (tag_of id) × (other_at others id ≡ Some n)). let l : 0 < s.end = z.0 p s e at in omega (arith, free)) h
 
-  -- where it has another, the ordered map has the number
+  -- where the slot has another number, the ordered map has the id's
   pub other_found : (p : ℕ) (s : Slot) → place_of slots mask (tag_of id) ≡ Some p → slice_get slots p ≡ Some s → (s.end ≡ n + 1 → ⊥)
       → other_at others id ≡ Some n
   other_found p s e at never = ⊎_elim
@@ -118,26 +115,24 @@ module _ (slots : List Slot) (mask : ℕ) (others : List (ObjectId × ℕ)) (id 
       absurd (never (let end : s.end ≡ n + 1 = cc in end)))
       (λ (z : IsTaken slots mask (tag_of id) × (other_at others id ≡ Some n)). z.1) h
 
--- a number more in the ordered map
+-- an insert into the ordered map changes no other id's number
 pub reached_other : (slots : List Slot) (mask : ℕ) (others others' : List (ObjectId × ℕ)) (q : ObjectId) (n : ℕ)
     → other_at others' q ≡ other_at others q → IsReachedIn slots mask others q n → IsReachedIn slots mask others' q n
 reached_other slots mask others others' q n e h = ⊎_elim
     (λ (z : IsPlaced slots mask q n). inl z)
     (λ (z : IsTaken slots mask (tag_of q) × (other_at others q ≡ Some n)). inr (z.0, e ∙ z.1)) h
 
--- ids that differ do so in the map
+-- ids that differ differ in the map
 pub apart_at : (id q : ObjectId) → (q ≡ id → ⊥) → is_at (id_cmp id) q ≡ false
 apart_at id q a = ⊎_elim (λ t. absurd (a (sym (same_from id q t)))) (λ f. f) (true_or_false (eq_by_cmp id_cmp id q))
 
--- ---- a slot that is written
+-- ---- a slot is written
 
--- it is there
 pub written_here : (slots : List Slot) (p : ℕ) (x : Slot) → p < length slots → slice_get (set slots p x) p ≡ Some x
 written_here [] p x l = absurd (omega arith)
 written_here (y ∷ ys) zero x l = refl
 written_here (y ∷ ys) (suc p) x l = written_here ys p x (omega arith)
 
--- the others stay
 pub written_other : (slots : List Slot) (p i : ℕ) (x : Slot) → (i ≡ p → ⊥) → slice_get (set slots p x) i ≡ slice_get slots i
 written_other [] p i x a = refl
 written_other (y ∷ ys) zero zero x a = absurd (a refl)
@@ -146,7 +141,7 @@ written_other (y ∷ ys) (suc p) zero x a = refl
 written_other (y ∷ ys) (suc p) (suc i) x a = written_other ys p i x (λ e. a (ap suc e))
 
 module _ (slots : List Slot) (p : ℕ) (x s : Slot) (at : slice_get slots p ≡ Some s) (free : s.end ≡ 0) where
-  -- where a place isn't the slot that is written, it stays
+  -- a tag whose slot isn't the one written keeps its slot
   pub place_other : (tag i k : ℕ) → (place_from slots tag i k ≡ Some p → ⊥)
       → place_from (set slots p x) tag i k ≡ place_from slots tag i k
   unfolding place_from
@@ -171,7 +166,7 @@ module _ (slots : List Slot) (p : ℕ) (x s : Slot) (at : slice_get slots p ≡ 
       here None rest n = refl
       here (Some t) rest n = there (fits t tag) rest n
 
-  -- where it is that slot, it still is
+  -- a tag whose slot is the one written keeps its slot
   pub place_own : (tag i k : ℕ) → x.tag ≡ tag → place_from slots tag i k ≡ Some p → place_from (set slots p x) tag i k ≡ Some p
   unfolding place_from
   place_own tag i zero t e = (let c : ◌≡◌ {A = Option ℕ} None (Some p) = e in absurd (cc))
@@ -194,7 +189,7 @@ module _ (slots : List Slot) (p : ℕ) (x s : Slot) (at : slice_get slots p ≡ 
       here None rest a h = (let c : ◌≡◌ {A = Option ℕ} None (Some p) = h in absurd (cc))
       here (Some u) rest a h = there (fits u tag) rest a h
 
-  -- what was reached still is
+  -- each number that was found is still found
   pub reached_written : (mask : ℕ) (others : List (ObjectId × ℕ)) (q : ObjectId) (n : ℕ) → IsReachedIn slots mask others q n
       → IsReachedIn (set slots p x) mask others q n
   reached_written mask others q n h = ⊎_elim
@@ -215,7 +210,7 @@ module _ (slots : List Slot) (p : ℕ) (x s : Slot) (at : slice_get slots p ≡ 
         z.1,
       )) h
 
-  -- the slot of an id's number reaches it
+  -- a number that is written into its slot is found
   pub placed_written : (mask : ℕ) (id : ObjectId) (n : ℕ) → place_of slots mask (tag_of id) ≡ Some p → x ≡ slot_of id n
       → IsPlaced (set slots p x) mask id n
   placed_written mask id n e is = (
@@ -224,7 +219,7 @@ module _ (slots : List Slot) (p : ℕ) (x s : Slot) (at : slice_get slots p ≡ 
     written_here slots p x (slice_get_within slots p s at) ∙ ap Some is,
   )
 
-  -- and any slot with its tag takes its place
+  -- any slot with its tag takes a tag's slot
   pub taken_written : (mask tag : ℕ) → place_of slots mask tag ≡ Some p → x.tag ≡ tag → 0 < x.end → IsTaken (set slots p x) mask tag
   taken_written mask tag e t l i y here is =
       let same : Some i ≡ Some p = sym here ∙ place_own tag _ 16 t e in

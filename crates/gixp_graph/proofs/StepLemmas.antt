@@ -1,4 +1,4 @@
--- One step of the walk: a commit is marked and waits, where it is found and isn't marked yet.
+-- One step of the walk: a commit is marked and queued, where it is found and isn't marked yet.
 use Rattle.std.proofs.Common.{◌≡◌, ℤ, ◌∙◌, ◌⊎◌, inl, inr, ⊎_elim, Bool, true, false, cond, ◌||◌, List, ◌∷◌, ◌++◌, Option, Some, None, refl, sym, ap, subst}
 use Rattle.std.specs.Prelude.{option_map, is_some, IsSome, All}
 use Rattle.std.specs.Option.{option_or, option_map_or}
@@ -19,15 +19,14 @@ use Rattle.gixp_graph.specs.GraphLaws.{same_from}
 use Rattle.gixp_graph.proofs.VisitedLemmas.{or_true}
 use Rattle.gixp_graph.proofs.MarkLemmas.{same_id, get_insert_same, get_insert_other, true_or_false, is_complete-completed}
 
--- an id that is looked for is complete, where its commit is found
+-- an id that may be read is complete, where its commit is found
 pub due_complete : (read : ObjectId → Option Commit) (ids : List ObjectId) (cutoff : Option ℤ) (id : ObjectId)
     → IsDue read ids cutoff id → IsSome (read id) → IsComplete read ids cutoff id
 due_complete read ids cutoff id (IsDue.tip c) f = IsComplete.tip c f
 due_complete read ids cutoff id (IsDue.parent k r l t i) f = IsComplete.parent k r l t i f
 
--- ---- one commit that is new
+-- ---- one new commit
 
--- a commit that is new is the one that is found, without the mark
 new_at : (o : Option HeldCommit) (h : HeldCommit) → if_unmarked o ≡ Some h → (o ≡ Some h) × (is_complete h ≡ false)
 new_at None h e = cc
 new_at (Some k) h e = at (is_complete k) refl e
@@ -37,36 +36,33 @@ new_at (Some k) h e = at (is_complete k) refl e
     at true p e = cc
     at false p e = (e, ap is_complete (sym (let s : k ≡ h = cc in s)) ∙ p)
 
--- a commit that is new is found, and isn't marked
+-- a new commit is found, and isn't marked
 pub found_from_new : (g : GraphData) (id : ObjectId) (h : HeldCommit) → new_in g id ≡ Some h → (found_in g id ≡ Some h)
     × (is_complete h ≡ false)
 found_from_new g id h e = new_at (found_in g id) h e
 
--- what has no mark where it is found has none where it is held
 unmarked_at : (o : Option HeldCommit) (p : Option HeldCommit) (h : HeldCommit) → option_or o p ≡ Some h → is_complete h ≡ false
     → option_map_or is_complete o false ≡ false
 unmarked_at None p h e u = refl
 unmarked_at (Some k) p h e u = ap is_complete (let s : k ≡ h = cc in s) ∙ u
 
--- one that is new isn't marked
+-- a new commit isn't marked
 pub unmarked_from_new : (g : GraphData) (id : ObjectId) (h : HeldCommit) → new_in g id ≡ Some h → is_marked g.held id ≡ false
 unmarked_from_new g id h e =
     let f = found_from_new g id h e in
     unmarked_at (finite.get g.held id) (option_map unmarked (commit_at g.objects id)) h f.0 f.1
 
--- a commit that is left out has the mark
 full_at : (b : Bool) (h : HeldCommit) → cond b None (Some h) ≡ None → b ≡ true
 full_at true h e = refl
 full_at false h e = cc
 
--- a commit that is found and isn't new is marked
 old_at : (o : Option HeldCommit) (p : Option Commit) → if_unmarked (option_or o (option_map unmarked p)) ≡ None
     → IsSome (option_map as_read (option_or o (option_map unmarked p))) → option_map_or is_complete o false ≡ true
 old_at (Some h) p e s = full_at (is_complete h) h e
 old_at None None e s = cc
 old_at None (Some c) e s = absurd (let n : ◌≡◌ {A = Option HeldCommit} (Some (unmarked c)) None = e in cc)
 
--- ---- what only marks
+-- ---- only marks change
 
 module _ (g : GraphData) (held : Commits) (only : OnlyMarks g held) where
   -- a commit that is held as before is found as before
@@ -77,7 +73,7 @@ module _ (g : GraphData) (held : Commits) (only : OnlyMarks g held) where
   pub marked_by : (q : ObjectId) (h : HeldCommit) → finite.get held q ≡ Some (completed h) → is_marked held q ≡ true
   marked_by q h e = ap (λ o. option_map_or is_complete o false) e ∙ is_complete-completed h
 
-  -- what isn't marked is as before
+  -- a commit that isn't marked is as before
   pub same_unmarked : (q : ObjectId) → is_marked held q ≡ false → finite.get held q ≡ finite.get g.held q
   same_unmarked q u = ⊎_elim (λ e. e) (λ n. absurd (let t = marked_by q n.0 n.2 in cc)) (only q)
 
@@ -87,11 +83,11 @@ module _ (g : GraphData) (held : Commits) (only : OnlyMarks g held) where
       (λ n. ap (λ o. option_map as_read (option_or o (option_map unmarked (commit_at g.objects q)))) n.2
       ∙ sym (ap (option_map as_read) (found_from_new g q n.0 n.1).0)) (only q)
 
-  -- a commit that is new among those held was new before
+  -- a commit that is new now was new before
   pub new_before : (id : ObjectId) (h : HeldCommit) → new_in (graph_of g.objects held) id ≡ Some h → new_in g id ≡ Some h
   new_before id h e = ap if_unmarked (sym (reads_same id (same_unmarked id (unmarked_from_new (graph_of g.objects held) id h e)))) ∙ e
 
-  -- where nothing is new, a commit that is found is marked
+  -- a commit that is found and isn't new is marked
   pub marked_if_old : (id : ObjectId) → new_in (graph_of g.objects held) id ≡ None → IsSome (commit_in g id) → is_marked held id ≡ true
   marked_if_old id e s = old_at (finite.get held id) (commit_at g.objects id) e (ap is_some (reads id) ∙ s)
 
@@ -113,7 +109,7 @@ marked_still held id h q m = ⊎_elim
     (λ e. subst (λ x. is_marked (finite.insert held id (completed h)) x ≡ true) (sym (same_from q id e)) (marked_here held id h))
     (λ e. marked_apart held id h q e ∙ m) (true_or_false (eq_by_cmp id_cmp q id))
 
--- a new commit that is written with the mark is just a mark more
+-- inserting a new commit with the mark adds only a mark
 pub only_marks_insert : (g : GraphData) (held : Commits) → OnlyMarks g held → (id : ObjectId) (h : HeldCommit)
     → new_in (graph_of g.objects held) id ≡ Some h → OnlyMarks g (finite.insert held id (completed h))
 only_marks_insert g held only id h new q = ⊎_elim
@@ -124,9 +120,9 @@ only_marks_insert g held only id h new q = ⊎_elim
     (sym (get_insert_other held id (completed h) q e)) (only q))
     (true_or_false (eq_by_cmp id_cmp q id))
 
--- ---- a walk, with one commit more
+-- ---- a step of the walk
 
--- and is due
+-- inserting a complete commit with the mark marks only complete ones
 pub marking_insert : (g : GraphData) (ids : List ObjectId) (cutoff : Option ℤ) (held : Commits) → IsMarking g ids cutoff held
     → (id : ObjectId) (h : HeldCommit) → new_in (graph_of g.objects held) id ≡ Some h → IsComplete (commit_in g) ids cutoff id
     → IsMarking g ids cutoff (finite.insert held id (completed h))
@@ -137,12 +133,12 @@ marking_insert g ids cutoff held w id h new due = record {
       (λ e. w.sound q (sym (marked_apart held id h q e) ∙ m)) (true_or_false (eq_by_cmp id_cmp q id));
 }
 
--- an id that is new is found
+-- a new id is found
 pub found_if_new : (g : GraphData) (held : Commits) → OnlyMarks g held → (id : ObjectId) (h : HeldCommit)
     → new_in (graph_of g.objects held) id ≡ Some h → commit_in g id ≡ Some (as_read h)
 found_if_new g held only id h new = ap (option_map as_read) (found_from_new g id h (new_before g held only id h new)).0
 
--- who waits after a push
+-- which commits are queued after a push
 pub waits_pushed : (x : Waiting) (old new : List Waiting) → IsPermutation (x ∷ old) new → (q : ObjectId)
     → waits new q ≡ (eq_by_cmp id_cmp q x.id || waits old q)
 waits_pushed x old new p q = sym (list_any-IsPermutation (λ (y : Waiting). eq_by_cmp id_cmp q y.id) (x ∷ old) new p)
@@ -150,7 +146,6 @@ waits_pushed x old new p q = sym (list_any-IsPermutation (λ (y : Waiting). eq_b
 -- ---- a step, as the code makes it
 
 module _ (held : Commits) (objects : Objects) (id : ObjectId) (held' : Commits) where
-  -- the same, by what is new
   keeps_at : (o : Option HeldCommit) → held' ≡ put held id (option_map completed o) → (q : ObjectId) → is_marked held q ≡ true
       → is_marked held' q ≡ true
   keeps_at None m q t = subst (λ m. is_marked m q ≡ true) (sym m) t
@@ -161,21 +156,18 @@ module _ (held : Commits) (objects : Objects) (id : ObjectId) (held' : Commits) 
   step_keeps m = keeps_at (new_in (graph_of objects held) id) m
 
 module _ (g : GraphData) (held : Commits) (objects : Objects) (same : objects ≡ g.objects) (id : ObjectId) (held' : Commits) where
-  -- what is new is new for the objects as they were
   new_same : (o : Option HeldCommit) → new_in (graph_of objects held) id ≡ o → new_in (graph_of g.objects held) id ≡ o
   new_same o e = ap (λ m. new_in (graph_of m held) id) (sym same) ∙ e
 
-  -- the same, by what is new
   only_at : OnlyMarks g held → (o : Option HeldCommit) → new_in (graph_of objects held) id ≡ o
       → held' ≡ put held id (option_map completed o) → OnlyMarks g held'
   only_at only None e m = subst (OnlyMarks g) (sym m) only
   only_at only (Some h) e m = subst (OnlyMarks g) (sym m) (only_marks_insert g held only id h (new_same (Some h) e))
 
-  -- nothing but marks is changed
+  -- only marks change
   pub step_only : OnlyMarks g held → held' ≡ marked_found (graph_of objects held) id → OnlyMarks g held'
   step_only only m = only_at only (new_in (graph_of objects held) id) refl m
 
-  -- the same, by what is new
   marks_at : OnlyMarks g held → (o : Option HeldCommit) → new_in (graph_of objects held) id ≡ o
       → held' ≡ put held id (option_map completed o) → IsSome (commit_in g id) → is_marked held' id ≡ true
   marks_at only None e m s = subst (λ m. is_marked m id ≡ true) (sym m) (marked_if_old g held only id (new_same None e) s)
@@ -187,12 +179,10 @@ module _ (g : GraphData) (held : Commits) (objects : Objects) (same : objects �
 
 module _ (g : GraphData) (ids : List ObjectId) (cutoff : Option ℤ) (held : Commits) (objects : Objects) (same : objects ≡ g.objects)
     (id : ObjectId) (held' : Commits) where
-  -- what is new and found is due
   due_new : OnlyMarks g held → (IsSome (commit_in g id) → IsComplete (commit_in g) ids cutoff id) → (h : HeldCommit)
       → new_in (graph_of objects held) id ≡ Some h → IsComplete (commit_in g) ids cutoff id
   due_new only due h e = due (ap is_some (found_if_new g held only id h (new_same g held objects same id held' (Some h) e)))
 
-  -- the same where the step was made, by what is new
   marking_at : IsMarking g ids cutoff held → (IsSome (commit_in g id) → IsComplete (commit_in g) ids cutoff id)
       → (o : Option HeldCommit) → new_in (graph_of objects held) id ≡ o → held' ≡ put held id (option_map completed o)
       → IsMarking g ids cutoff held'
@@ -200,13 +190,13 @@ module _ (g : GraphData) (ids : List ObjectId) (cutoff : Option ℤ) (held : Com
   marking_at w due (Some h) e m = subst (IsMarking g ids cutoff) (sym m)
       (marking_insert g ids cutoff held w id h (new_same g held objects same id held' (Some h) e) (due_new w.only_marks due h e))
 
-  -- also where the step was refused
+  -- only complete commits are marked, also where the step failed
   pub marking_step : IsMarking g ids cutoff held → (IsSome (commit_in g id) → IsComplete (commit_in g) ids cutoff id) → (held' ≡ held)
       ⊎ (held' ≡ marked_found (graph_of objects held) id) → IsMarking g ids cutoff held'
   marking_step w due c =
       ⊎_elim (λ e. subst (IsMarking g ids cutoff) (sym e) w) (λ e. marking_at w due (new_in (graph_of objects held) id) refl e) c
 
--- others that wait change nothing
+-- a commit is queued whatever else is queued
 pub queues_more : (o : Option HeldCommit) (id : ObjectId) (others old new : List Waiting) → Queues o id old new
     → Queues o id (others ++ old) (others ++ new)
 queues_more None id others old new q = ap (λ l. others ++ l) q
@@ -215,7 +205,7 @@ queues_more (Some h) id others old new q = IsPermutation-trans _ _ _ (IsPermutat
 
 -- ---- a visit
 
--- others that wait don't change it
+-- a visit doesn't depend on what else is queued
 pub visits_beside : (objects : Objects) (id : ObjectId) (others : List Waiting) (old new : Walk) → Visits objects id old new
     → Visits objects id (beside others old) (beside others new)
 visits_beside objects id others old new (Visits.again v h q w) = Visits.again v h q (ap (λ l. others ++ l) w)
@@ -227,26 +217,25 @@ pub visit_visited : (objects : Objects) (id : ObjectId) (old new : Walk) → Vis
 visit_visited objects id old new (Visits.again v h q w) = q id ∙ v
 visit_visited objects id old new (Visits.first v h q w) = q id ∙ ap (λ b. b || old.visited id) (same_id id)
 
--- and so were those before
+-- visited ids stay visited
 pub visit_keeps : (objects : Objects) (id : ObjectId) (old new : Walk) → Visits objects id old new → (q : ObjectId)
     → old.visited q ≡ true → new.visited q ≡ true
 visit_keeps objects id old new (Visits.again v h q w) x t = q x ∙ t
 visit_keeps objects id old new (Visits.first v h q w) x t = q x ∙ or_true (eq_by_cmp id_cmp x id) (old.visited x) t
 
 module _ (g : GraphData) (objects : Objects) (same : objects ≡ g.objects) (id : ObjectId) (old new : Walk) where
-  -- nothing but marks is changed
+  -- only marks change
   pub visit_only : Visits objects id old new → OnlyMarks g old.held → OnlyMarks g new.held
   visit_only (Visits.again v h q w) only = subst (OnlyMarks g) (sym h) only
   visit_only (Visits.first v h q w) only = step_only g old.held objects same id new.held only h
 
-  -- what is found is what the graph reads
+  -- a commit that is found is the one that the graph reads
   pub visit_reads : OnlyMarks g old.held → (o : Option HeldCommit) → found_in (graph_of objects old.held) id ≡ o
       → commit_in g id ≡ option_map as_read o
   visit_reads only o e = sym (reads g old.held only id) ∙ ap (λ m. commit_in (graph_of m old.held) id) (sym same)
       ∙ ap (option_map as_read) e
 
   module _ (ids : List ObjectId) (cutoff : Option ℤ) (due : IsDue (commit_in g) ids cutoff id) (walk : IsWalk g ids cutoff old) where
-    -- the id was visited before
     walk_again : new.held ≡ old.held → ((q : ObjectId) → new.visited q ≡ old.visited q) → new.waiting ≡ old.waiting
         → IsWalk g ids cutoff new
     walk_again h q w = record {
@@ -262,16 +251,13 @@ module _ (g : GraphData) (objects : Objects) (same : objects ≡ g.objects) (id 
 
     module _ (h : new.held ≡ marked_found (graph_of objects old.held) id)
         (adds : (q : ObjectId) → new.visited q ≡ (eq_by_cmp id_cmp q id || old.visited q)) where
-      -- what was marked is complete
       first_marking : IsMarking g ids cutoff new.held
       first_marking = marking_step g ids cutoff old.held objects same id new.held walk.marking
           (due_complete (commit_in g) ids cutoff id due) (inr h)
 
-      -- what waited still does
       first_queued : (x : Waiting) → IsQueued g ids cutoff old.held x → IsQueued g ids cutoff new.held x
       first_queued x d = record { complete = d.complete; timed = d.timed; marked = step_keeps old.held objects id new.held h x.id d.marked }
 
-      -- each commit that was visited is marked
       first_marked : (x : ObjectId) → new.visited x ≡ true → IsSome (commit_in g x) → is_marked new.held x ≡ true
       first_marked x t s = ⊎_elim
           (λ e.
@@ -281,13 +267,11 @@ module _ (g : GraphData) (objects : Objects) (same : objects ≡ g.objects) (id 
           (λ e. step_keeps old.held objects id new.held h x (walk.marked x e s))
           (or_cases (eq_by_cmp id_cmp x id) (old.visited x) (sym (adds x) ∙ t))
 
-      -- one that was visited before waits as it did, or its parents were visited
       first_closed : (x : ObjectId) → old.visited x ≡ true → IsSome (commit_in g x) → (waits old.waiting x ≡ true)
           ⊎ IsExpanded g cutoff new.visited x
       first_closed x e s = ⊎_elim (λ a. inl a) (λ a.
           inr (λ c least p r l b i. adds p ∙ or_true (eq_by_cmp id_cmp p id) (old.visited p) (a c least p r l b i))) (walk.closed x e s)
 
-      -- the walk goes on, by what is found
       walk_first : (o : Option HeldCommit) → found_in (graph_of objects old.held) id ≡ o → Queues o id old.waiting new.waiting
           → IsWalk g ids cutoff new
       walk_first None e w = record {
@@ -323,7 +307,7 @@ module _ (g : GraphData) (objects : Objects) (same : objects ≡ g.objects) (id 
                 (or_cases (eq_by_cmp id_cmp y id) (old.visited y) (sym (adds y) ∙ t));
           }
 
-    -- a walk goes on
+    -- a visit keeps the invariant of the walk
     pub visit_walk : Visits objects id old new → IsWalk g ids cutoff new
     visit_walk (Visits.again v h q w) = walk_again h q w
     visit_walk (Visits.first v h q w) = walk_first h q (found_in (graph_of objects old.held) id) refl w

@@ -1,4 +1,4 @@
--- Lists that run through one vector, and the map of them.
+-- Lists of links in one vector, and the map of them.
 use Rattle.std.proofs.Common.{arith, ◌≡◌, ℕ, ℤ, ◌+◌, ◌-◌, ◌<◌, ◌≤◌, ◌∙◌, ◌⊎◌, ⊎_elim, zero, suc, Bool, true, false, cond, List, [], ◌∷◌, ◌++◌, map, length, length-append, Option, Some, None, refl, sym, ap, subst, append_assoc}
 use Rattle.std.specs.declared.cmp.Ordering.{Ordering}
 use Rattle.std.specs.declared.cmp.Ordering.TheVariants.{Less, Equal, Greater}
@@ -25,14 +25,14 @@ use Rattle.gixp_graph.specs.Queue.{entry_at}
 use Rattle.gixp_graph.specs.Times.{link_at, IsLinked, numbers_from, numbers_of, entries_of, entries_in, all_entries, with_list, EndsWithin, AllEnd, IsTimes, IsRest, TakesList}
 use Rattle.gixp_graph.proofs.NodeLemmas.{nat_cases}
 
--- the link that an index past the end would be
+-- the default for an index past the end
 abbrev none : Link
 none = record { number = 0; next = 0 }
 
 -- ---- lists through the links
 
 module _ (links : List Link) (linked : IsLinked links) where
-  -- a list is told whole by as many links as it goes back
+  -- a list has no more links than there are before its end
   pub enough : (f g n : ℕ) → n ≤ f → n ≤ g → n ≤ length links → numbers_from f links n ≡ numbers_from g links n
   unfolding numbers_from
   enough zero zero n a b l = refl
@@ -46,7 +46,7 @@ module _ (links : List Link) (linked : IsLinked links) where
       ap (λ ns. (link_at links i).number ∷ ns)
       (enough f g (link_at links i).next (omega arith) (omega arith) (omega arith))
 
-  -- a new link changes none of them
+  -- a new link changes no list
   pub kept : (x : Link) (f n : ℕ) → n ≤ length links → numbers_from f (links ++ x ∷ []) n ≡ numbers_from f links n
   unfolding numbers_from
   kept x zero n l = refl
@@ -60,7 +60,7 @@ module _ (links : List Link) (linked : IsLinked links) where
   unfolding numbers_of
   numbers_kept x l e = ap (λ ns. l.number ∷ ns) (kept x l.next l.next e)
 
-  -- the first that a longer list goes on at is the list that it was
+  -- the rest of a longer list is the list before
   more_at : (l : Link) → EndsWithin links l → numbers_from (suc (length links)) (links ++ l ∷ []) (suc (length links)) ≡ numbers_of links l
   unfolding numbers_from numbers_of
   more_at l e =
@@ -74,7 +74,7 @@ module _ (links : List Link) (linked : IsLinked links) where
       let one : suc (length links) ≡ length links + 1 = omega arith in
       ap (λ ns. n ∷ ns) (subst (λ m. numbers_from m (links ++ l ∷ []) m ≡ numbers_of links l) one (more_at l e))
 
-  -- the links go back still
+  -- the links still go back
   pub linked_more : (l : Link) → EndsWithin links l → IsLinked (links ++ l ∷ [])
   linked_more l e i b = ⊎_elim
       (λ here. subst (λ j. (link_at (links ++ l ∷ []) j).next ≤ j) (sym here)
@@ -84,12 +84,12 @@ module _ (links : List Link) (linked : IsLinked links) where
       subst (λ (k : Link). k.next ≤ i) (sym (get_or-append links (l ∷ []) none i within)) (linked i within))
       (nat_cases i (length links))
 
-  -- a list that ends is its number
+  -- a list without a next link has one number
   pub numbers_one : (l : Link) → l.next ≡ 0 → numbers_of links l ≡ l.number ∷ []
   unfolding numbers_of numbers_from
   numbers_one l e = ap (λ ns. l.number ∷ ns) (subst (λ m. numbers_from m links m ≡ []) (sym e) refl)
 
-  -- one that goes on is its number and the rest
+  -- a list with a next link has its number and the rest's
   rest_at : (next : ℕ) (r : Link) → next ≤ length links → 0 < next → link_at links (next - 1) ≡ r
       → numbers_from next links next ≡ numbers_of links r
   unfolding numbers_from numbers_of
@@ -105,14 +105,14 @@ module _ (links : List Link) (linked : IsLinked links) where
   unfolding numbers_of
   numbers_rest l r e b is = ap (λ ns. l.number ∷ ns) (rest_at l.next r e b is)
 
-  -- which ends too
+  -- the rest of a list continues within the links
   pub ends_rest : (l r : Link) → EndsWithin links l → 0 < l.next → link_at links (l.next - 1) ≡ r → EndsWithin links r
   ends_rest l r e b is =
       let back : (link_at links (l.next - 1)).next ≤ l.next - 1 = linked (l.next - 1) (omega arith) in
       let same : (link_at links (l.next - 1)).next ≡ r.next = ap (λ (k : Link). k.next) is in
       omega arith
 
-  -- the entries of a map stay
+  -- the entries of a map stay the same after a link is appended
   pub entries_kept : (x : Link) (es : List (ℤ × Link)) → AllEnd links es → entries_in (links ++ x ∷ []) es ≡ entries_in links es
   unfolding entries_in
   entries_kept x [] h = refl
@@ -121,27 +121,25 @@ module _ (links : List Link) (linked : IsLinked links) where
       (numbers_kept x e.1 (All-head (EndsWithin links) e.1 (values_of es) h))
       ∙ ap (λ ws. map (entry_at e.0) (numbers_of links e.1) ++ ws) (entries_kept x es (All-tail (EndsWithin links) e.1 (values_of es) h))
 
--- lists end within more links, too
+-- lists continue within more links too
 pub ends_more : (links : List Link) (x : Link) (es : List (ℤ × Link)) → AllEnd links es → AllEnd (links ++ x ∷ []) es
 ends_more links x es h = All-weaker (EndsWithin links) (EndsWithin (links ++ x ∷ []))
     (λ l e. omega (arith, length-append links (x ∷ []))) (values_of es) h
 
 -- ---- the map
 
--- the first two parts of three change places
 turn : (a b c : List Entry) → IsPermutation (a ++ (b ++ c)) (b ++ (a ++ c))
 turn a b c = subst (λ l. IsPermutation l (b ++ (a ++ c))) (append_assoc a b c)
     (subst (λ l. IsPermutation ((a ++ b) ++ c) l) (append_assoc b a c)
     (IsPermutation-append_left c (a ++ b) (b ++ a) (IsPermutation-append_comm a b)))
 
--- times that tie
 tied : (o : Ordering) → is_eq o ≡ true → o ≡ Equal
 tied Less e = cc
 tied Equal e = refl
 tied Greater e = cc
 
 module _ (links : List Link) where
-  -- to take a time out takes its entries
+  -- removing a time removes its entries
   pub entries_remove : (es : List (ℤ × Link)) (t : ℤ) (l : Link) → lookup (is_at (int_cmp t)) es ≡ Some l
       → IsPermutation (entries_in links es) (entries_of links (t, l) ++ entries_in links (remove_entry (is_at (int_cmp t)) es))
   unfolding entries_in
@@ -164,7 +162,7 @@ module _ (links : List Link) where
       at rest false s e = IsPermutation-trans _ _ _ (IsPermutation-append_right (entries_of links x) _ _ (rest e))
           (turn (entries_of links x) (entries_of links (t, l)) (flat_map (entries_of links) (remove_entry (is_at (int_cmp t)) xs)))
 
-  -- to put a time in puts its entries in
+  -- inserting a time inserts its entries
   pub entries_insert : (es : List (ℤ × Link)) (t : ℤ) (l : Link) → lookup (is_at (int_cmp t)) es ≡ None
       → IsPermutation (entries_of links (t, l) ++ entries_in links es) (entries_in links (insert_entry int_cmp es t l))
   unfolding entries_in
@@ -182,7 +180,7 @@ module _ (links : List Link) where
           (turn (entries_of links (t, l)) (entries_of links x) (flat_map (entries_of links) xs))
           (IsPermutation-append_right (entries_of links x) _ _ (rest e))
 
-  -- no entry is newer than the times are
+  -- no entry is newer than the greatest time
   pub newest_all : (es : List (ℤ × Link)) (t : ℤ) → All (λ k. k ≤ℤ t) (keys_of es) → All (λ (w : Entry). w.time ≤ℤ t) (entries_in links es)
   unfolding entries_in
   newest_all [] t h = All-nil (λ (w : Entry). w.time ≤ℤ t)
@@ -191,7 +189,7 @@ module _ (links : List Link) where
       (λ k d l. All-head (λ k. k ≤ℤ t) x.0 (keys_of xs) h))
       (newest_all xs t (All-tail (λ k. k ≤ℤ t) x.0 (keys_of xs) h))
 
-  -- nor of its list
+  -- no entry of a list is newer than its time
   pub own_time : (t u : ℤ) (l : Link) → t ≤ℤ u → All (λ (w : Entry). w.time ≤ℤ u) (entries_of links (t, l))
   own_time t u l e = All-map (λ (w : Entry). w.time ≤ℤ u) (entry_at t) (numbers_of links l) (λ k d b. e)
 
@@ -206,7 +204,6 @@ module _ (links : List Link) where
 
 -- ---- times
 
--- less is at most
 less_le : (a b : ℤ) (o : Ordering) → MatchOrdering o (a <ℤ b) (a ≡ b) (b <ℤ a) → o ≡ Less → a ≤ℤ b
 less_le a b Less h e = omega (arith, ints)
 less_le a b Equal h e = cc
@@ -216,7 +213,6 @@ pub older : (t : ℤ) (ks : List ℤ) → All (λ k. int_cmp k t ≡ Less) ks �
 older t ks h = All-weaker (λ k. int_cmp k t ≡ Less) (λ k. k ≤ℤ t)
     (λ k e. less_le k t (int_cmp k t) (int_ranked k t (int_cmp k t) refl) e) ks h
 
--- a time that is before another doesn't tie with it
 apart : (a b : ℤ) (o p : Ordering) → MatchOrdering o (a <ℤ b) (a ≡ b) (b <ℤ a) → MatchOrdering p (b <ℤ a) (b ≡ a) (a <ℤ b) → o ≡ Less
     → is_eq p ≡ false
 apart a b o Less h k e = refl
@@ -225,7 +221,7 @@ apart a b Equal Equal h k e = cc
 apart a b Greater Equal h k e = cc
 apart a b o Greater h k e = refl
 
--- a time that all others are before isn't among them
+-- a time that is after all others isn't among them
 pub not_there : (t : ℤ) (es : List (ℤ × Link)) → All (λ k. int_cmp k t ≡ Less) (keys_of es) → lookup (is_at (int_cmp t)) es ≡ None
 not_there t [] h = refl
 not_there t (x ∷ xs) h =
@@ -234,7 +230,7 @@ not_there t (x ∷ xs) h =
     (All-head (λ k. int_cmp k t ≡ Less) x.0 (keys_of xs) h))
     ∙ not_there t xs (All-tail (λ k. int_cmp k t ≡ Less) x.0 (keys_of xs) h)
 
--- ---- the lists of a map end
+-- ---- the lists of a map continue within the links
 
 pub ends_last : (P : Link → Type 0) (es : List (ℤ × Link)) (p : ℤ × Link) → All P (values_of (es ++ p ∷ [])) → All P (values_of es) × P p.1
 ends_last P [] p h = (All-nil P, All-head P p.1 [] h)
@@ -245,7 +241,7 @@ ends_last P (x ∷ xs) p h =
 -- ---- a number is added
 
 module _ (links : List Link) (linked : IsLinked links) (es : List (ℤ × Link)) (ends : AllEnd links es) (t : ℤ) (n : ℕ) where
-  -- alone under its time
+  -- the only one of its time
   pub added_alone : (rest : List (ℤ × Link)) → rest ≡ es → lookup (is_at (int_cmp t)) rest ≡ None
       → IsPermutation (entry_at t n ∷ entries_in links es)
       (entries_in links (insert_entry int_cmp rest t (record { number = n; next = 0 })))
@@ -255,18 +251,17 @@ module _ (links : List Link) (linked : IsLinked links) (es : List (ℤ × Link))
       (subst (λ ns. IsPermutation (map (entry_at t) ns ++ entries_in links rest) (entries_in links (insert_entry int_cmp rest t one)))
       (numbers_one links linked one refl) (entries_insert links rest t one none))
 
-  -- its list ends
   pub ends_alone : (rest : List (ℤ × Link)) → rest ≡ es → AllEnd links (insert_entry int_cmp rest t (record { number = n; next = 0 }))
   ends_alone rest same = All-values-insert_entry int_cmp t (record { number = n; next = 0 }) (EndsWithin links) rest
       (subst (AllEnd links) (sym same) ends) (omega arith)
 
   module _ (rest : List (ℤ × Link)) (l : Link) (is : rest ≡ remove_entry (is_at (int_cmp t)) es)
       (there : lookup (is_at (int_cmp t)) es ≡ Some l) where
-    -- the list that is taken out ends
+    -- the list that is taken out continues within the links
     pub end_there : EndsWithin links l
     end_there = subst (λ o. IfSome o (EndsWithin links)) there (IfSome-lookup_from_All (EndsWithin links) (is_at (int_cmp t)) es ends)
 
-    -- so do the others
+    -- the other lists continue within the links
     pub ends_others : AllEnd links rest
     ends_others = subst (AllEnd links) (sym is)
         (All-map-remove_entry (is_at (int_cmp t)) (λ (e : ℤ × Link). e.1) (EndsWithin links) es ends)
@@ -291,9 +286,8 @@ module _ (links : List Link) (linked : IsLinked links) (es : List (ℤ × Link))
     ends_longer = All-values-insert_entry int_cmp t (record { number = n; next = length links + 1 }) (EndsWithin (links ++ l ∷ [])) rest
         (ends_more links l rest ends_others) (omega (arith, length-append links (l ∷ [])))
 
--- ---- what the calls leave
+-- ---- the results of the calls
 
--- a list is written, or isn't
 pub put_ends : {A E : Type 0} (r : Result A E) (links : List Link) (rest new : List (ℤ × Link)) (t : ℤ) (l : Link)
     → OnOk r (new ≡ insert_entry int_cmp rest t l) → OnErr r (new ≡ rest) → AllEnd links rest → EndsWithin links l → AllEnd links new
 put_ends (Ok x) links rest new t l ok err ends e =
@@ -337,7 +331,7 @@ module _ {A E : Type 0} (r : Result A E) (links : List Link) (linked : IsLinked 
           | Err _ ↦ λ e. tt
         ] ok
 
--- ---- the list beside the map
+-- ---- the list that was taken out of the map
 
 -- it is put back
 pub restored : (links : List Link) (newest : Option (ℤ × Link)) (es : List (ℤ × Link)) → IsTimes links newest es
@@ -348,7 +342,7 @@ restored links (Some p) es h = (
   entries_insert links es p.0 p.1 (not_there p.0 es h.taken.1),
 )
 
--- it is the last of the map
+-- it was the last of the map
 pub takes_last : (old new : List (ℤ × Link)) (p : ℤ × Link) → old ≡ new ++ p ∷ [] → All (λ k. int_cmp k p.0 ≡ Less) (keys_of new)
     → TakesList None old p new
 takes_last old new p is before links h =
@@ -363,7 +357,7 @@ pub last_taken : (newest : Option (ℤ × Link)) (old new : List (ℤ × Link)) 
 last_taken newest old new None none is before = tt
 last_taken newest old new (Some p) none is before = subst (λ m. TakesList m old p new) (sym none) (takes_last old new p is before)
 
--- a number of it is taken
+-- its first number is taken
 pub rest_times : (links : List Link) (p : ℤ × Link) (o : Option (ℤ × Link)) (es : List (ℤ × Link)) → IsTimes links (Some p) es
     → IsRest links p o → IsTimes links o es
 rest_times links p None es h e = record { linked = h.linked; ends = h.ends; taken = tt }
@@ -396,7 +390,7 @@ pub rest_newest : (links : List Link) (p : ℤ × Link) (o : Option (ℤ × Link
 rest_newest links p o es h e = All-tail (λ (w : Entry). w.time ≤ℤ p.0) (entry_at p.0 p.1.number) (all_entries links o es)
     (subst (All (λ (w : Entry). w.time ≤ℤ p.0)) (rest_entries links p o es h e) (taken_newest links p es h))
 
--- nor than the greatest key
+-- no number has a greater time than the greatest key
 pub last_newest : (links : List Link) (es : List (ℤ × Link)) (t : ℤ) → All (λ q. is_lt (int_cmp t q) ≡ false) (keys_of es)
     → All (λ (w : Entry). w.time ≤ℤ t) (entries_in links es)
 last_newest links es t h = newest_all links es t
@@ -408,11 +402,11 @@ last_newest links es t h = newest_all links es t
     not_less a b Equal h e = subst (λ z. z ≤ℤ a) h (omega (arith, ints))
     not_less a b Greater h e = omega (arith, ints)
 
--- ---- what stands before the map
+-- ---- the entry that is stored apart from the map
 
 module _ (e w f l : Entry) (old new : List Entry) (both : (◌≡◌ {A = Entry × Entry} (f, l) (e, w)) ⊎ (◌≡◌ {A = Entry × Entry} (f, l) (w, e)))
     (pushed : IsPermutation (l ∷ old) new) where
-  -- of two entries one goes into it
+  -- of two entries one goes into the map
   pub pushed_beside : IsPermutation (e ∷ w ∷ old) (f ∷ new)
   pushed_beside = ⊎_elim
       (λ is. let a : f ≡ e = ap (λ (p : Entry × Entry). p.0) is in let b : l ≡ w = ap (λ (p : Entry × Entry). p.1) is in
@@ -424,7 +418,7 @@ module _ (e w f l : Entry) (old new : List Entry) (both : (◌≡◌ {A = Entry 
       (IsPermutation-cons f (l ∷ old) new pushed))))
       both
 
-  -- and the newer one stands before it
+  -- the newer one stays apart from it
   pub newest_beside : l.time ≤ℤ f.time → All (λ (x : Entry). x.time ≤ℤ w.time) old → All (λ (x : Entry). x.time ≤ℤ f.time) new
   newest_beside le h =
       let last : w.time ≤ℤ f.time = ⊎_elim
@@ -434,9 +428,8 @@ module _ (e w f l : Entry) (old new : List Entry) (both : (◌≡◌ {A = Entry 
       (All-cons (λ (x : Entry). x.time ≤ℤ f.time) l old le
       (All-weaker (λ (x : Entry). x.time ≤ℤ w.time) (λ (x : Entry). x.time ≤ℤ f.time) (λ x b. omega (arith, ints)) old h))
 
--- ---- what a caller sees
+-- ---- the entries as a list
 
--- a map of no length has no lists
 pub no_lists : (es : List (ℤ × Link)) → (0 < length es → ⊥) → es ≡ []
 no_lists [] h = refl
 no_lists (x ∷ xs) h = absurd (h (omega arith))
@@ -445,27 +438,26 @@ pub if_none : {A : Type 0} (o : Option A) (P : Type 0) → P → IfNone o P
 if_none None P h = h
 if_none (Some x) P h = tt
 
--- no lists have no entries
 pub no_entries : (links : List Link) (es : List (ℤ × Link)) → es ≡ [] → entries_in links es ≡ []
 unfolding entries_in
 no_entries links es e = subst (λ l. flat_map (entries_of links) l ≡ []) (sym e) refl
 
 module _ (links : List Link) (newest : Option (ℤ × Link)) (es : List (ℤ × Link)) (value : List Entry)
     (view : all_entries links newest es ≡ value) where
-  -- the time of the list beside the map is the greatest
+  -- the time of the list that was taken out is the greatest
   pub time_taken : (p : ℤ × Link) → newest ≡ Some p → IsTimes links newest es → All (λ (w : Entry). w.time ≤ℤ p.0) value
   time_taken p is h = subst (All (λ (w : Entry). w.time ≤ℤ p.0)) (ap (λ o. all_entries links o es) (sym is) ∙ view)
       (taken_newest links p es (subst (λ o. IsTimes links o es) is h))
 
-  -- else the last of the map is
+  -- without such a list, the last time of the map is the greatest
   pub time_last : (t : ℤ) → newest ≡ None → All (λ q. is_lt (int_cmp t q) ≡ false) (keys_of es) → All (λ (w : Entry). w.time ≤ℤ t) value
   time_last t is h = subst (All (λ (w : Entry). w.time ≤ℤ t)) (ap (λ o. all_entries links o es) (sym is) ∙ view) (last_newest links es t h)
 
-  -- else there is none
+  -- without any list, there is no entry
   pub no_time : newest ≡ None → es ≡ [] → value ≡ []
   no_time is none = sym view ∙ ap (λ o. all_entries links o es) is ∙ no_entries links es none
 
-  -- a list is put back, and a number added
+  -- a list is put back, and a number is added
   pub pushed_times : (e : Entry) (back : List (ℤ × Link)) (more : List Link) (new : List (ℤ × Link)) → IsTimes links newest es
       → back ≡ with_list newest es → IsPermutation (e ∷ entries_in links back) (entries_in more new)
       → IsPermutation (e ∷ value) (entries_in more new)

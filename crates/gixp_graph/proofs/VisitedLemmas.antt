@@ -1,4 +1,4 @@
--- Numbers that were visited, as ids.
+-- Visited numbers as ids.
 use Rattle.std.proofs.Common.{◌≡◌, ℕ, ◌<◌, ◌∙◌, ⊎_elim, zero, suc, Bool, true, false, ◌||◌, List, [], ◌∷◌, length, refl, sym, ap, subst, arith}
 use Rattle.std.specs.Prelude.{◌==◌, ◌&&◌}
 use Rattle.std.specs.Ordering.{eq_by_cmp}
@@ -10,28 +10,24 @@ use Rattle.gixp_graph.specs.Visited.{has, is_visited, AllVisitedNamed, IsOneToOn
 use Rattle.gixp_graph.specs.GraphLaws.{same_from}
 use Rattle.gixp_graph.proofs.MarkLemmas.{same_id, true_or_false}
 
--- a disjunction holds by its second part
 pub or_true : (a b : Bool) → b ≡ true → (a || b) ≡ true
 or_true true b e = refl
 or_true false b e = e
 
--- or by its first
 or_left : (a b : Bool) → a ≡ true → (a || b) ≡ true
 or_left true b e = refl
 or_left false b e = cc
 
--- a conjunction holds by both
 and_both : (a b : Bool) → (a && b) ≡ true → (a ≡ true) × (b ≡ true)
 and_both true b e = (refl, e)
 and_both false b e = cc
 
--- tests that follow from each other are one
 same_test : (a b : Bool) → (a ≡ true → b ≡ true) → (b ≡ true → a ≡ true) → a ≡ b
 same_test true b f h = sym (f refl)
 same_test false true f h = h refl
 same_test false false f h = refl
 
--- the id of a number that was visited was
+-- the id of a visited number was visited
 pub visited_at : (ids : List ObjectId) (bits : List Bool) (n : ℕ) → n < length ids → has bits n ≡ true
     → is_visited ids bits (id_at ids n) ≡ true
 visited_at [] bits n l e = absurd (omega arith)
@@ -41,7 +37,7 @@ visited_at (i ∷ is) (b ∷ bs) zero l e = ap (λ x. (x && eq_by_cmp id_cmp i i
 visited_at (i ∷ is) (b ∷ bs) (suc n) l e = or_true (b && eq_by_cmp id_cmp (id_at is n) i) (is_visited is bs (id_at is n))
     (visited_at is bs n (omega arith) e)
 
--- an id that was visited has a number that was
+-- a visited id has a visited number
 visited_by : (ids : List ObjectId) (bits : List Bool) (q : ObjectId) → is_visited ids bits q ≡ true → (n : ℕ) × (n < length ids)
     × (has bits n ≡ true) × (id_at ids n ≡ q)
 visited_by [] bits q e = cc
@@ -51,12 +47,12 @@ visited_by (i ∷ is) (b ∷ bs) q e = ⊎_elim
     (λ a. let r = visited_by is bs q a in let l : r.0 < length is = r.1 in (suc r.0, omega arith, r.2, r.3))
     (or_cases (b && eq_by_cmp id_cmp q i) (is_visited is bs q) e)
 
--- at first none was
+-- at first no id was visited
 pub none_visited : (ids : List ObjectId) (q : ObjectId) → is_visited ids [] q ≡ false
 none_visited [] q = refl
 none_visited (i ∷ is) q = refl
 
--- the id of a number was visited just where the number was
+-- the id of a number was visited exactly where the number was
 pub visited_here : (ids : List ObjectId) (bits : List Bool) (n : ℕ) (b : Bool) → AllVisitedNamed ids bits → IsOneToOne ids
     → n < length ids → has bits n ≡ b → is_visited ids bits (id_at ids n) ≡ b
 visited_here ids bits n true named once l e = visited_at ids bits n l e
@@ -68,7 +64,7 @@ visited_here ids bits n false named once l e = ⊎_elim
     (λ f. f) (true_or_false (is_visited ids bits (id_at ids n)))
 
 module _ (ids ids' : List ObjectId) (kept : KeepsNumbers ids ids') (bits : List Bool) (named : AllVisitedNamed ids bits) where
-  -- numbers that are new name no id that was visited
+  -- new numbers don't change which ids were visited
   pub visited_kept : (q : ObjectId) → is_visited ids' bits q ≡ is_visited ids bits q
   visited_kept q = same_test (is_visited ids' bits q) (is_visited ids bits q)
       (λ t.
@@ -80,24 +76,22 @@ module _ (ids ids' : List ObjectId) (kept : KeepsNumbers ids ids') (bits : List 
       let k = kept v.0 v.1 in
       subst (λ i. is_visited ids' bits i ≡ true) (k.1 ∙ v.3) (visited_at ids' bits v.0 k.0 v.2))
 
-  -- and those that were visited still name ids
+  -- visited numbers still name ids
   pub visited_still_named : AllVisitedNamed ids' bits
   visited_still_named n e = (kept n (named n e)).0
 
-  -- one number more
   module _ (bits' : List Bool) (number : ℕ) (l : number < length ids) (more : (n : ℕ) → has bits' n ≡ (n == number || has bits n)) where
-    -- is visited
     has_new : has bits' number ≡ true
     has_new = more number ∙ ap (λ b. b || has bits number) (eq-eqb number number refl)
 
-    -- all that are visited name ids
+    -- all visited numbers name ids
     pub named_more : AllVisitedNamed ids' bits'
     named_more n e = ⊎_elim
         (λ t. subst (λ m. m < length ids') (sym (eqb-true n number t)) (kept number l).0)
         (λ t. (kept n (named n t)).0)
         (or_cases (n == number) (has bits n) (sym (more n) ∙ e))
 
-    -- its id was visited, and so were those before
+    -- one more number: its id was visited, and so were those before
     pub visited_more : (q : ObjectId) → is_visited ids' bits' q ≡ (eq_by_cmp id_cmp q (id_at ids number) || is_visited ids bits q)
     visited_more q = same_test (is_visited ids' bits' q) (eq_by_cmp id_cmp q (id_at ids number) || is_visited ids bits q)
         (λ t.
@@ -121,7 +115,7 @@ module _ (ids ids' : List ObjectId) (kept : KeepsNumbers ids ids') (bits : List 
         (visited_at ids' bits' v.0 k.0 (more v.0 ∙ or_true (v.0 == number) (has bits v.0) v.2)))
         (or_cases (eq_by_cmp id_cmp q (id_at ids number)) (is_visited ids bits q) t))
 
--- an id that was visited before adds nothing
+-- a visited id adds nothing
 pub visited_again : (visited : ObjectId → Bool) (id q : ObjectId) → visited id ≡ true → (eq_by_cmp id_cmp q id || visited q) ≡ visited q
 visited_again visited id q v = ⊎_elim
     (λ e. or_left (eq_by_cmp id_cmp q id) (visited q) e ∙ sym (ap visited (same_from q id e) ∙ v))

@@ -1,4 +1,4 @@
--- Queued numbers as commits that wait.
+-- Queued numbers as queued commits.
 use Rattle.std.proofs.Common.{◌≡◌, ℕ, ℤ, ◌<◌, ◌∙◌, List, [], ◌∷◌, length, Option, Some, None, refl, sym, ap, subst, arith}
 use Rattle.std.specs.Prelude.{All, ◌≤ℤ◌}
 use Rattle.std.proofs.lemmas.Int.{ints}
@@ -13,7 +13,7 @@ use Rattle.gixp_graph.specs.Queue.{entry_at}
 use Rattle.gixp_graph.specs.Waiting.{Waiting, waiting_of, waiting_in, AllQueuedNamed, Queues}
 
 module _ (ids ids' : List ObjectId) (kept : KeepsNumbers ids ids') where
-  -- new numbers change nothing of what waits
+  -- new numbers don't change the queued commits
   pub waiting_kept : (queue : List Entry) → AllQueuedNamed ids queue → waiting_in ids' queue ≡ waiting_in ids queue
   waiting_kept [] h = refl
   waiting_kept (e ∷ es) h =
@@ -21,18 +21,18 @@ module _ (ids ids' : List ObjectId) (kept : KeepsNumbers ids ids') where
       (kept e.number (All-head (λ (x : Entry). x.number < length ids) e es h)).1
       ∙ ap (λ ws. waiting_of ids e ∷ ws) (waiting_kept es (All-tail (λ (x : Entry). x.number < length ids) e es h))
 
-  -- and the queue's numbers still name ids
+  -- the queue's numbers still name ids
   pub named_kept : (queue : List Entry) → AllQueuedNamed ids queue → AllQueuedNamed ids' queue
   named_kept queue h = All-weaker (λ (x : Entry). x.number < length ids) (λ (x : Entry). x.number < length ids')
       (λ x l. (kept x.number l).0) queue h
 
-  -- where nothing is pushed
+  -- nothing is pushed
   pub queues_none : (o : Option HeldCommit) (n : ℕ) (queue : List Entry) → o ≡ None → AllQueuedNamed ids queue
       → Queues o (id_at ids n) (waiting_in ids queue) (waiting_in ids' queue)
   queues_none o n queue e h = subst (λ x. Queues x (id_at ids n) (waiting_in ids queue) (waiting_in ids' queue)) (sym e)
       (waiting_kept queue h)
 
-  -- where one number is
+  -- one number is pushed
   pub queues_one : (o : Option HeldCommit) (k : HeldCommit) (t : ℤ) (n : ℕ) (queue queue' : List Entry) → o ≡ Some k → k.time ≡ t
       → n < length ids → AllQueuedNamed ids queue → IsPermutation (entry_at t n ∷ queue) queue'
       → Queues o (id_at ids n) (waiting_in ids queue) (waiting_in ids' queue')
@@ -42,7 +42,7 @@ module _ (ids ids' : List ObjectId) (kept : KeepsNumbers ids ids') where
       (waiting_kept (entry_at t n ∷ queue) (All-cons (λ (x : Entry). x.number < length ids) (entry_at t n) queue l h))
       (IsPermutation-map (waiting_of ids') (entry_at t n ∷ queue) queue' p)))
 
-  -- whose number names an id, too
+  -- each queued number names an id
   pub named_one : (t : ℤ) (n : ℕ) (queue queue' : List Entry) → n < length ids → AllQueuedNamed ids queue
       → IsPermutation (entry_at t n ∷ queue) queue' → AllQueuedNamed ids' queue'
   named_one t n queue queue' l h p = All-permutation (λ (x : Entry). x.number < length ids') (entry_at t n ∷ queue) queue' p
@@ -51,28 +51,27 @@ module _ (ids ids' : List ObjectId) (kept : KeepsNumbers ids ids') where
 -- ---- the entry that is taken
 
 module _ (ids : List ObjectId) (e : Entry) (old rest : List Entry) (taken : IsPermutation old (e ∷ rest)) where
-  -- what waited is its commit and the rest
+  -- the queued commits are the one that is taken and the rest
   pub waiting_taken : IsPermutation (waiting_in ids old) (waiting_of ids e ∷ waiting_in ids rest)
   waiting_taken = IsPermutation-map (waiting_of ids) old (e ∷ rest) taken
 
-  -- they still name ids
   named_all : AllQueuedNamed ids old → AllQueuedNamed ids (e ∷ rest)
   named_all h = All-permutation (λ (x : Entry). x.number < length ids) old (e ∷ rest) taken h
 
-  -- the rest does
+  -- the rest still names ids
   pub named_rest : AllQueuedNamed ids old → AllQueuedNamed ids rest
   named_rest h = All-tail (λ (x : Entry). x.number < length ids) e rest (named_all h)
 
-  -- so does the one that is taken
+  -- the entry that is taken names an id
   pub named_taken : AllQueuedNamed ids old → e.number < length ids
   named_taken h = All-head (λ (x : Entry). x.number < length ids) e rest (named_all h)
 
--- the commits that wait are as new as their entries
+-- queued commits have the times of their entries
 pub older_waiting : (ids : List ObjectId) (t : ℤ) (queue : List Entry) → All (λ (e : Entry). e.time ≤ℤ t) queue
     → All (λ (x : Waiting). x.time ≤ℤ t) (waiting_in ids queue)
 older_waiting ids t queue h = All-map (λ (x : Waiting). x.time ≤ℤ t) (waiting_of ids) queue h
 
--- nothing that waited is newer than the entry that is taken
+-- no queued commit is newer than the one that is taken
 pub older_all : (e : Entry) (old rest : List Entry) → IsPermutation old (e ∷ rest) → All (λ (x : Entry). x.time ≤ℤ e.time) rest
     → All (λ (x : Entry). x.time ≤ℤ e.time) old
 older_all e old rest p h = All-permutation (λ (x : Entry). x.time ≤ℤ e.time) (e ∷ rest) old (IsPermutation-sym old (e ∷ rest) p)

@@ -1,4 +1,4 @@
--- Walks: how they begin, drop what was seen to, and end.
+-- Walks: how they begin, drop commits whose parents were visited, and end.
 use Rattle.std.proofs.Common.{◌≡◌, ℤ, ◌∙◌, inl, inr, ⊎_elim, Bool, true, false, true≢false, List, [], ◌∷◌, ◌++◌, Option, Some, None, refl, sym, ap, subst, append-nil, arith}
 use Rattle.std.specs.Prelude.{option_map, is_some, IsSome, Contains, All, ◌≤ℤ◌, unwrap_or}
 use Rattle.std.specs.Option.{option_or, option_map_or}
@@ -20,15 +20,15 @@ use Rattle.gixp_graph.specs.Walk.{Walk, waits, IsExpanded, IsMarking, IsQueued, 
 use Rattle.gixp_graph.specs.GraphLaws.{same_from}
 use Rattle.gixp_graph.proofs.StepLemmas.{reads}
 
--- what a walk begins with
+-- at the start only marks were changed
 pub marking_start : (g : GraphData) (ids : List ObjectId) (cutoff : Option ℤ) → IsMarking g ids cutoff g.held
 marking_start g ids cutoff = record { only_marks = λ q. inl refl; sound = λ q m. inl m }
 
--- a walk by its parts
+-- a walk from its parts
 abbrev pub stands : Commits → (ObjectId → Bool) → List Waiting → Walk
 stands held visited waiting = record { held = held; visited = visited; waiting = waiting }
 
--- and a walk where none was visited and nothing waits
+-- a walk without visited ids and queued commits
 pub walk_start : (g : GraphData) (ids : List ObjectId) (cutoff : Option ℤ) (visited : ObjectId → Bool)
     → ((q : ObjectId) → visited q ≡ false) → IsWalk g ids cutoff (stands g.held visited [])
 walk_start g ids cutoff visited none = record {
@@ -38,7 +38,7 @@ walk_start g ids cutoff visited none = record {
   closed = λ q t s. absurd (true≢false (sym t ∙ none q));
 }
 
--- the order in which they wait is free
+-- the order of the queue is free
 pub walk_permuted : (g : GraphData) (ids : List ObjectId) (cutoff : Option ℤ) (held : Commits) (visited : ObjectId → Bool)
     (queue queue' : List Waiting) → IsWalk g ids cutoff (stands held visited queue) → IsPermutation queue queue'
     → IsWalk g ids cutoff (stands held visited queue')
@@ -50,14 +50,14 @@ walk_permuted g ids cutoff held visited queue queue' w p = record {
       (λ d. inr d) (w.closed q t s);
 }
 
--- a commit that is complete is found
+-- a complete commit is found
 complete_found : (read : ObjectId → Option Commit) (ids : List ObjectId) (cutoff : Option ℤ) (q : ObjectId)
     → IsComplete read ids cutoff q → IsSome (read q)
 complete_found read ids cutoff q (IsComplete.tip i f) = f
 complete_found read ids cutoff q (IsComplete.parent k r l t i f) = f
 
 module _ (g : GraphData) (ids : List ObjectId) (cutoff : Option ℤ) (held : Commits) (visited : ObjectId → Bool) where
-  -- a commit whose parents were visited need not wait
+  -- a commit whose parents were visited need not be queued
   pub walk_seen : (x : Waiting) (queue : List Waiting) → IsWalk g ids cutoff (stands held visited (x ∷ queue))
       → IsExpanded g cutoff visited x.id → IsWalk g ids cutoff (stands held visited queue)
   walk_seen x queue w e = record {
@@ -70,7 +70,7 @@ module _ (g : GraphData) (ids : List ObjectId) (cutoff : Option ℤ) (held : Com
         (λ d. inr d) (w.closed q t s);
   }
 
-  -- nor need several
+  -- commits whose parents were visited need not be queued
   pub walk_dropped : (others queue : List Waiting) → IsWalk g ids cutoff (stands held visited (others ++ queue))
       → All (λ (x : Waiting). IsExpanded g cutoff visited x.id) others → IsWalk g ids cutoff (stands held visited queue)
   walk_dropped [] queue w h = w
@@ -80,30 +80,28 @@ module _ (g : GraphData) (ids : List ObjectId) (cutoff : Option ℤ) (held : Com
 
   module _ (queue : List Waiting) (w : IsWalk g ids cutoff (stands held visited queue))
       (rest : All (λ (x : Waiting). IsExpanded g cutoff visited x.id) queue) (tips : AllVisited visited ids) where
-    -- nothing waits any more
     all_seen : IsWalk g ids cutoff (stands held visited [])
     all_seen = walk_dropped queue [] (subst (λ l. IsWalk g ids cutoff (stands held visited l)) (sym (append-nil queue)) w) rest
 
-    -- where each commit that waits has its parents visited, where they have to be, all that is complete was visited
+    -- with an empty queue, each complete commit was visited
     complete_visited : (q : ObjectId) → IsComplete (commit_in g) ids cutoff q → visited q ≡ true
     complete_visited q (IsComplete.tip i f) = All-contains (λ p. visited p ≡ true) ids q tips i
     complete_visited q (IsComplete.parent {id} {p} {c} {least} k r l t i f) =
         ⊎_elim (λ b. absurd (cc)) (λ d. d c least p r l t i) (all_seen.closed id (complete_visited id k) (ap is_some r))
 
-    -- and so it is marked
+    -- with an empty queue, each complete commit is marked
     pub complete_marked : (q : ObjectId) → IsComplete (commit_in g) ids cutoff q → is_marked held q ≡ true
     complete_marked q k = w.marked q (complete_visited q k) (complete_found (commit_in g) ids cutoff q k)
 
--- ---- the parents of a commit that waits
+-- ---- the parents of a queued commit
 
--- what is known while the parents of x are being marked
+-- the facts known while the parents of x are visited
 record IsOpened (g : GraphData) (x : Waiting) (parents : List ObjectId) : Type 0 where
   pub commit : Commit
   pub reads : commit_in g x.id ≡ Some commit
   pub time : commit.time ≡ x.time
   pub parents_are : commit.parents ≡ parents
 
--- the same, by what is held
 opened_at : (g : GraphData) (x : Waiting) (o : Option HeldCommit) → option_map_or is_complete o false ≡ true
     → option_map as_read (option_or o (option_map unmarked (commit_at g.objects x.id))) ≡ commit_in g x.id
     → option_map (λ (c : Commit). c.time) (commit_in g x.id) ≡ Some x.time
@@ -116,21 +114,19 @@ opened_at g x (Some h) m r t = record {
   parents_are = refl;
 }
 
--- the commit of one that waits
 opened : (g : GraphData) (ids : List ObjectId) (cutoff : Option ℤ) (held : Commits) → OnlyMarks g held → (x : Waiting)
     → IsQueued g ids cutoff held x → (parents : List ObjectId)
     → parents ≡ unwrap_or (option_map (λ (h : HeldCommit). h.parents) (finite.get held x.id)) [] → IsOpened g x parents
 opened g ids cutoff held only x k parents e =
     subst (IsOpened g x) (sym e) (opened_at g x (finite.get held x.id) k.marked (reads g held only x.id) k.timed)
 
--- its parents are looked for
+-- its parents may be read
 due_parent : (g : GraphData) (ids : List ObjectId) (cutoff : Option ℤ) (x : Waiting) → IsComplete (commit_in g) ids cutoff x.id
     → (parents : List ObjectId) → IsOpened g x parents → (least : ℤ) → cutoff ≡ Some least → least ≤ℤ x.time
     → (p : ObjectId) → Contains parents p → IsDue (commit_in g) ids cutoff p
 due_parent g ids cutoff x k parents o least l t p i =
     IsDue.parent k o.reads l (subst (λ (z : ℤ). least ≤ℤ z) (sym o.time) t) (subst (λ ps. Contains ps p) (sym o.parents_are) i)
 
--- all parents were visited
 expanded_all : (g : GraphData) (cutoff : Option ℤ) (visited : ObjectId → Bool) (x : Waiting) (parents : List ObjectId)
     → IsOpened g x parents → AllVisited visited parents → IsExpanded g cutoff visited x.id
 expanded_all g cutoff visited x parents o all c least p r l t i =
@@ -138,7 +134,7 @@ expanded_all g cutoff visited x parents o all c least p r l t i =
     let j : Contains parents p = subst (λ ps. Contains ps p) (ap (λ (c : Commit). c.parents) (sym e) ∙ o.parents_are) i in
     All-contains (λ q. visited q ≡ true) parents p all j
 
--- a commit before the cutoff has no parents that have to be visited
+-- a commit before the cutoff has no parents to visit
 pub expanded_before : (g : GraphData) (ids : List ObjectId) (cutoff : Option ℤ) (held : Commits) (visited : ObjectId → Bool)
     (x : Waiting) → IsQueued g ids cutoff held x → (least : ℤ) → cutoff ≡ Some least → x.time <ℤ least
     → IsExpanded g cutoff visited x.id
@@ -150,32 +146,30 @@ expanded_before g ids cutoff held visited x k least l b c most p r m t i =
 
 -- ---- the commit that is taken
 
--- a list has what its two halves have
 pub all_left : {X : Type 0} (P : X → Type 0) (xs ys : List X) → All P (xs ++ ys) → All P xs
 all_left P [] ys h = All-nil P
 all_left P (x ∷ xs) ys h = All-cons P x xs (All-head P x (xs ++ ys) h) (all_left P xs ys (All-tail P x (xs ++ ys) h))
 
--- and so has the second
 pub all_right : {X : Type 0} (P : X → Type 0) (xs ys : List X) → All P (xs ++ ys) → All P ys
 all_right P [] ys h = h
 all_right P (x ∷ xs) ys h = all_right P xs ys (All-tail P x (xs ++ ys) h)
 
 module _ (g : GraphData) (ids : List ObjectId) (cutoff : Option ℤ) (held : Commits) (only : OnlyMarks g held) (x : Waiting)
     (queued : IsQueued g ids cutoff held x) where
-  -- where its time is at least the cutoff, its parents are looked for
+  -- where its time is at least the cutoff, its parents may be read
   pub due_parents : (least : ℤ) → cutoff ≡ Some least → least ≤ℤ x.time → AreDue g ids cutoff (parents_in held x.id)
   due_parents least l b k d i =
       let ps : List ObjectId = parents_in held x.id in
       due_parent g ids cutoff x queued.complete ps (opened g ids cutoff held only x queued ps refl) least l b _
       (Contains-get_or ps k d i)
 
-  -- once those were visited, it need not wait
+  -- once its parents were visited, it need not be queued
   pub expanded_parents : (visited : ObjectId → Bool) → AllVisited visited (parents_in held x.id) → IsExpanded g cutoff visited x.id
   expanded_parents visited m =
       let ps : List ObjectId = parents_in held x.id in
       expanded_all g cutoff visited x ps (opened g ids cutoff held only x queued ps refl) m
 
--- commits whose times are before the cutoff have no parents that have to be visited
+-- commits before the cutoff have no parents to visit
 pub expanded_older : (g : GraphData) (ids : List ObjectId) (cutoff : Option ℤ) (held : Commits) (visited : ObjectId → Bool)
     (t least : ℤ) → cutoff ≡ Some least → t <ℤ least → (queue : List Waiting) → All (λ (x : Waiting). x.time ≤ℤ t) queue
     → All (IsQueued g ids cutoff held) queue
@@ -184,7 +178,7 @@ expanded_older g ids cutoff held visited t least l b queue u a k d i =
     let no_newer = u k d i in
     expanded_before g ids cutoff held visited _ (a k d i) least l (omega (arith, ints))
 
--- with no cutoff none has
+-- without a cutoff no commit has parents to visit
 pub expanded_never : (g : GraphData) (cutoff : Option ℤ) (visited : ObjectId → Bool) (queue : List Waiting) → cutoff ≡ None
     → All (λ (x : Waiting). IsExpanded g cutoff visited x.id) queue
 expanded_never g cutoff visited queue none k d i c least p r l t j = cc

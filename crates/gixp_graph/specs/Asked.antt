@@ -1,19 +1,19 @@
--- Which ids a call asks the objects for: the list of what they were asked for, before and after it.
+-- Which ids a call reads, by the list of the ids that the objects were asked for, before and after it.
 use Rattle.std.specs.Prelude.{◌≡◌, ◌⊎◌, List, [], ◌∷◌, ◌++◌, All}
 use Rattle.std.specs.List.{IsDistinct}
 use Rattle.std.specs.Ordering.{eq_by_cmp}
 use Rattle.gixp_hash.specs.declared.object_id.ObjectId.{ObjectId}
 use Rattle.gixp_hash.specs.ObjectId.{id_cmp}
 
--- at most this id, once
+-- the call reads at most this id, at most once
 abbrev pub AsksOnce : ObjectId → List ObjectId → List ObjectId → Type 0
 AsksOnce id old new = (new ≡ old) ⊎ (new ≡ old ++ id ∷ [])
 
--- at most this id, once, and only where something holds
+-- the call reads at most this id, at most once, and only where a condition holds
 abbrev pub AsksWhere : Type 0 → ObjectId → List ObjectId → List ObjectId → Type 0
 AsksWhere Holds id old new = (new ≡ old) ⊎ (Holds × (new ≡ old ++ id ∷ []))
 
--- some ids, none of them twice, each of which has a property
+-- the call reads some ids, none of them twice, each with a property
 pub record AsksEach (Has : ObjectId → Type 0) (old new : List ObjectId) : Type 0 where
   pub ids : List ObjectId
   pub appended : new ≡ old ++ ids

@@ -8,19 +8,19 @@ use Rattle.gixp_hash.specs.ObjectId.{id_cmp}
 use Rattle.gixp_graph.specs.Walk.{count}
 use Rattle.gixp_graph.specs.GraphLaws.{same_from}
 
--- a test that follows from another counts no more
+-- one id counts for a stronger test no more than for a weaker one
 one_at : (a b : Bool) → (b ≡ true → a ≡ true) → cond b 1 0 ≤ cond a 1 0
 one_at true true h = omega arith
 one_at true false h = omega arith
 one_at false true h = absurd (let e : false ≡ true = h refl in cc)
 one_at false false h = omega arith
 
--- a stronger test passes no more
+-- a stronger test passes no more ids
 pub count_le : (p q : ObjectId → Bool) → ((x : ObjectId) → q x ≡ true → p x ≡ true) → (xs : List ObjectId) → count q xs ≤ count p xs
 count_le p q h [] = omega arith
 count_le p q h (x ∷ xs) = omega (arith, count_le p q h xs, one_at (p x) (q x) (h x))
 
--- one that no longer passes is one less
+-- a stronger test that rejects an id of the list passes fewer
 pub count_lt : (p q : ObjectId → Bool) → ((x : ObjectId) → q x ≡ true → p x ≡ true) → (id : ObjectId) → p id ≡ true → q id ≡ false
     → (xs : List ObjectId) → list_any (eq_by_cmp id_cmp id) xs ≡ true → count q xs + 1 ≤ count p xs
 count_lt p q h id a b [] w = cc

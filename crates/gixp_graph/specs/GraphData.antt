@@ -17,7 +17,6 @@ pub record HeldCommit : Type 0 where
   pub parents : List ObjectId
   pub flags : Flags
 
--- a commit held is stored as the tuple of its fields
 abbrev pub coded_held : Coded HeldCommit
 coded_held = code_by (ℤ × (List ObjectId × ℕ)) (coded× coded_ℤ (coded× (coded_list coded_id) coded_ℕ))
     (λ h. (h.time, (h.parents, h.flags.0))) (λ p. record { time = p.0; parents = p.1.0; flags = record { 0 = p.1.1 } }) (λ _. refl)
@@ -31,15 +30,14 @@ pub record GraphData : Type 0 where
   pub objects : Objects
   pub held : Commits
 
--- what a contract sees of a graph: its commits, how many calls of its objects have failed, the ids that they were asked for, and what
--- refused calls told
+-- a graph in contracts: its objects and commits, how many calls of its objects have failed, the ids that they were
+-- asked for, and the errors of their failed calls
 pub record GraphValue : Type 0 where
   pub graph : GraphData
   pub failures : ℕ
   pub asked : List ObjectId
   pub refusals : Written ObjectError
 
--- a graph is stored as its two maps, the count and the lists
 abbrev pub coded_graph : Coded GraphValue
 coded_graph =
     code_by (Objects × (Commits × (ℕ × (List ObjectId × Written ObjectError)))) (coded× (finite.code coded_id coded_object)
@@ -52,11 +50,11 @@ coded_graph =
       refusals = p.1.1.1.1;
     }) (λ _. refl)
 
--- a graph of these objects and commits
+-- the graph with these objects and held commits
 abbrev pub graph_of : Objects → Commits → GraphData
 graph_of objects held = record { objects = objects; held = held }
 
--- a commit that was read and has no marks
+-- a commit that was read, without marks
 abbrev pub unmarked : Commit → HeldCommit
 unmarked c = record { time = c.time; parents = c.parents; flags = record { 0 = 0 } }
 
@@ -64,7 +62,7 @@ unmarked c = record { time = c.time; parents = c.parents; flags = record { 0 = 0
 abbrev pub shown : HeldCommit → ℤ × Flags
 shown h = (h.time, h.flags)
 
--- the time of what a caller sees, where it sees a commit
+-- the time, where a commit is shown
 abbrev pub shown_time : Option (ℤ × Flags) → Option ℤ
 shown_time found = option_map (λ (x : ℤ × Flags). x.0) found
 
@@ -72,28 +70,28 @@ shown_time found = option_map (λ (x : ℤ × Flags). x.0) found
 abbrev pub as_read : HeldCommit → Commit
 as_read h = record { time = h.time; parents = h.parents }
 
--- with these marks beside its own
+-- the commit with these marks added
 abbrev pub with_flags : Flags → HeldCommit → HeldCommit
 with_flags flags h = record h { flags = record { 0 = bit_or h.flags.0 flags.0 } }
 
--- the commit under an id, held or else as the objects have it
+-- the commit with this id: the held one, else the one that the objects have
 abbrev pub found_in : GraphData → ObjectId → Option HeldCommit
 found_in g id = option_or (finite.get g.held id) (option_map unmarked (commit_at g.objects id))
 
--- the same without its marks
+-- that commit without its marks
 abbrev pub commit_in : GraphData → ObjectId → Option Commit
 commit_in g id = option_map as_read (found_in g id)
 
--- with one commit written
+-- the commits with this one inserted, where there is one
 abbrev pub put : Commits → ObjectId → Option HeldCommit → Commits
 put m id None = m
 put m id (Some h) = finite.insert m id h
 
--- what a look-up leaves: the commit is held, where it is found
+-- the held commits after a look-up: the commit with this id is held, where it is found
 abbrev pub looked_up : GraphData → ObjectId → Commits
 looked_up g id = put g.held id (found_in g id)
 
--- marks added to one commit, where it is held
+-- the held commits with marks added to one of them, where it is held
 abbrev pub flagged : Commits → ObjectId → Flags → Commits
 flagged m id flags = put m id (option_map (with_flags flags) (finite.get m id))
 
@@ -101,19 +99,19 @@ flagged m id flags = put m id (option_map (with_flags flags) (finite.get m id))
 abbrev pub is_complete : HeldCommit → Bool
 is_complete h = bit_and h.flags.0 1 == 1
 
--- whether a commit is held and has that mark
+-- whether a commit is held with the mark COMPLETE
 abbrev pub is_marked : Commits → ObjectId → Bool
 is_marked m id = option_map_or is_complete (finite.get m id) false
 
--- with that mark beside its own
+-- the commit with the mark COMPLETE added
 abbrev pub completed : HeldCommit → HeldCommit
 completed h = with_flags (record { 0 = 1 }) h
 
--- what is held is what the objects have
+-- each held commit is equal to the commit that the objects have
 abbrev pub IsFaithful : GraphData → Type 0
 IsFaithful g = (id : ObjectId) (h : HeldCommit) → finite.get g.held id ≡ Some h → commit_at g.objects id ≡ Some (as_read h)
 
--- the parents of a commit, none where it isn't held
+-- the parents of a commit; empty where it isn't held
 abbrev pub parents_in : Commits → ObjectId → List ObjectId
 parents_in m id = unwrap_or (option_map (λ (h : HeldCommit). h.parents) (finite.get m id)) []
 
@@ -126,11 +124,11 @@ abbrev pub if_unmarked : Option HeldCommit → Option HeldCommit
 if_unmarked None = None
 if_unmarked (Some h) = if is_complete h then None else Some h
 
--- the commit under an id, where it is found and isn't marked yet
+-- the commit with this id, where it is found and isn't marked yet
 abbrev pub new_in : GraphData → ObjectId → Option HeldCommit
 new_in g id = if_unmarked (found_in g id)
 
--- what to mark an id leaves: its commit is held and marked, where it is found
+-- the held commits after an id was marked: its commit is held and marked, where it is found
 abbrev pub marked_found : GraphData → ObjectId → Commits
 marked_found g id = put g.held id (option_map completed (new_in g id))
 

@@ -5,7 +5,6 @@ use Rattle.std.specs.Coded.{Coded, code_by, coded_ℕ}
 use Rattle.std.specs.declared.io.ErrorKind.{ErrorKind}
 use Rattle.std.specs.declared.io.ErrorKind.TheVariants.{NotFound, PermissionDenied, ConnectionRefused, ConnectionReset, HostUnreachable, NetworkUnreachable, ConnectionAborted, NotConnected, AddrInUse, AddrNotAvailable, NetworkDown, BrokenPipe, AlreadyExists, WouldBlock, NotADirectory, IsADirectory, DirectoryNotEmpty, ReadOnlyFilesystem, FilesystemLoop, StaleNetworkFileHandle, InvalidInput, InvalidData, TimedOut, WriteZero, StorageFull, NotSeekable, QuotaExceeded, FileTooLarge, ResourceBusy, ExecutableFileBusy, Deadlock, CrossesDevices, TooManyLinks, InvalidFilename, ArgumentListTooLong, Interrupted, Unsupported, UnexpectedEof, OutOfMemory, InProgress, Other, Uncategorized}
 
--- a kind as a number
 abbrev kind_number : ErrorKind → ℕ
 kind_number NotFound = 0
 kind_number PermissionDenied = 1
@@ -50,11 +49,9 @@ kind_number InProgress = 39
 kind_number Other = 40
 kind_number Uncategorized = 41
 
--- the kind of a number
 abbrev kind_numbered : ℕ → ErrorKind
 kind_numbered n = slice_index_or kinds n Uncategorized
 
--- no kind is lost in its number
 pub kind_numbered-kind_number : (k : ErrorKind) → kind_numbered (kind_number k) ≡ k
 kind_numbered-kind_number NotFound = refl
 kind_numbered-kind_number PermissionDenied = refl
@@ -99,6 +96,5 @@ kind_numbered-kind_number InProgress = refl
 kind_numbered-kind_number Other = refl
 kind_numbered-kind_number Uncategorized = refl
 
--- a kind is stored as its number
 abbrev pub coded_error_kind : Coded ErrorKind
 coded_error_kind = code_by ℕ coded_ℕ kind_number kind_numbered kind_numbered-kind_number

@@ -1,4 +1,4 @@
--- What the calls of a negotiator do, and what it may answer.
+-- What the calls of a negotiator do, and which errors they return.
 use Rattle.std.specs.Prelude.{◌≡◌, ⊤, ℕ, ◌⊎◌}
 use Rattle.gixp_graph.specs.declared.objects.ObjectError.{ObjectError}
 use Rattle.gixp_graph.specs.declared.objects.ObjectError.TheVariants as object
@@ -9,38 +9,40 @@ use Rattle.gixp_graph.specs.GraphData.{GraphData}
 use Rattle.gixp_graph.specs.Refusals.{Written, TellsRefusal}
 use Rattle.gixp_graph.specs.Run.{Call, Offer, RefusedCall, RefusedOffer}
 
--- what the calls of a negotiator do, what refused ones leave, how many haves it may still offer, and how many calls have failed so far
+-- what the calls of a negotiator do, what failed calls leave, how many haves it may still offer, and how many calls
+-- have failed so far
 pub record NegotiatorCalls (N : Type 0) : Type 1 where
-  -- with this graph
+  -- the haves that it may still offer, over this graph
   pub count : N → GraphData → ℕ
   pub failures : N → ℕ
-  -- `known_common`
+  -- of `known_common`
   pub knows : Call N
-  -- `add_tip`
+  -- of `add_tip`
   pub adds : Call N
-  -- `in_common_with_remote`
+  -- of `in_common_with_remote`
   pub learns : Call N
-  -- `next_have`
+  -- of `next_have`
   pub offers : Offer N
   pub knowing_fails : RefusedCall N
   pub adding_fails : RefusedCall N
   pub learning_fails : RefusedCall N
   pub offering_fails : RefusedOffer N
 
--- an allocation failed, also where the graph says so
+-- an allocation failed, in the negotiator or in a call of the graph
 abbrev pub IsMemory : NegotiatorError → Type 0
 IsMemory (Lookup e) = e ≡ object.Memory
 IsMemory Memory = ⊤
 
--- why a call was refused: for an allocation failure, or since the negotiator or the graph's objects failed
+-- why a call failed: an allocation failed, or the negotiator or the graph's objects counted a failure
 abbrev pub IsRefusal : ℕ → ℕ → ℕ → ℕ → NegotiatorError → Type 0
 IsRefusal old new graph_old graph_new e = IsMemory e ⊎ (HasRisen old new ⊎ HasRisen graph_old graph_new)
 
--- why: the graph's objects refused a call with this error, and wrote it down; or an allocation failed, and they refused nothing
+-- why: a call of the graph's objects failed with this error, and recorded it; or an allocation failed, and none of
+-- their calls did
 abbrev pub TellsWhy : NegotiatorError → Written ObjectError → Written ObjectError → Type 0
 TellsWhy (Lookup e) old new = TellsRefusal e old new
 TellsWhy Memory old new = new ≡ old
 
--- the same, unless the negotiator itself failed
+-- why, unless the negotiator itself failed
 abbrev pub TellsCause : ℕ → ℕ → NegotiatorError → Written ObjectError → Written ObjectError → Type 0
 TellsCause old new e old_refusals new_refusals = HasRisen old new ⊎ TellsWhy e old_refusals new_refusals

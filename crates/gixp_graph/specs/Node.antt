@@ -14,7 +14,7 @@ use Rattle.gixp_graph.specs.Visited.{IsOneToOne}
 abbrev pub ids_of : List Node → List ObjectId
 ids_of nodes = map (λ (x : Node). x.id) nodes
 
--- a node's range is one of parents
+-- a node's range lies within the parents
 abbrev pub IsInRange : List ℕ → Node → Type 0
 IsInRange parents x = (x.first ≤ x.end) × (x.end ≤ length parents)
 
@@ -30,11 +30,11 @@ parent_numbers_of parents x = if x.is_found then range_of parents x else []
 abbrev pub parents_of : List ObjectId → List ℕ → Node → List ObjectId
 parents_of ids parents x = ids_at ids (range_of parents x)
 
--- a node in a contract
+-- the commit of a node
 abbrev pub held_of : List ObjectId → List ℕ → Node → HeldCommit
 held_of ids parents x = record { time = x.time; parents = parents_of ids parents x; flags = x.flags }
 
--- where it was found
+-- the commit of a node with its id, where it was found
 abbrev pub entry_of : List ObjectId → List ℕ → Node → Option (ObjectId × HeldCommit)
 entry_of ids parents x = if x.is_found then Some (x.id, held_of ids parents x) else None
 
@@ -42,7 +42,7 @@ entry_of ids parents x = if x.is_found then Some (x.id, held_of ids parents x) e
 abbrev pub held_in : List Node → List ℕ → Commits
 held_in nodes parents = finite.from_entries (filter_map (entry_of (ids_of nodes) parents) nodes)
 
--- the nodes are numbered, no id has two, each parent's number names one, and each range is one
+-- each node's number is found by its id, no id has two, each parent number names a node, and each range lies within the parents
 pub record IsTable (nodes : List Node) (numbers : Numbers) (parents : List ℕ) : Type 0 where
   pub numbering : IsNumbered (ids_of nodes) numbers
   pub once : IsOneToOne (ids_of nodes)

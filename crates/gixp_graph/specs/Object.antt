@@ -1,4 +1,4 @@
--- What the objects of a repository mean: a finite map from ids to what is known of them.
+-- The objects of a repository as plain data: a finite map from ids to what can be read of each.
 use Rattle.std.specs.Prelude.{ℕ, ◌≡◌, ◌-◌, ℤ, List, Option, option_and_then, option_map, refl, zero, suc}
 use Rattle.std.specs.FinMap as finite
 use Rattle.std.specs.FinMap.{FinMap}
@@ -14,20 +14,18 @@ pub record Commit : Type 0 where
   pub time : ℤ
   pub parents : List ObjectId
 
--- an object: its kind where that can be told, and its commit where it is one
+-- an object: its kind where that can be read, and its commit where it is one
 pub record Object : Type 0 where
   pub kind : Option ObjectKind
   pub commit : Option Commit
 
--- the objects of a repository
+-- the objects of a repository, by id
 abbrev pub Objects : Type 0
 Objects = FinMap id_cmp Object
 
--- the kind of the object that an id names
 abbrev pub kind_at : Objects → ObjectId → Option ObjectKind
 kind_at objects id = option_and_then (λ (o : Object). o.kind) (finite.get objects id)
 
--- the commit that an id names
 abbrev pub commit_at : Objects → ObjectId → Option Commit
 commit_at objects id = option_and_then (λ (o : Object). o.commit) (finite.get objects id)
 
@@ -39,37 +37,31 @@ time_at objects id = option_map (λ (c : Commit). c.time) (commit_at objects id)
 abbrev pub commit_of : CommitData → Commit
 commit_of c = record { time = c.time; parents = c.parents.items }
 
--- a kind as a number
 abbrev kind_number : ObjectKind → ℕ
 kind_number IsCommit = 0
 kind_number Tree = 1
 kind_number Blob = 2
 kind_number Tag = 3
 
--- the kind of a number
 abbrev kind_numbered : ℕ → ObjectKind
 kind_numbered zero = IsCommit
 kind_numbered (suc zero) = Tree
 kind_numbered (suc (suc zero)) = Blob
 kind_numbered (suc (suc (suc _))) = Tag
 
--- no kind is lost in its number
 pub kind_numbered-kind_number : (k : ObjectKind) → kind_numbered (kind_number k) ≡ k
 kind_numbered-kind_number IsCommit = refl
 kind_numbered-kind_number Tree = refl
 kind_numbered-kind_number Blob = refl
 kind_numbered-kind_number Tag = refl
 
--- a kind is stored as its number
 abbrev pub coded_kind : Coded ObjectKind
 coded_kind = code_by ℕ coded_ℕ kind_number kind_numbered kind_numbered-kind_number
 
--- a commit is stored as the pair of its fields
 abbrev pub coded_commit : Coded Commit
 coded_commit = code_by (ℤ × List ObjectId) (coded× coded_ℤ (coded_list coded_id)) (λ c. (c.time, c.parents))
     (λ p. record { time = p.0; parents = p.1 }) (λ _. refl)
 
--- an object is stored as the pair of its fields
 abbrev pub coded_object : Coded Object
 coded_object = code_by (Option ObjectKind × Option Commit) (coded× (coded_option coded_kind) (coded_option coded_commit))
     (λ o. (o.kind, o.commit)) (λ p. record { kind = p.0; commit = p.1 }) (λ _. refl)

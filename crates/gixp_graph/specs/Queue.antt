@@ -1,17 +1,16 @@
--- A queue by time, as plain data.
+-- A priority queue as plain data.
 use Rattle.std.specs.Prelude.{⊤, ℕ, ℤ, ◌≤ℤ◌, List, [], ◌∷◌, Option, Some, None, All}
 use Rattle.gixp_graph.specs.declared.queue.Entry.{Entry}
 
--- a number under a time
 abbrev pub entry_at : ℤ → ℕ → Entry
 entry_at t n = record { time = t; number = n }
 
--- the entry that stands first, where there is one
+-- the entry that is stored apart from the map, where there is one
 abbrev pub first_of : Option Entry → List Entry
 first_of None = []
 first_of (Some e) = e ∷ []
 
--- no other is newer
+-- no other entry is newer
 abbrev pub StandsFirst : Option Entry → List Entry → Type 0
 StandsFirst None others = ⊤
 StandsFirst (Some e) others = All (λ (w : Entry). w.time ≤ℤ e.time) others

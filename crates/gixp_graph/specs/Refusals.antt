@@ -1,4 +1,4 @@
--- What refused calls told, as far as it is written down.
+-- The errors of failed calls, as far as they are recorded.
 use Rattle.std.specs.Prelude.{◌≡◌, ◌⊎◌, ◌++◌, List, [], ◌∷◌, Option, Some, None, refl}
 use Rattle.std.specs.Coded.{Coded, code_by, coded_list, coded_option}
 use Rattle.std.specs.declared.io.ErrorKind.{ErrorKind}
@@ -6,16 +6,16 @@ use Rattle.gixp_graph.specs.declared.objects.ObjectError.{ObjectError}
 use Rattle.gixp_graph.specs.declared.objects.ObjectError.TheVariants.{Io, Corrupt, Memory}
 use Rattle.gixp_graph.specs.KindCode.{coded_error_kind}
 
--- a list that calls append to; none where it isn't written down
+-- a list that calls append to; none where it isn't recorded
 abbrev pub Written : Type 0 → Type 0
 Written A = Option (List A)
 
--- with one more
+-- with one item more
 abbrev pub writing : {A : Type 0} → Written A → A → Written A
 writing None x = None
 writing (Some xs) x = Some (xs ++ x ∷ [])
 
--- a call was refused with this error; or none was, and an allocation failed
+-- a call failed with this error; or an allocation failed, and no call did
 abbrev pub TellsRefusal : ObjectError → Written ObjectError → Written ObjectError → Type 0
 TellsRefusal e old new = ((e ≡ Memory) × (new ≡ old)) ⊎ (new ≡ writing old e)
 
@@ -30,13 +30,11 @@ error_of_parts (Some (Some kind)) = Io kind
 error_of_parts (Some None) = Corrupt
 error_of_parts None = Memory
 
--- no error is lost in its parts
 pub error_of_parts-error_parts : (e : ObjectError) → error_of_parts (error_parts e) ≡ e
 error_of_parts-error_parts (Io kind) = refl
 error_of_parts-error_parts Corrupt = refl
 error_of_parts-error_parts Memory = refl
 
--- the errors are stored as their parts
 abbrev pub coded_refusals : Coded (Written ObjectError)
 coded_refusals =
     coded_option (coded_list (code_by (Option (Option ErrorKind))

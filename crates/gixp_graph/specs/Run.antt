@@ -1,26 +1,26 @@
--- Calls on a negotiator and a graph, and runs of them.
+-- Calls on a negotiator and a graph, and sequences of them.
 use Rattle.std.specs.Prelude.{◌≡◌, ⊤, List, [], ◌∷◌, Option}
 use Rattle.gixp_hash.specs.declared.object_id.ObjectId.{ObjectId}
 use Rattle.gixp_graph.specs.GraphData.{GraphData}
 use Rattle.gixp_graph.specs.declared.negotiator.NegotiatorError.{NegotiatorError}
 
--- what one call with an id does, as a relation of old and new
+-- what a call with an id does, as a relation between the states before and after it
 abbrev pub Call : Type 0 → Type 1
 Call N = N → GraphData → ObjectId → N → GraphData → Type 0
 
--- what an offer does, by the commit that is offered
+-- what an offer does, by the commit that it offers
 abbrev pub Offer : Type 0 → Type 1
 Offer N = N → GraphData → Option ObjectId → N → GraphData → Type 0
 
--- what a refused call with an id leaves, by its error
+-- what a failed call with an id leaves, by its error
 abbrev pub RefusedCall : Type 0 → Type 1
 RefusedCall N = N → GraphData → ObjectId → NegotiatorError → N → GraphData → Type 0
 
--- what a refused offer leaves, by its error
+-- what a failed offer leaves, by its error
 abbrev pub RefusedOffer : Type 0 → Type 1
 RefusedOffer N = N → GraphData → NegotiatorError → N → GraphData → Type 0
 
--- a refused call, and a refused offer, of which nothing is said
+-- a failed call, and a failed offer, may leave anything
 abbrev pub AnyCallLeft : {N : Type 0} → RefusedCall N
 AnyCallLeft n g id e m h = ⊤
 

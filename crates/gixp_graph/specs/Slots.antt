@@ -17,7 +17,7 @@ tag_of id = from_le_bytes w32 (slice_index id.bytes 0 ∷ slice_index id.bytes 1
 abbrev pub slot_of : ObjectId → ℕ → Slot
 slot_of id n = record { tag = tag_of id; end = n + 1 }
 
--- the index, where the slot at it is free or has the tag, else what comes after
+-- this index, where the slot at it is free or has the tag, else the next result
 abbrev pub place_at : Option Slot → ℕ → ℕ → Option ℕ → Option ℕ
 place_at None tag index after = None
 place_at (Some s) tag index after = if s.end == 0 || s.tag == tag then Some index else after
@@ -27,11 +27,11 @@ unfoldable pub place_from : List Slot → ℕ → ℕ → ℕ → Option ℕ
 place_from slots tag index zero = None
 place_from slots tag index (suc k) = place_at (slice_get slots index) tag index (place_from slots tag (index + 1) k)
 
--- the place of a tag in its window
+-- the first slot of a tag's window that is free or has the tag
 abbrev pub place_of : List Slot → ℕ → ℕ → Option ℕ
 place_of slots mask tag = place_from slots tag (bit_and tag mask) 16
 
--- no slot is free for a tag
+-- a tag has no free slot
 abbrev pub IsTaken : List Slot → ℕ → ℕ → Type 0
 IsTaken slots mask tag = (i : ℕ) (s : Slot) → place_of slots mask tag ≡ Some i → slice_get slots i ≡ Some s → 0 < s.end
 
@@ -43,26 +43,26 @@ IsPlaced slots mask id n = (i : ℕ) × (place_of slots mask (tag_of id) ≡ Som
 abbrev pub other_at : List (ObjectId × ℕ) → ObjectId → Option ℕ
 other_at others id = lookup (is_at (id_cmp id)) others
 
--- a look-up of an id comes to a number, in the slots or in the map
+-- a look-up of an id finds a number, in the slots or in the map
 abbrev pub IsReachedIn : List Slot → ℕ → List (ObjectId × ℕ) → ObjectId → ℕ → Type 0
 IsReachedIn slots mask others id n = IsPlaced slots mask id n ⊎ (IsTaken slots mask (tag_of id) × (other_at others id ≡ Some n))
 
--- the same of what keeps them
+-- a look-up of an id finds a number
 abbrev pub IsReached : Numbers → ObjectId → ℕ → Type 0
 IsReached a id n = IsReachedIn a.slots.items a.mask a.others.entries id n
 
--- what was reached still is, but for one id
+-- each number that was found is still found, but for one id
 abbrev pub Keeps : Numbers → Numbers → ObjectId → Type 0
 Keeps a b id = (q : ObjectId) (n : ℕ) → (q ≡ id → ⊥) → IsReached a q n → IsReached b q n
 
--- each number is reached by its id
+-- each number is found by its id
 abbrev pub IsNumbered : List ObjectId → Numbers → Type 0
 IsNumbered ids a = (n : ℕ) → n < length ids → IsReached a (id_at ids n) n
 
--- no number names an id
+-- no number names this id
 abbrev pub IsNew : List ObjectId → ObjectId → Type 0
 IsNew ids id = (n : ℕ) → n < length ids → id_at ids n ≡ id → ⊥
 
--- no number that the ordered map has under an id names it
+-- the number that the ordered map has under an id, if any, doesn't name it
 abbrev pub IsNoOther : List ObjectId → List (ObjectId × ℕ) → ObjectId → Type 0
 IsNoOther ids others id = (n : ℕ) → n < length ids → id_at ids n ≡ id → other_at others id ≡ Some n → ⊥

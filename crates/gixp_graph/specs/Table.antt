@@ -11,16 +11,13 @@ pub record Table : Type 0 where
   pub held : Commits
   pub ids : List ObjectId
 
--- a table is stored as the pair of its fields
 abbrev pub coded_table : Coded Table
 coded_table = code_by (Commits × List ObjectId) (coded× (finite.code coded_id coded_held) (coded_list coded_id)) (λ t. (t.held, t.ids))
     (λ p. record { held = p.0; ids = p.1 }) (λ _. refl)
 
--- the id of a number
 abbrev pub id_at : List ObjectId → ℕ → ObjectId
 id_at ids n = slice_index_or ids n (record { bytes = [] })
 
--- the ids of some numbers
 abbrev pub ids_at : List ObjectId → List ℕ → List ObjectId
 ids_at ids numbers = map (id_at ids) numbers
 

@@ -9,13 +9,13 @@ use Rattle.gixp_graph.specs.Table.{id_at}
 abbrev pub has : List Bool → ℕ → Bool
 has bits n = slice_index_or bits n false
 
--- whether an id's number is in it
+-- whether the set has the number of an id
 abbrev pub is_visited : List ObjectId → List Bool → ObjectId → Bool
 is_visited [] bits q = false
 is_visited (id ∷ ids) [] q = false
 is_visited (id ∷ ids) (b ∷ bits) q = (b && eq_by_cmp id_cmp q id) || is_visited ids bits q
 
--- each number in it names an id
+-- each number in the set names an id
 abbrev pub AllVisitedNamed : List ObjectId → List Bool → Type 0
 AllVisitedNamed ids bits = (n : ℕ) → has bits n ≡ true → n < length ids
 

@@ -1,4 +1,4 @@
--- Commits that wait for their parents to be marked.
+-- Queued commits, whose parents weren't visited yet.
 use Rattle.std.specs.Prelude.{◌≡◌, ℤ, ◌<◌, List, ◌∷◌, map, length, All, Option, Some, None}
 use Rattle.std.specs.List.Sorted.{IsPermutation}
 use Rattle.gixp_hash.specs.declared.object_id.ObjectId.{ObjectId}
@@ -6,7 +6,7 @@ use Rattle.gixp_graph.specs.GraphData.{HeldCommit}
 use Rattle.gixp_graph.specs.Table.{id_at}
 use Rattle.gixp_graph.specs.declared.queue.Entry.{Entry}
 
--- a commit that waits, with its time
+-- a queued commit with its time
 pub record Waiting : Type 0 where
   pub time : ℤ
   pub id : ObjectId
@@ -23,7 +23,7 @@ waiting_in ids queue = map (waiting_of ids) queue
 abbrev pub AllQueuedNamed : List ObjectId → List Entry → Type 0
 AllQueuedNamed ids queue = All (λ (e : Entry). e.number < length ids) queue
 
--- the commits that wait gain one that is new, and where there is none stay
+-- a new commit is queued; where there is none, the queue stays the same
 abbrev pub Queues : Option HeldCommit → ObjectId → List Waiting → List Waiting → Type 0
 Queues None id old new = new ≡ old
 Queues (Some h) id old new = IsPermutation (record { time = h.time; id = id } ∷ old) new

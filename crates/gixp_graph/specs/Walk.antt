@@ -1,4 +1,4 @@
--- The walk: what holds between its steps.
+-- The walk: its invariant.
 use Rattle.std.specs.Prelude.{◌≡◌, ◌⊎◌, ℕ, ℤ, ◌+◌, ◌≤◌, ◌≤ℤ◌, Bool, true, false, not, ◌||◌, if◌then◌else◌, List, [], ◌∷◌, ◌++◌, length, Option, Some, None, option_map, IsSome, Contains, All}
 use Rattle.std.specs.List.{list_any}
 use Rattle.std.specs.Ordering.{eq_by_cmp}
@@ -14,22 +14,22 @@ use Rattle.gixp_graph.specs.declared.queue.Entry.{Entry}
 use Rattle.gixp_graph.specs.Visited.{is_visited}
 use Rattle.gixp_graph.specs.Waiting.{Waiting, waiting_in, Queues}
 
--- how far a walk has come: the commits held, the ids visited, and the commits that wait for their parents to be visited
+-- the state of a walk: the held commits, the visited ids, and the queued commits, whose parents weren't visited yet
 pub record Walk : Type 0 where
   pub held : Commits
   pub visited : ObjectId → Bool
   pub waiting : List Waiting
 
--- by a table of commits, a set of numbers and a queue
+-- the state from a table of commits, a set of numbers and a queue
 abbrev pub walk_of : Table → List Bool → List Entry → Walk
 walk_of commits visited queue =
     record { held = commits.held; visited = is_visited commits.ids visited; waiting = waiting_in commits.ids queue }
 
--- with others that wait
+-- the state with other commits queued too
 abbrev pub beside : List Waiting → Walk → Walk
 beside others w = record { held = w.held; visited = w.visited; waiting = others ++ w.waiting }
 
--- whether a commit waits
+-- whether a commit is queued
 abbrev pub waits : List Waiting → ObjectId → Bool
 waits queue id = list_any (λ (x : Waiting). eq_by_cmp id_cmp id x.id) queue
 
@@ -38,18 +38,18 @@ abbrev pub IsExpanded : GraphData → Option ℤ → (ObjectId → Bool) → Obj
 IsExpanded g cutoff visited id = (c : Commit) (least : ℤ) (p : ObjectId) → commit_in g id ≡ Some c → cutoff ≡ Some least
     → least ≤ℤ c.time → Contains c.parents p → visited p ≡ true
 
--- what was marked is complete, and nothing else changed
+-- each newly marked commit is complete, and nothing else changed
 pub record IsMarking (g : GraphData) (ids : List ObjectId) (cutoff : Option ℤ) (held : Commits) : Type 0 where
   pub only_marks : OnlyMarks g held
   pub sound : (id : ObjectId) → is_marked held id ≡ true → (is_marked g.held id ≡ true) ⊎ IsComplete (commit_in g) ids cutoff id
 
--- a commit that waits is complete, has the time that it waits under, and is marked
+-- a queued commit is complete, is queued under its own time, and is marked
 pub record IsQueued (g : GraphData) (ids : List ObjectId) (cutoff : Option ℤ) (held : Commits) (x : Waiting) : Type 0 where
   pub complete : IsComplete (commit_in g) ids cutoff x.id
   pub timed : option_map (λ (c : Commit). c.time) (commit_in g x.id) ≡ Some x.time
   pub marked : is_marked held x.id ≡ true
 
--- each commit that was visited is marked, and it waits, or its parents were visited
+-- each visited commit is marked, and it is queued or its parents were visited
 pub record IsWalk (g : GraphData) (ids : List ObjectId) (cutoff : Option ℤ) (w : Walk) : Type 0 where
   pub marking : IsMarking g ids cutoff w.held
   pub queued : All (IsQueued g ids cutoff w.held) w.waiting
@@ -57,11 +57,10 @@ pub record IsWalk (g : GraphData) (ids : List ObjectId) (cutoff : Option ℤ) (w
   pub closed : (id : ObjectId) → w.visited id ≡ true → IsSome (commit_in g id) → (waits w.waiting id ≡ true)
       ⊎ IsExpanded g cutoff w.visited id
 
--- each of these ids is looked for
+-- each of these ids may be read
 abbrev pub AreDue : GraphData → List ObjectId → Option ℤ → List ObjectId → Type 0
 AreDue g ids cutoff wanted = All (IsDue (commit_in g) ids cutoff) wanted
 
--- each of these ids was visited
 abbrev pub AllVisited : (ObjectId → Bool) → List ObjectId → Type 0
 AllVisited visited wanted = All (λ id. visited id ≡ true) wanted
 
@@ -70,15 +69,15 @@ abbrev pub count : (ObjectId → Bool) → List ObjectId → ℕ
 count p [] = 0
 count p (x ∷ xs) = (if p x then 1 else 0) + count p xs
 
--- the ids of all commits that there are
+-- the ids of the objects and of the held commits
 abbrev pub all_ids : GraphData → List ObjectId
 all_ids g = finite.keys g.objects ++ finite.keys g.held
 
--- how many of them weren't visited
+-- how many of these ids weren't visited
 abbrev pub left : GraphData → (ObjectId → Bool) → ℕ
 left g visited = count (λ q. not (visited q)) (all_ids g)
 
--- the id was visited before, and nothing changes; or its commit is marked and waits, where it is found
+-- a visit: the id was visited before, and nothing changes; or its commit is marked and queued, where it is found
 pub data Visits (objects : Objects) (id : ObjectId) (old new : Walk) : Type 0 where
   again : old.visited id ≡ true → new.held ≡ old.held → ((q : ObjectId) → new.visited q ≡ old.visited q) → new.waiting ≡ old.waiting
       → Visits objects id old new
@@ -86,12 +85,12 @@ pub data Visits (objects : Objects) (id : ObjectId) (old new : Walk) : Type 0 wh
       ≡ (eq_by_cmp id_cmp q id || old.visited q)) → Queues (found_in (graph_of objects old.held) id) id old.waiting new.waiting
       → Visits objects id old new
 
--- to visit some of these ids marks nothing that isn't complete
+-- visits of some of these ids mark only complete commits
 abbrev pub VisitsSome : Objects → List ObjectId → Commits → Commits → Type 0
 VisitsSome objects wanted old new = (g : GraphData) (ids : List ObjectId) (cutoff : Option ℤ) → objects ≡ g.objects
     → AreDue g ids cutoff wanted → IsMarking g ids cutoff old → IsMarking g ids cutoff new
 
--- to visit all of them keeps a walk, also beside others that wait; each commit that then waits is paid for
+-- visits of all these ids keep the invariant, whatever else is queued; each newly queued commit leaves one id less to visit
 pub record VisitsEach (objects : Objects) (wanted : List ObjectId) (old new : Walk) : Type 0 where
   pub walk : (g : GraphData) (ids : List ObjectId) (cutoff : Option ℤ) (others : List Waiting) → objects ≡ g.objects
       → AreDue g ids cutoff wanted → IsWalk g ids cutoff (beside others old) → IsWalk g ids cutoff (beside others new)
@@ -100,28 +99,28 @@ pub record VisitsEach (objects : Objects) (wanted : List ObjectId) (old new : Wa
   pub less : (g : GraphData) → objects ≡ g.objects → OnlyMarks g old.held → OnlyMarks g new.held
       × (left g new.visited + length new.waiting ≤ left g old.visited + length old.waiting)
 
--- ---- which ids a walk asks for
+-- ---- which ids a walk reads
 
 -- an id that wasn't visited, and whose commit isn't held
 abbrev pub IsUnread : Walk → ObjectId → Type 0
 IsUnread w id = (w.visited id ≡ false) × (finite.get w.held id ≡ None)
 
--- ids that are looked for, and whose commits weren't held at the start
+-- each id that was read may be read, and its commit wasn't held at the start
 abbrev pub AsksDue : GraphData → List ObjectId → Option ℤ → List ObjectId → List ObjectId → Type 0
 AsksDue g ids cutoff start asked = AsksEach (λ q. (finite.get g.held q ≡ None) × IsDue (commit_in g) ids cutoff q) start asked
 
--- and that were visited since
+-- each id that was read may be read, was visited, and its commit wasn't held at the start
 abbrev pub HasAsked : GraphData → List ObjectId → Option ℤ → List ObjectId → (ObjectId → Bool) → List ObjectId → Type 0
 HasAsked g ids cutoff start visited asked =
     AsksEach (λ q. (visited q ≡ true) × (finite.get g.held q ≡ None) × IsDue (commit_in g) ids cutoff q) start asked
 
--- to visit all of some ids asks for no more
+-- visits of all these ids read only such ids
 abbrev pub AsksAll : Objects → List ObjectId → Walk → Walk → List ObjectId → List ObjectId → Type 0
 AsksAll objects wanted old new before after =
     (g : GraphData) (ids : List ObjectId) (cutoff : Option ℤ) (start : List ObjectId) → objects ≡ g.objects → AreDue g ids cutoff wanted
     → OnlyMarks g old.held → HasAsked g ids cutoff start old.visited before → HasAsked g ids cutoff start new.visited after
 
--- nor does it where it was refused
+-- failed visits read only such ids
 abbrev pub AsksSome : Objects → List ObjectId → Walk → List ObjectId → List ObjectId → Type 0
 AsksSome objects wanted old before after =
     (g : GraphData) (ids : List ObjectId) (cutoff : Option ℤ) (start : List ObjectId) → objects ≡ g.objects → AreDue g ids cutoff wanted

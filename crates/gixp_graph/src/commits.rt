@@ -30,7 +30,7 @@ pub(crate) struct Node {
     end: usize,
 }
 
-// The number of an id, which gets one if it has none.
+// Returns the number of an id. An id without a number gets the next one.
 fn number_of(
     nodes: &mut Vec<Node>,
     numbers: &mut Numbers,
@@ -59,7 +59,7 @@ fn number_of(
     Ok(number)
 }
 
-// The numbers of a node's parents, none where it wasn't found.
+// The numbers of a node's parents. Empty for a commit that wasn't found.
 fn parents_of<'a>(node: &Node, parents: &'a [usize]) -> &'a [usize]
     requires { IsInRange parents.now node.now }
     ensures { result.now ≡ parent_numbers_of parents.now node.now }
@@ -71,7 +71,6 @@ fn parents_of<'a>(node: &Node, parents: &'a [usize]) -> &'a [usize]
     }
 }
 
-// The ids that some numbers name.
 fn ids_named(alloc: Global, nodes: &[Node], numbers: &[usize]) -> Result<Vec<ObjectId>, AllocError>
     requires { AllNamed (ids_of nodes.now) numbers.now }
     ensures { IfOk result (λ ids. ids.items ≡ ids_at (ids_of nodes.now) numbers.now) }
@@ -91,7 +90,7 @@ pub(crate) struct Commits {
     parents: Vec<usize>,
     // The number that was looked up last: its commit is often asked for next.
     last: usize,
-    // The number of the last parent of the commit that was held last: it is often looked up next.
+    // The number of the last parent of the commit that was inserted last: it is often looked up next.
     parent: usize,
 }
 
@@ -110,7 +109,7 @@ impl Model for Commits {
 }
 
 impl Commits {
-    /// No commits.
+    /// Creates an empty store of commits.
     pub fn new(alloc: Global) -> Self
         ensures { result ≡ record { held = finite.empty; ids = [] } }
     {
@@ -123,7 +122,6 @@ impl Commits {
         }
     }
 
-    // Whether a number is that of an id.
     fn names(&self, number: usize, id: &ObjectId) -> bool
         ensures { IsTrue result → (number < length self.now.ids) × (id_at self.now.ids number ≡ id.now) }
     {
@@ -147,7 +145,7 @@ impl Commits {
         self.numbers.find(self.nodes.as_slice(), id)
     }
 
-    /// The number of an id, which gets one if it has none.
+    /// Returns the number of an id. An id without a number gets the next one.
     pub fn number(&mut self, id: &ObjectId) -> Result<usize, AllocError>
         ensures named { IfOk result (λ n. (n < length self.new.ids) × (id_at self.new.ids n ≡ id.now)) }
         ensures held { self.new.held ≡ self.old.held }
@@ -156,7 +154,7 @@ impl Commits {
         number_of(&mut self.nodes, &mut self.numbers, id)
     }
 
-    /// The numbers of some ids, each of which gets one if it has none.
+    /// Returns the numbers of these ids. Each id without a number gets one.
     pub fn numbers(&mut self, alloc: Global, ids: &[ObjectId]) -> Result<Vec<usize>, AllocError>
         ensures named { IfOk result (λ numbers. AllNamed self.new.ids numbers.items × (ids_at self.new.ids numbers.items ≡ ids.now)) }
         ensures held { self.new.held ≡ self.old.held }
@@ -170,7 +168,7 @@ impl Commits {
         Ok(numbers)
     }
 
-    // The time and the marks of the commit of a number, where it is held.
+    // The time and the marks of the commit with this number, where it is held.
     fn get_at(&self, number: usize) -> Option<(i64, Flags)>
         requires { number < length self.now.ids }
         ensures value { result ≡ option_map shown (finite.get self.now.held (id_at self.now.ids number)) }
@@ -194,7 +192,6 @@ impl Commits {
         }
     }
 
-    // The id of a number.
     fn id(&self, number: usize) -> ObjectId
         requires { number < length self.now.ids }
         ensures { result ≡ id_at self.now.ids number }
@@ -202,7 +199,7 @@ impl Commits {
         self.nodes[number].id
     }
 
-    // Holds the commit of a number with no marks.
+    // Inserts the commit with this number, without marks.
     fn hold(&mut self, number: usize, time: i64, parents: &[ObjectId]) -> Result<(), AllocError>
         requires { number < length self.old.ids }
         ensures ok { OnOk result (self.new.held ≡ finite.insert self.old.held (id_at self.old.ids number)
@@ -228,8 +225,8 @@ impl Commits {
         Ok(())
     }
 
-    /// The time and the marks of a commit, after a look at the objects if need be. A commit that is
-    /// found is held from then on.
+    /// The time and the marks of a commit. A commit that isn't held is read from the objects and, where they have it,
+    /// held from then on.
     pub fn lookup<O: Objects>(
         &mut self,
         alloc: Global,
@@ -261,7 +258,7 @@ impl Commits {
         Ok(Some((time, Flags(0))))
     }
 
-    /// The same for the commit of a number.
+    /// `lookup` for the commit with this number.
     pub fn lookup_at<O: Objects>(
         &mut self,
         alloc: Global,
@@ -295,7 +292,7 @@ impl Commits {
         Ok(Some((time, Flags(0))))
     }
 
-    /// The parents of a commit, none where it isn't held.
+    /// The parents of a commit. Empty where it isn't held.
     pub fn parents(&self, alloc: Global, id: &ObjectId) -> Result<Vec<ObjectId>, AllocError>
         ensures { IfOk result (λ parents. parents.items ≡ parents_in self.now.held id.now) }
     {
@@ -305,7 +302,7 @@ impl Commits {
         }
     }
 
-    // The same for the commit of a number.
+    // `parents` for the commit with this number.
     fn parents_at(&self, alloc: Global, number: usize) -> Result<Vec<ObjectId>, AllocError>
         requires { number < length self.now.ids }
         ensures { IfOk result (λ parents. parents.items ≡ parents_in self.now.held (id_at self.now.ids number)) }
@@ -314,7 +311,7 @@ impl Commits {
         ids_named(alloc, self.nodes.as_slice(), parents)
     }
 
-    /// Replaces what a list has by the numbers of the parents of a number's commit.
+    /// Replaces the contents of `parents` with the numbers of this commit's parents.
     pub fn parent_numbers(&self, number: usize, parents: &mut Vec<usize>) -> Result<(), AllocError>
         requires { number < length self.now.ids }
         ensures named { OnOk result (AllNamed self.now.ids parents.new.items) }
@@ -324,7 +321,7 @@ impl Commits {
         parents.extend_from_slice(parents_of(&self.nodes[number], self.parents.as_slice()))
     }
 
-    /// Adds marks to a commit that is held.
+    /// Adds marks to a held commit. Returns false where it isn't held.
     pub fn insert_flags(&mut self, id: &ObjectId, flags: Flags) -> bool
         ensures held { IsTrue result ↔ IsSome (finite.get self.old.held id.now) }
         ensures flagged { self.new.held ≡ flagged self.old.held id.now flags }
@@ -335,7 +332,7 @@ impl Commits {
         }
     }
 
-    /// The same for the commit of a number.
+    /// `insert_flags` for the commit with this number.
     pub fn insert_flags_at(&mut self, number: usize, flags: Flags) -> bool
         requires { number < length self.old.ids }
         ensures held { IsTrue result ↔ IsSome (finite.get self.old.held (id_at self.old.ids number)) }

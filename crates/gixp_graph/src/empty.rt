@@ -8,7 +8,7 @@ use bstr::BStr;
 use gixp_hash::ObjectId;
 use std::alloc::Global;
 
-/// No objects.
+/// An object store without objects.
 #[derive(Clone, Copy, Debug)]
 pub struct NoObjects;
 
@@ -34,7 +34,7 @@ impl Objects for NoObjects {
     }
 }
 
-/// No refs.
+/// A ref store without refs.
 #[derive(Clone, Copy, Debug)]
 pub struct NoRefs;
 

@@ -3,19 +3,19 @@ ghost use Rattle.std.specs.Prelude.{⊤, ◌≡◌, [], ◌∷◌, codes};
 
 use bitflags::{Flag, bitflag_items};
 
-/// What is known of a commit: a set of marks, as the bits of a number. A graph only keeps them.
+/// A set of marks of a commit, one bit each. A graph stores them, and sets only COMPLETE itself.
 #[derive(Clone, Copy, Debug, PartialEq, Eq)]
 pub struct Flags(pub u8);
 
 bitflag_items! {
     impl Flags: u8 {
-        /// The repository has it for certain: a local ref leads to it, through commits from the cutoff on.
+        /// The repository has it for certain: a local ref leads to it, through commits that aren't older than the cutoff.
         const COMPLETE = 1;
         /// The server has it.
         const COMMON = 2;
         /// The server has it, as a ref that it advertised.
         const COMMON_REF = 4;
-        /// A negotiator has come across it.
+        /// A negotiator has seen it.
         const SEEN = 8;
         /// A negotiator has taken it from its queue.
         const POPPED = 16;

@@ -20,7 +20,7 @@ use std::marker::Model;
 
 /// Commits that were looked up, with their marks, over the objects of a repository.
 ///
-/// What it holds is what the objects have.
+/// Each held commit is equal to the commit that the objects have.
 #[derive(Drop)]
 pub struct Graph<O: Objects> {
     alloc: Global,
@@ -68,25 +68,25 @@ impl<O: Objects> Graph<O> {
         self.commits.get(id)
     }
 
-    /// The time and the marks of a commit, after a look at the objects if need be: none where they
-    /// have no such commit. A commit that is found is held from then on, at first with no marks.
+    /// The time and the marks of a commit. A commit that isn't held is read from the objects; where they have it, the
+    /// graph holds it from then on, at first without marks. Returns `None` where they have no such commit.
     ///
     /// # Errors
     ///
-    /// Why the objects can't be read. The commits held and their marks stay as they were.
+    /// Why the objects can't be read. The held commits and their marks stay the same.
     pub fn lookup(&mut self, id: &ObjectId) -> Result<Option<(i64, Flags)>, ObjectError>
         ensures found { IfOk result (λ found. found ≡ option_map shown (found_in self.old.graph id.now)) }
 
-        // Its time is that of the objects' commit, and a commit is found just where they have one.
+        // The time is the time of the objects' commit. A commit is found exactly where the objects have one.
         ensures time { IfOk result (λ found. shown_time found ≡ time_at self.old.graph.objects id.now) }
         ensures ok { OnOk result (self.new.graph ≡ graph_of self.old.graph.objects (looked_up self.old.graph id.now)) }
         ensures err { OnErr result (self.new.graph ≡ self.old.graph) }
         ensures faithful { IsFaithful self.old.graph }
 
-        // A commit that is held isn't read again.
+        // A held commit isn't read again.
         ensures asked { AsksWhere (finite.get self.old.graph.held id.now ≡ None) id.now self.old.asked self.new.asked }
 
-        // The error is that of the objects, or an allocation failed and they were refused nothing.
+        // The error is the objects' error; or an allocation failed, and no call of the objects did.
         ensures unrefused { OnOk result (self.new.refusals ≡ self.old.refusals) }
         ensures refused { IfErr result (λ e. TellsRefusal e self.old.refusals self.new.refusals) }
         ensures failures { self.old.failures ≤ self.new.failures }
@@ -95,14 +95,14 @@ impl<O: Objects> Graph<O> {
         self.commits.lookup(self.alloc, &mut self.objects, id)
     }
 
-    /// The ids of the parents of a commit that is held, in its order: none where it isn't held.
+    /// The ids of the parents of a held commit, in the commit's order. Empty where the commit isn't held.
     pub fn parents(&self, alloc: Global, id: &ObjectId) -> Result<Vec<ObjectId>, AllocError>
         ensures { IfOk result (λ parents. parents.items ≡ parents_in self.now.graph.held id.now) }
     {
         self.commits.parents(alloc, id)
     }
 
-    /// Adds marks to a commit that is held. Where it isn't held, the answer is false and nothing changes.
+    /// Adds marks to a held commit. Returns false and changes nothing where it isn't held.
     pub fn insert_flags(&mut self, id: &ObjectId, flags: Flags) -> bool
         ensures held { IsTrue result ↔ IsSome (finite.get self.old.graph.held id.now) }
         ensures flagged { self.new.graph ≡ graph_of self.old.graph.objects (flagged self.old.graph.held id.now flags) }
@@ -113,45 +113,45 @@ impl<O: Objects> Graph<O> {
         self.commits.insert_flags(id, flags)
     }
 
-    /// Marks as complete the commits of these ids that are found and, where there is a cutoff (in
-    /// seconds since the epoch), the parents that are found of each commit so marked whose own time
-    /// is at least the cutoff. Times may run backwards.
+    /// Marks as complete the commits of these ids that the objects have. With a cutoff (in seconds since the epoch) it
+    /// also marks the parents that the objects have of each commit so marked whose own time is at least the cutoff. Times may
+    /// run backwards: a parent may be newer than its child.
     ///
-    /// A commit that had the mark before keeps it, and is walked through where it is complete: so a
-    /// later call with an earlier cutoff, or one after an error, marks all that is complete.
+    /// A commit that had the mark before keeps it. Where it is complete, the walk passes through it. So a later call
+    /// with an earlier cutoff, or a call after an error, marks every complete commit.
     ///
     /// # Errors
     ///
-    /// Why the objects can't be read. What was looked up and marked so far stays, each of it complete.
+    /// Why the objects can't be read. The commits looked up and marked so far stay; each of them is complete.
     pub fn mark_complete(
         &mut self,
         ids: &[ObjectId],
         cutoff: Option<i64>,
     ) -> Result<(), ObjectError>
-        // Just what was marked before and the least such set is marked.
+        // The marked commits are the complete ones and those that were marked before.
         ensures complete { OnOk result ((id : ObjectId) → IsTrue (is_marked self.new.graph.held id)
             ↔ (IsTrue (is_marked self.old.graph.held id) ⊎ IsComplete (commit_at self.old.graph.objects) ids.now cutoff id)) }
 
-        // Each complete commit is held, the ids that are found among them.
+        // Each complete commit is held.
         ensures reads { OnOk result ((id : ObjectId) → IsComplete (commit_at self.old.graph.objects) ids.now cutoff id
             → IsSome (finite.get self.new.graph.held id)) }
 
-        // Also after a refusal, only complete commits are held that weren't before.
+        // Also after an error, each commit that is newly held is complete.
         ensures held { (id : ObjectId) → IsSome (finite.get self.new.graph.held id) → IsSome (finite.get self.old.graph.held id)
             ⊎ IsComplete (commit_at self.old.graph.objects) ids.now cutoff id }
 
-        // Nor is another mark changed, and what was marked is complete.
+        // No other mark changes, and each newly marked commit is complete.
         ensures only_marks { OnlyMarks self.old.graph self.new.graph.held }
         ensures sound { (id : ObjectId) → IsTrue (is_marked self.new.graph.held id) → IsTrue (is_marked self.old.graph.held id)
             ⊎ IsComplete (commit_at self.old.graph.objects) ids.now cutoff id }
         ensures objects { self.new.graph.objects ≡ self.old.graph.objects }
 
-        // No commit is read twice, and none but those that aren't held and that may be complete: of the
-        // ids, and of the parents of each complete commit from the cutoff on.
+        // No commit is read twice. Only ids are read whose commits aren't held and that may be complete: the given ids,
+        // and the parents of each complete commit whose time is at least the cutoff.
         ensures asked { AsksEach (λ id. (finite.get self.old.graph.held id ≡ None)
             × IsDue (commit_at self.old.graph.objects) ids.now cutoff id) self.old.asked self.new.asked }
 
-        // The error is that of the objects, or an allocation failed and they were refused nothing.
+        // The error is the objects' error; or an allocation failed, and no call of the objects did.
         ensures unrefused { OnOk result (self.new.refusals ≡ self.old.refusals) }
         ensures refused { IfErr result (λ e. TellsRefusal e self.old.refusals self.new.refusals) }
         ensures failures { self.old.failures ≤ self.new.failures }

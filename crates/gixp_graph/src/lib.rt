@@ -1,4 +1,4 @@
-//! The commit graph of a negotiation: commits held, their marks, and the walk that marks what is complete.
+//! The commit graph of a negotiation: held commits, their marks, and the walk that marks the complete ones.
 #![tactic(auto)]
 
 mod commits;

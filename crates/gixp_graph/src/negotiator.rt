@@ -1,4 +1,4 @@
-//! What a negotiation asks of the one who chooses the haves.
+//! The trait of negotiators, which choose the haves of a negotiation.
 ghost use Rattle.std.specs.Prelude.{◌≡◌, ◌≤◌, ◌<◌, Bool, true, false, Some, None, IfOk, IfErr, OnOk, OnErr, IfSome, IfNone};
 ghost use Rattle.gixp_hash.specs.declared.object_id.ObjectId.{ObjectId};
 ghost use Rattle.gixp_graph.specs.GraphData.{GraphData};
@@ -53,28 +53,28 @@ impl From<ObjectError> for NegotiatorError {
 
 /// Chooses the commits to offer as haves (gitprotocol-pack, "Packfile Negotiation").
 ///
-/// Each call says what it does as a relation of the negotiator and the graph before and after it, a field of
-/// `calls`, in which a graph stands as plain data. No call changes what the graph's objects mean. What a
-/// refused call leaves is a relation too, by its error; an implementation may leave all open there
-/// (`AnyCallLeft`, `AnyOfferLeft`). Contracts of the calls above say by it that nothing was done after a refusal.
+/// Each call states what it does as a relation, a field of `calls`, between the negotiator and the graph before and
+/// after it. In these relations a graph is plain data. No call changes what the graph's objects mean. Another relation
+/// states, by the error, what a failed call leaves; an implementation may leave everything open there (`AnyCallLeft`,
+/// `AnyOfferLeft`). Contracts of the callers use it to say that nothing was done after an error.
 ///
-/// An implementation may pass over a look-up that the graph refused, as over a commit that isn't there. One that
-/// promises not to (`reports_refusals`) fails with that very error, unless it fails itself, and counts it.
+/// An implementation may ignore a failed look-up of the graph, as if the commit were missing. One that promises not
+/// to (`reports_refusals`) returns that very error, unless the negotiator itself fails and counts its failure.
 ///
-/// The law: there is a count of the haves that it may still offer, which each offer lowers, and which
-/// neither `in_common_with_remote` nor a `next_have` with no offer raises.
+/// The law: a negotiator has a count of the haves that it may still offer. Each offer lowers it. Neither
+/// `in_common_with_remote` nor a `next_have` without an offer raises it.
 pub trait Negotiator {
-    /// What its calls do, what refused ones leave, how many haves it may still offer, and how many calls have failed.
+    /// What its calls do, what failed calls leave, how many haves it may still offer, and how many calls have failed.
     ghost calls: { NegotiatorCalls Self };
 
-    /// Whether it is promised that a call in which the graph refused a look-up fails with that error.
+    /// Whether the implementation promises that a call in which a look-up of the graph failed returns that error.
     ghost reports_refusals: { Bool } = { false };
 
-    /// Tells it of a commit that both sides have, before the first have.
+    /// Reports a commit that both sides have. Called before the first have.
     ///
     /// # Errors
     ///
-    /// Why it can't go on. What it and the graph are then is for the implementation to say.
+    /// Why the negotiator can't go on. The implementation defines how the call leaves it and the graph.
     fn known_common<O: Objects>(
         &mut self,
         id: ObjectId,
@@ -91,11 +91,11 @@ pub trait Negotiator {
         ensures cause { reports_refusals ≡ true → IfErr result (λ e. TellsCause (calls.failures self.old)
             (calls.failures self.new) e graph.old.refusals graph.new.refusals) };
 
-    /// Adds a commit to begin from.
+    /// Adds a commit where the negotiation starts.
     ///
     /// # Errors
     ///
-    /// Why it can't go on. What it and the graph are then is for the implementation to say.
+    /// Why the negotiator can't go on. The implementation defines how the call leaves it and the graph.
     fn add_tip<O: Objects>(
         &mut self,
         id: ObjectId,
@@ -112,11 +112,11 @@ pub trait Negotiator {
         ensures cause { reports_refusals ≡ true → IfErr result (λ e. TellsCause (calls.failures self.old)
             (calls.failures self.new) e graph.old.refusals graph.new.refusals) };
 
-    /// Tells it of a have that the server has too.
+    /// Reports a have that the server has too.
     ///
     /// # Errors
     ///
-    /// Why it can't go on. The count isn't raised then either.
+    /// Why the negotiator can't go on. The count of haves isn't raised then either.
     fn in_common_with_remote<O: Objects>(
         &mut self,
         id: ObjectId,
@@ -134,11 +134,11 @@ pub trait Negotiator {
         ensures cause { reports_refusals ≡ true → IfErr result (λ e. TellsCause (calls.failures self.old)
             (calls.failures self.new) e graph.old.refusals graph.new.refusals) };
 
-    /// The next commit to offer, none where it has no more.
+    /// The next commit to offer as a have. `None` where there are no more.
     ///
     /// # Errors
     ///
-    /// Why it can't go on. What it and the graph are then is for the implementation to say.
+    /// Why the negotiator can't go on. The implementation defines how the call leaves it and the graph.
     fn next_have<O: Objects>(
         &mut self,
         graph: &mut Graph<O>,
@@ -161,11 +161,11 @@ pub trait Negotiator {
     ghost offer_lowers: { (n : Self) (g : GraphData) (id : ObjectId) (m : Self) (h : GraphData) → calls.offers n g (Some id) m h
         → calls.count m h < calls.count n g };
 
-    /// Where there is no offer, it isn't raised.
+    /// A call without an offer doesn't raise it.
     ghost none_keeps: { (n : Self) (g : GraphData) (m : Self) (h : GraphData) → calls.offers n g None m h
         → calls.count m h ≤ calls.count n g };
 
-    /// Nor is it by what the server has.
+    /// Neither does `in_common_with_remote`.
     ghost learning_keeps: { (n : Self) (g : GraphData) (id : ObjectId) (m : Self) (h : GraphData) → calls.learns n g id m h
         → calls.count m h ≤ calls.count n g };
 }

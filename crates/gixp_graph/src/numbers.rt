@@ -1,4 +1,4 @@
-//! The numbers of ids.
+//! Finds the number of an id.
 ghost use Rattle.std.specs.Prelude.{◌≡◌, ◌<◌, ◌↔◌, ℕ, [], IsTrue, IsFalse, IfSome, IfNone, OnOk, length};
 ghost use Rattle.gixp_graph.specs.Node.{ids_of};
 ghost use Rattle.gixp_graph.specs.Slots.{tag_of, place_of, IsTaken, IsReached, IsNumbered, IsNew, IsNoOther, Keeps};
@@ -11,16 +11,16 @@ use gixp_hash::ObjectId;
 use std::alloc::{AllocError, Global};
 use std::collections::BTreeMap;
 
-// How many slots an id may stand in. Whoever chooses ids can make no look-up longer.
+// How many slots an id's number may be in. This bounds each look-up, whoever chooses the ids.
 const WINDOW: usize = 16;
 
-// The first mask.
+// The mask of the smallest table.
 const FEWEST: usize = 63;
 
-// The most that `end` of a slot says.
+// Numbers from here on aren't stored in slots.
 const LIMIT: usize = u32::MAX as usize;
 
-/// A place for the number of an id.
+/// A slot for the number of an id.
 #[derive(Clone, Copy)]
 pub(crate) struct Slot {
     // The id's first bytes.
@@ -29,10 +29,10 @@ pub(crate) struct Slot {
     end: u32,
 }
 
-/// The numbers of ids, each of which stands in its node.
+/// Numbers by id. The ids themselves are in the nodes.
 ///
-/// An id's number is in the first slot, from the one that its first bytes say, that is free or has those
-/// bytes. Where that one has another id's, or all of the window have, it is in an ordered map.
+/// The first bytes of an id choose its first slot. The id's number is in the first slot from there on that is free
+/// or has those bytes. Where that slot has another id's number, or the whole window is taken, it is in an ordered map.
 #[derive(Drop)]
 pub(crate) struct Numbers {
     alloc: Global,
@@ -66,7 +66,7 @@ fn place(slots: &[Slot], mask: usize, tag: u32) -> Option<usize>
     None
 }
 
-// Whether a number is that of a node with an id.
+// Whether the node with this number has this id.
 fn is_named(nodes: &[Node], number: usize, id: &ObjectId) -> bool
     ensures { IsTrue result ↔ ((number < length (ids_of nodes.now)) × (id_at (ids_of nodes.now) number ≡ id.now)) }
 {
@@ -77,7 +77,7 @@ fn is_named(nodes: &[Node], number: usize, id: &ObjectId) -> bool
 }
 
 impl Numbers {
-    /// No numbers.
+    /// Creates an empty map from ids to numbers.
     pub fn new(alloc: Global) -> Self
         ensures slots { result.slots.items ≡ [] }
         ensures others { result.others.entries ≡ [] }
@@ -122,7 +122,7 @@ impl Numbers {
         self.other(nodes, id)
     }
 
-    // Writes the number of an id into its slot, if that is free. Returns whether it is there.
+    // Writes the number of an id into its slot, if that is free. Returns whether the slot then has the number.
     fn write(&mut self, id: &ObjectId, number: usize) -> bool
         ensures kept { (q : ObjectId) (n : ℕ) → IsReached self.old q n → IsReached self.new q n }
         ensures placed { IsTrue result → IsReached self.new id.now number }
@@ -140,12 +140,12 @@ impl Numbers {
             self.slots[index] = Slot { tag, end };
             return true;
         }
-        // No number that fits is that of this id: the slot says no more than that the id may be in the map.
+        // A number this large doesn't fit. The slot is filled with one that isn't the id's, so a look-up goes on to the map.
         self.slots[index] = Slot { tag, end: u32::MAX };
         false
     }
 
-    // Writes the number of an id.
+    // Writes the number of an id into its slot, else into the map.
     fn put(&mut self, id: &ObjectId, number: usize) -> Result<(), AllocError>
         ensures kept { Keeps self.old self.new id.now }
         ensures reached { OnOk result (IsReached self.new id.now number) }
@@ -159,7 +159,7 @@ impl Numbers {
         }
     }
 
-    // Writes the numbers of all nodes into more slots, where half of the slots may be taken.
+    // Doubles the slots where half of them may be taken, and writes the numbers of all nodes again.
     fn grow(&mut self, nodes: &[Node]) -> Result<(), AllocError>
         requires once { IsOneToOne (ids_of nodes.now) }
         requires numbered { IsNumbered (ids_of nodes.now) self.old }
@@ -182,7 +182,7 @@ impl Numbers {
         Ok(())
     }
 
-    /// Writes the number that a node with this id is to have, as the next one.
+    /// Writes the number of this id, whose node is the next one.
     pub fn insert(&mut self, nodes: &[Node], id: &ObjectId) -> Result<(), AllocError>
         requires once { IsOneToOne (ids_of nodes.now) }
         requires numbered { IsNumbered (ids_of nodes.now) self.old }

@@ -1,4 +1,4 @@
-//! What a repository hands in: its objects.
+//! The trait of a repository's objects.
 ghost use Rattle.std.specs.Prelude.{◌≡◌, ℕ, ◌≤◌, ◌⊎◌, List, [], None, IfOk, IfErr, OnOk, option_map};
 ghost use Rattle.std.specs.FinMap as map;
 ghost use Rattle.gixp_hash.specs.declared.object_id.ObjectId.{ObjectId};
@@ -23,7 +23,7 @@ pub enum ObjectKind {
     Tag,
 }
 
-/// What the graph reads of a commit.
+/// The parts of a commit that the graph reads.
 #[derive(Debug, Drop)]
 pub struct CommitData {
     /// Seconds since the epoch by the committer's clock. Clocks may run backwards from parent to child.
@@ -32,13 +32,13 @@ pub struct CommitData {
     pub parents: Vec<ObjectId>,
 }
 
-/// Why an object can't be read. Nothing that a graph holds is lost by it.
+/// Why an object can't be read. A graph keeps all that it holds.
 #[derive(Clone, Copy, Debug, PartialEq, Eq, Drop, Error)]
 pub enum ObjectError {
     /// An I/O error, with its kind.
     #[error("Io")]
     Io(io::ErrorKind),
-    /// The object isn't what its name or its kind says.
+    /// The object's contents don't match its name or its kind.
     #[error("Corrupt")]
     Corrupt,
     /// An allocation failed.
@@ -64,34 +64,33 @@ impl<T: Drop> From<AllocFailed<T>> for ObjectError {
 
 /// The objects of a repository: a finite map from ids to objects, which no call changes.
 ///
-/// A call may fail, and then raises a count of failures, unless it ran out of memory.
+/// A call may fail. It then raises a count of failures, unless an allocation failed.
 ///
-/// Contracts of the calls above say for which ids a commit is read, by a list that a call adds at most
-/// its id to. An implementation need not write it down: by default the list is empty. Nor need it write
-/// down which errors its calls returned; where it does, an error of a call above is one of these.
+/// `asked` lists the ids that `commit` was called with: contracts of the callers say by it which commits are read. `refusals`
+/// lists the errors of the failed calls: where it is recorded, an error of a caller is one of these. An implementation need
+/// not record either. By default `asked` is empty and `refusals` is none.
 pub trait Objects {
-    /// The map.
+    /// The objects by their ids.
     ghost contents: { Self → ObjectMap };
 
     /// How many calls have failed so far.
     ghost failures: { Self → ℕ };
 
-    /// The ids that `commit` was called with so far, as far as they are written down.
+    /// The ids that `commit` was called with so far, where they are recorded.
     ghost asked: { Self → List ObjectId } = { λ _. [] };
 
-    /// The errors of the calls that were refused so far, where they are written down.
+    /// The errors of the failed calls so far, where they are recorded.
     ghost refusals: { Self → Written ObjectError } = { λ _. None };
 
-    /// Whether there is an object of this name.
+    /// Whether an object with this id exists.
     fn exists(&self, id: &ObjectId) -> bool
         ensures { result ≡ map.contains_key (contents self.now) id.now };
 
-    /// The kind of the object of this name: none where there is no such object, or where its kind
-    /// can't be read.
+    /// The kind of the object with this id. `None` where no such object exists, or where its kind can't be read.
     fn kind(&self, id: &ObjectId) -> Option<ObjectKind>
         ensures { result ≡ kind_at (contents self.now) id.now };
 
-    /// The commit of this name: none where there is no such object, or where it is no commit.
+    /// The commit with this id. `None` where no such object exists, or where it isn't a commit.
     ///
     /// # Errors
     ///
@@ -106,7 +105,7 @@ pub trait Objects {
         ensures failed { IfErr result (λ e. (e ≡ Memory) ⊎ HasRisen (failures self.old) (failures self.new)) };
 }
 
-/// Boxed objects: each call goes to those inside.
+/// Boxed objects forward each call.
 impl Objects for Box<dyn Objects + Drop> {
     ghost contents = { λ b. (Objects-box b).contents b.value };
 

@@ -1,4 +1,4 @@
-//! A queue by time.
+//! A priority queue of nodes, the newest first.
 ghost use Rattle.std.specs.Prelude.{◌≡◌, ◌≤ℤ◌, ◌⊎◌, IfSome, IfNone, OnOk, [], ◌∷◌, All};
 ghost use Rattle.std.specs.List.Sorted.{IsPermutation};
 ghost use Rattle.gixp_graph.specs.Queue.{entry_at};
@@ -7,17 +7,17 @@ use crate::times::Times;
 use std::alloc::{AllocError, Global};
 use std::marker::Model;
 
-/// A node number that waits, with a time.
+/// A queued node number with its time.
 #[derive(Clone, Copy)]
 pub(crate) struct Entry {
     pub time: i64,
     pub number: usize,
 }
 
-/// Node numbers that wait, by time.
+/// A queue of node numbers, the newest first.
 ///
-/// The newest may stand before the map of the others: most commits of a history are taken right after they came, and so never come
-/// into the map.
+/// The newest number may be stored apart from the map of the others. Most commits of a history are taken right after they
+/// were added, and so never enter the map.
 #[derive(Drop)]
 pub(crate) struct TimeQueue {
     newest: Option<Entry>,
@@ -36,7 +36,6 @@ impl Model for TimeQueue {
     ghost invariant = { λ a. StandsFirst a.newest a.others };
 }
 
-// Two entries, the newer one first.
 fn newer_first(a: Entry, b: Entry) -> (Entry, Entry)
     ensures both { (result ≡ (a, b)) ⊎ (result ≡ (b, a)) }
     ensures newer { result.1.time ≤ℤ result.0.time }
@@ -45,7 +44,7 @@ fn newer_first(a: Entry, b: Entry) -> (Entry, Entry)
 }
 
 impl TimeQueue {
-    /// An empty queue.
+    /// Creates an empty queue.
     pub fn new(alloc: Global) -> Self
         ensures { result ≡ [] }
     {
@@ -55,7 +54,7 @@ impl TimeQueue {
         }
     }
 
-    /// Adds a number. After an error what waited may be gone.
+    /// Adds a number. An error may lose queued numbers.
     pub fn push(&mut self, time: i64, number: usize) -> Result<(), AllocError>
         ensures { OnOk result (IsPermutation (entry_at time number ∷ self.old) self.new) }
     {
@@ -74,7 +73,7 @@ impl TimeQueue {
         Ok(())
     }
 
-    /// Takes an entry of the greatest time.
+    /// Takes an entry with the greatest time.
     pub fn pop_newest(&mut self) -> Option<Entry>
         ensures taken { IfSome result (λ newest. IsPermutation self.old (newest ∷ self.new)) }
         ensures newest { IfSome result (λ newest. All (λ e. e.time ≤ℤ newest.time) self.new) }

@@ -1,4 +1,4 @@
-//! What a repository hands in: its refs.
+//! The trait of a repository's refs.
 ghost use Rattle.std.specs.Prelude.{◌≡◌, ℕ, ◌≤◌, ◌⊎◌, List, Option, Some, None, IfOk, IfErr, OnOk};
 ghost use Rattle.std.specs.Ordering.{nat_cmp};
 ghost use Rattle.std.specs.Cmp.Lexicographic.{slice_cmp};
@@ -16,7 +16,7 @@ use std::alloc::{AllocError, AllocFailed, Global};
 use std::io;
 use thiserror::Error;
 
-/// Why the refs can't be read. No ref is changed by it.
+/// Why the refs can't be read. No ref changes.
 #[derive(Clone, Copy, Debug, PartialEq, Eq, Drop, Error)]
 pub enum RefStoreError {
     /// The file of packed refs can't be opened (git-pack-refs).
@@ -25,7 +25,7 @@ pub enum RefStoreError {
     /// The refs can't be listed.
     #[error("Iter")]
     Iter,
-    /// A ref can't be followed to an object that is no tag.
+    /// A ref can't be peeled to an object that isn't a tag.
     #[error("Peel")]
     Peel,
     /// An I/O error, with its kind.
@@ -52,32 +52,29 @@ impl<T: Drop> From<AllocFailed<T>> for RefStoreError {
     }
 }
 
-/// The refs of a repository: a finite map from full names to ids, and the list of what all refs
-/// peel to. No call changes either.
+/// The refs of a repository: a finite map from full names to ids, and the list of the ids that all refs peel to. No
+/// call changes either.
 ///
-/// A call may fail, and then raises a count of failures, unless it ran out of memory. What the listings
-/// returned may be written down: contracts of the calls above then say which stores are listed, in which
-/// order, and what they return.
+/// A call may fail. It then raises a count of failures, unless an allocation failed. The results of the listings may
+/// be recorded (`listings`): contracts of the callers then say which stores are listed, in which order, with which result.
 pub trait RefStore {
-    /// The refs that hold an id, by their full names.
+    /// The ids of the refs that aren't symbolic, by full name.
     ghost refs: { Self → map.FinMap (slice_cmp nat_cmp) ObjectId };
 
-    /// What the refs peel to, in the order of their listing.
+    /// The ids that the refs peel to, in the order of the listing.
     ghost targets: { Self → List ObjectId };
 
     /// How many calls have failed so far.
     ghost failures: { Self → ℕ };
 
-    /// What each call of `peeled` answered so far, where that is written down: its error, or none where
-    /// it listed them.
+    /// The result of each call of `peeled` so far, where it is recorded: its error, or none where it succeeded.
     ghost listings: { Self → Written (Option RefStoreError) } = { λ _. None };
 
-    /// The id that the ref of this full name holds: none where there is no such ref, or where it
-    /// holds the name of another.
+    /// The id of the ref with this full name. `None` where no such ref exists, or where it is symbolic.
     fn find(&self, name: BStr<'_>) -> Option<ObjectId>
         ensures { result ≡ map.get (refs self.now) (bstr_bytes name.entry) };
 
-    /// The ids of the objects that the refs lead to after all tags, in the order of their listing.
+    /// The ids of the objects that the refs peel to, through all tags, in the order of the listing.
     ///
     /// # Errors
     ///

@@ -1,4 +1,4 @@
-//! Objects over a shared reference: one repository serves a graph and whoever else reads it.
+//! Objects over a shared reference: a graph and other readers use the same repository.
 ghost use Rattle.std.specs.Prelude.{◌≡◌, ◌≤◌, ◌⊎◌, ⊤, [], None, IfOk, IfErr, OnOk, option_map};
 ghost use Rattle.std.specs.FinMap as map;
 ghost use Rattle.gixp_hash.specs.declared.object_id.ObjectId.{ObjectId};
@@ -11,24 +11,24 @@ use crate::objects::{CommitData, ObjectError, ObjectKind, Objects};
 use gixp_hash::ObjectId;
 use std::alloc::Global;
 
-/// The objects of a repository whose reads change nothing of the value: a finite map from ids to objects. `Shared`
-/// makes `Objects` of a reference to them, as often as need be.
+/// The objects of a repository that can be read over a shared reference: a finite map from ids to objects. `Shared`
+/// implements `Objects` over such a reference. Any number of them may exist.
 pub trait Find {
-    /// The map.
+    /// The objects by their ids.
     ghost contents: { Self → ObjectMap };
 
-    /// Which errors a read of an id may end in: any, unless an implementation says which.
+    /// The errors that a read of an id may return: any, unless an implementation restricts them.
     ghost refuses: { Self → ObjectId → ObjectError → Type 0 } = { λ _ _ _. ⊤ };
 
-    /// Whether there is an object of this name.
+    /// Whether an object with this id exists.
     fn has_object(&self, id: &ObjectId) -> bool
         ensures { result ≡ map.contains_key (contents self.now) id.now };
 
-    /// The kind of the object of this name: none where there is no such object, or where its kind can't be read.
+    /// The kind of the object with this id. `None` where no such object exists, or where its kind can't be read.
     fn find_kind(&self, id: &ObjectId) -> Option<ObjectKind>
         ensures { result ≡ kind_at (contents self.now) id.now };
 
-    /// The commit of this name: none where there is no such object, or where it is no commit.
+    /// The commit with this id. `None` where no such object exists, or where it isn't a commit.
     ///
     /// # Errors
     ///
@@ -40,8 +40,8 @@ pub trait Find {
 
 /// The objects of a repository over a shared reference to it.
 ///
-/// Any number of them read one repository: one that a graph owns, and another for `NegotiateContext`. Each counts the
-/// calls that it saw fail for another reason than an allocation.
+/// Any number of them may read one repository: for example one that a graph owns, and another for
+/// `NegotiateContext`. Each counts its own failed calls, except allocation failures.
 #[derive(Drop)]
 pub struct Shared<'a, F> {
     objects: &'a F,
@@ -49,7 +49,7 @@ pub struct Shared<'a, F> {
 }
 
 impl<'a, F> Shared<'a, F> {
-    /// These objects; no call has failed.
+    /// Reads these objects. No call has failed yet.
     pub fn new(objects: &'a F) -> Shared<'a, F>
         ensures objects { result.objects.now ≡ objects.now }
         ensures failures { result.failures ≡ 0 }
@@ -83,10 +83,10 @@ impl<F: Find> Objects for Shared<'_, F> {
         ensures objects { self.new.objects.now ≡ self.old.objects.now }
         ensures failures { self.old.failures ≤ self.new.failures }
 
-        // Its error is one that the read of this id may end in.
+        // The error is one that a read of this id may return.
         ensures told { IfErr result (λ e. F.refuses self.old.objects.now id.now e) }
 
-        // Counted is each error but that of an allocation, and no success.
+        // Each error is counted, except an allocation failure. A success isn't counted.
         ensures counted { IfErr result (λ e. (e ≡ Memory) ⊎ HasRisen self.old.failures self.new.failures) }
         ensures uncounted { OnOk result (self.new.failures ≡ self.old.failures) }
         ensures memory { IfErr result (λ e. e ≡ Memory → self.new.failures ≡ self.old.failures) }

@@ -10,7 +10,7 @@ use std::alloc::{AllocError, Global};
 use std::collections::BTreeMap;
 use std::marker::Model;
 
-/// A list of node numbers: its first one, and where the next stands among the links.
+/// A list of node numbers: the first one, and the index of the link with the next.
 #[derive(Clone, Copy)]
 pub(crate) struct Link {
     number: usize,
@@ -21,9 +21,9 @@ pub(crate) struct Link {
 /// Node numbers by time.
 #[derive(Drop)]
 pub(crate) struct Times {
-    // The numbers of all lists but the first of each. A list goes on at an earlier link.
+    // All numbers, except the first of each list. A list continues at an earlier link.
     links: Vec<Link>,
-    // What is left of the list that was taken last: the greatest time.
+    // The rest of the list that was taken last, with its time, which is the greatest.
     newest: Option<(i64, Link)>,
     lists: BTreeMap<i64, Link>,
 }
@@ -41,7 +41,7 @@ impl Model for Times {
     ghost invariant = { λ a. IsTimes a.links.items a.newest a.lists.entries };
 }
 
-// What is left of a list where its first number is taken.
+// A list without its first number. None where it had no other.
 fn rest_of(links: &[Link], list: (i64, Link)) -> Option<(i64, Link)>
     requires { list.1.next ≤ length links.now }
     ensures { IsRest links.now list result }
@@ -54,7 +54,7 @@ fn rest_of(links: &[Link], list: (i64, Link)) -> Option<(i64, Link)>
     }
 }
 
-// A list with one number more, before the others.
+// Prepends a number to a list.
 fn longer(links: &mut Vec<Link>, number: usize, numbers: Link) -> Result<Link, AllocError>
     ensures links { OnOk result (links.new.items ≡ links.old.items ++ numbers ∷ []) }
     ensures longer { IfOk result (λ more. more ≡ record { number = number; next = length links.old.items + 1 }) }
@@ -67,7 +67,6 @@ fn longer(links: &mut Vec<Link>, number: usize, numbers: Link) -> Result<Link, A
     })
 }
 
-// Writes the list of a time.
 fn put(lists: &mut BTreeMap<i64, Link>, time: i64, numbers: Link) -> Result<(), AllocError>
     ensures ok { OnOk result (lists.new.entries ≡ insert_entry int_cmp lists.old.entries time numbers) }
     ensures err { OnErr result (lists.new.entries ≡ lists.old.entries) }
@@ -89,7 +88,6 @@ fn put_back(newest: Option<(i64, Link)>, lists: &mut BTreeMap<i64, Link>) -> Res
     }
 }
 
-// Adds a number to the list of its time.
 fn add(
     links: &mut Vec<Link>,
     lists: &mut BTreeMap<i64, Link>,
@@ -113,7 +111,7 @@ fn add(
     put(lists, entry.time, more)
 }
 
-// Takes the list of the greatest time: the one beside the map, where there is one.
+// Takes the list of the greatest time: `newest`, else the last of the map.
 fn take_list(newest: Option<(i64, Link)>, lists: &mut BTreeMap<i64, Link>) -> Option<(i64, Link)>
     ensures some { IfSome result (λ list. TakesList newest lists.old.entries list lists.new.entries) }
     ensures none { IfNone result ((newest ≡ None) × (lists.old.entries ≡ []) × (lists.new.entries ≡ [])) }
@@ -125,7 +123,7 @@ fn take_list(newest: Option<(i64, Link)>, lists: &mut BTreeMap<i64, Link>) -> Op
 }
 
 impl Times {
-    /// No numbers.
+    /// Creates an empty collection of times.
     pub fn new(alloc: Global) -> Self
         ensures { result ≡ [] }
     {
@@ -136,7 +134,7 @@ impl Times {
         }
     }
 
-    /// Adds a number. After an error some numbers may be gone.
+    /// Adds a number. An error may lose numbers.
     pub fn push(&mut self, entry: Entry) -> Result<(), AllocError>
         ensures { OnOk result (IsPermutation (entry ∷ self.old) self.new) }
     {
@@ -145,7 +143,6 @@ impl Times {
         add(&mut self.links, &mut self.lists, entry)
     }
 
-    // The greatest time.
     fn newest_time(&self) -> Option<i64>
         ensures some { IfSome result (λ t. All (λ e. e.time ≤ℤ t) self.now) }
         ensures none { IfNone result (self.now ≡ []) }
@@ -169,7 +166,7 @@ impl Times {
         }
     }
 
-    /// Takes an entry of the greatest time.
+    /// Takes an entry with the greatest time.
     pub fn pop_newest(&mut self) -> Option<Entry>
         ensures taken { IfSome result (λ newest. IsPermutation self.old (newest ∷ self.new)) }
         ensures newest { IfSome result (λ newest. All (λ e. e.time ≤ℤ newest.time) self.new) }

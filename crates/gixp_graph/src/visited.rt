@@ -20,7 +20,7 @@ impl Model for Visited {
 }
 
 impl Visited {
-    /// No numbers.
+    /// Creates an empty set of visited commits.
     pub fn new(alloc: Global) -> Self
         ensures { result ≡ [] }
     {

@@ -1,4 +1,4 @@
-//! The walk that marks what a repository has for certain.
+//! The walk that marks complete commits.
 ghost use Rattle.std.specs.Prelude.{◌≡◌, ◌≤◌, ◌<◌, ◌⊎◌, ℤ, None, IfOk, IfErr, OnOk, OnErr, IsTrue, length, option_map};
 ghost use Rattle.gixp_hash.specs.declared.object_id.ObjectId.{ObjectId};
 ghost use Rattle.gixp_graph.specs.declared.objects.ObjectError.TheVariants.{Memory};
@@ -22,7 +22,7 @@ use bitflags::Flags as _;
 use gixp_hash::ObjectId;
 use std::alloc::Global;
 
-// Marks the commit of a number, where it is found. Returns its time.
+// Marks the commit with this number, where it is found. Returns its time.
 fn mark_found<O: Objects>(
     alloc: Global,
     objects: &mut O,
@@ -55,7 +55,7 @@ fn mark_found<O: Objects>(
     Ok(Some(time))
 }
 
-// Marks the commit of a number and queues it, where it wasn't visited before and is found.
+// Marks and queues the commit with this number, where it wasn't visited before and is found.
 fn visit<O: Objects>(
     alloc: Global,
     objects: &mut O,
@@ -96,7 +96,6 @@ fn visit<O: Objects>(
     }
 }
 
-// The same for the commits of some numbers.
 fn visit_each<O: Objects>(
     alloc: Global,
     objects: &mut O,
@@ -131,13 +130,12 @@ fn visit_each<O: Objects>(
     Ok(())
 }
 
-/// Marks the commits of these ids that are found and, where there is a cutoff, the parents that are
-/// found of each commit so marked whose own time is at least the cutoff.
+/// Marks the commits of these ids that are found. With a cutoff it also marks the parents that are found of each
+/// commit so marked whose own time is at least the cutoff.
 ///
-/// The newest commits are taken first, so the walk may stop at the first time before the cutoff: all
-/// that still waits is no newer. A parent that is newer than its child waits under its own time, and is
-/// taken next. Commits that had the mark before are walked through: the walk's own set of visited nodes
-/// says where it has been.
+/// The walk takes the newest commit first, so it may stop at the first time before the cutoff: no queued commit is
+/// newer. A parent that is newer than its child is queued under its own time, and is taken next. The walk has its own set
+/// of visited nodes, so it passes through commits that had the mark before.
 pub(crate) fn mark_complete<O: Objects>(
     alloc: Global,
     objects: &mut O,

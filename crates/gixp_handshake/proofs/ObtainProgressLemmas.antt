@@ -1,4 +1,4 @@
--- What a progress reporter is told while a ref map is obtained.
+-- The calls of a progress reporter while a ref map is made.
 use Rattle.std.proofs.Common.{ℕ, Bool, List, Option, Some, None, Vec, Result, Ok, Err, sym, refl, subst, inl, inr}
 use Rattle.std.specs.declared.alloc.Global.{Global}
 use Rattle.gixp_capabilities.specs.Capabilities.{CapabilityValue}
@@ -20,14 +20,14 @@ use Rattle.gixp_handshake.specs.declared.handshake.ref_map.ObtainRefMap.TheVaria
 use Rattle.gixp_handshake.specs.Obtain.{HoldsWithRefs, MakesMap, PreparesBy}
 use Rattle.gixp_handshake.specs.ObtainProgress.{TellsFetched, TellsObtained}
 
--- what is made of refs isn't a refused listing
+-- the error of a ref map of given refs isn't a failed listing
 not_listed : (format : Option (List ℕ)) (specs : List Spec) (count : ℕ) (refs : List RefValue) (e : ListError)
     → AnswersBy format specs count refs (Err (map.ListRefs e)) → ⊥
 not_listed None specs count refs e h = h
 not_listed (Some format) specs count refs e h = h
 
 module _ {P : Type 0} (told : P → ProgressCall → P → Type 0) (old new : P) where
-  -- the refs were listed, whatever comes of their map
+  -- the refs were listed, whatever the result of the ref map is
   pub listed_told : (caps : List CapabilityValue) (context : Context) (given : List Ref) (r : Result RefMap MapError)
       → ToldCalls told old listing_calls new → MakesMap caps context given r → TellsListedMap told old r new
   listed_told caps context given (Ok m) calls made = calls
@@ -42,7 +42,7 @@ module _ {P : Type 0} (told : P → ProgressCall → P → Type 0) (old new : P)
   moved_told caps context given (Ok m) calls made = calls
   moved_told caps context given (Err e) calls made = listed_told caps context given (Err e) calls made
 
-  -- what was prepared goes by the refs that came
+  -- the calls follow from whether refs were advertised
   pub prepared_told : {X : Type 0} (refs : Option (Vec Ref Global)) (table : TableValue) (wanted : Bool) (agent : FeatureValue)
       (context : Context) (caps : List CapabilityValue) (o : ObtainRefMap) (r : Result X MapError)
       → PreparesBy refs table wanted agent context caps (Ok o) → TellsFetched told o old r new → TellsObtained told refs old r new
@@ -52,7 +52,7 @@ module _ {P : Type 0} (told : P → ProgressCall → P → Type 0) (old new : P)
   prepared_told (Some refs) table wanted agent context caps (LsRefsCommand command handed) r p h = absurd p
 
 module _ {P : Type 0} (told : P → ProgressCall → P → Type 0) (old : P) where
-  -- nothing was prepared
+  -- nothing was prepared, and no calls were made
   pub unprepared_told : (refs : Option (Vec Ref Global)) (table : TableValue) (wanted : Bool) (agent : FeatureValue)
       (context : Context) (caps : List CapabilityValue) (e : MapError)
       → PreparesBy refs table wanted agent context caps (Err e) → TellsObtained told {X = RefMap} refs old (Err e) old

@@ -1,11 +1,10 @@
--- What a progress reporter is told, call after call.
+-- The calls of a progress reporter, in a row.
 use Rattle.std.proofs.Common.{◌≡◌, Bool, true, List, [], ◌∷◌, ◌++◌, Result, Ok, Err, ap, sym, ◌∙◌, subst, append_assoc}
 use Rattle.std.proofs.lemmas.List.{append-nil}
 use Rattle.gixp_progress.specs.Progress.{ProgressCall, ToldCalls}
 use Rattle.gixp_handshake.specs.ShakeProgress.{authenticating_calls, calls_if_denied, ToldPart, ToldUpTo}
 
 module _ {P : Type 0} (told : P → ProgressCall → P → Type 0) where
-  -- calls after others
   told_append : (a b c : P) (xs ys : List ProgressCall) → ToldCalls told a xs b → ToldCalls told b ys c → ToldCalls told a (xs ++ ys) c
   told_append a b c [] ys first rest = let Q : P → Type 0 = λ p. ToldCalls told p ys c in subst Q first rest
   told_append a b c (x ∷ xs) ys first rest = (first.0, first.1, told_append first.0 b c xs ys first.2 rest)
@@ -19,7 +18,7 @@ module _ {P : Type 0} (told : P → ProgressCall → P → Type 0) where
   }
 
   module _ {X E : Type 0} where
-    -- all were made, whatever comes of the call
+    -- all calls were made, whatever the result is
     pub told_all : (a b : P) (calls : List ProgressCall) (r : Result X E) → ToldCalls told a calls b → ToldUpTo told a calls r b
     told_all a b calls (Ok x) all = all
     told_all a b calls (Err e) all = record { made = calls; left = []; split = sym (append-nil calls); tells = all }
@@ -30,7 +29,7 @@ module _ {P : Type 0} (told : P → ProgressCall → P → Type 0) where
     told_before a b c xs ys (Ok x) first rest = told_append a b c xs ys first rest
     told_before a b c xs ys (Err e) first rest = part_after a b c xs ys first rest
 
-    -- an account was wanted
+    -- the server requires credentials
     pub told_if : (a b : P) (denied : Bool) (r : Result X E) → denied ≡ true → ToldUpTo told a authenticating_calls r b
         → ToldUpTo told a (calls_if_denied denied) r b
     told_if a b denied r is all = let Q : Bool → Type 0 = λ d. ToldUpTo told a (calls_if_denied d) r b in subst Q (sym is) all

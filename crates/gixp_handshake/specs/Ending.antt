@@ -9,7 +9,7 @@ use Rattle.gixp_handshake.specs.declared.util.SendFlushOnDrop.{SendFlushOnDrop}
 abbrev pub DoesNothing : Reading → Reading → Result (Unit {0}) Error → Type 0
 DoesNothing old new r = (new ≡ old) × (r ≡ Ok tt)
 
--- one flush packet over a connection, and nothing otherwise
+-- a connection sends one flush packet; another transport sends nothing
 abbrev pub EndsRequestBy : Bool → Reading → Reading → Result (Unit {0}) Error → Type 0
 EndsRequestBy true old new r = Sends old new true (codes "0000") r
 EndsRequestBy false old new r = DoesNothing old new r
@@ -17,7 +17,7 @@ EndsRequestBy false old new r = DoesNothing old new r
 abbrev pub EndsInteraction : Reading → Reading → Result (Unit {0}) Error → Type 0
 EndsInteraction old new r = EndsRequestBy old.held.persists old new r
 
--- nothing, where it was sent before
+-- the flush packet is sent, unless it was sent before
 abbrev pub EndsOnce : Bool → Reading → Reading → Result (Unit {0}) Error → Type 0
 EndsOnce true old new r = DoesNothing old new r
 EndsOnce false old new r = EndsInteraction old new r

@@ -1,4 +1,4 @@
--- What a clone keeps: a handshake as plain data.
+-- A handshake as plain data, which a clone keeps.
 use Rattle.std.specs.Prelude.{List, map, Option, Vec}
 use Rattle.std.specs.Option.{option_map}
 use Rattle.std.specs.declared.alloc.Global.{Global}

@@ -1,4 +1,4 @@
--- What a progress reporter is told while a ref map is obtained.
+-- The calls of a progress reporter while a ref map is made.
 use Rattle.std.specs.Prelude.{◌≡◌, Option, Some, None, Result}
 use Rattle.gixp_progress.specs.Progress.{ProgressCall}
 use Rattle.gixp_refmap.specs.declared.refmap.init.Error.{Error as MapError}
@@ -7,12 +7,12 @@ use Rattle.gixp_handshake.specs.declared.handshake.ref_map.ObtainRefMap.{ObtainR
 use Rattle.gixp_handshake.specs.declared.handshake.ref_map.ObtainRefMap.TheVariants.{Existing, LsRefsCommand}
 
 module _ {P : Type 0} (told : P → ProgressCall → P → Type 0) where
-  -- nothing where the ref map is there, and else what is told of a listing
+  -- no calls for an existing ref map, else the calls of a listing
   abbrev pub TellsFetched : {X : Type 0} → ObtainRefMap → P → Result X MapError → P → Type 0
   TellsFetched (Existing m) old r new = new ≡ old
   TellsFetched (LsRefsCommand command context) old r new = TellsListedMap told old r new
 
-  -- the same by the refs that came with a handshake
+  -- no calls with advertised refs, else the calls of a listing
   abbrev pub TellsObtained : {R X : Type 0} → Option R → P → Result X MapError → P → Type 0
   TellsObtained (Some refs) old r new = new ≡ old
   TellsObtained None old r new = TellsListedMap told old r new

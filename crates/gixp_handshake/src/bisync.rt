@@ -3,5 +3,5 @@
 /// The calls block until they are done.
 pub const SYNC: bool = true;
 
-/// No call can be awaited.
+/// The calls can't be awaited.
 pub const ASYNC: bool = false;

@@ -5,12 +5,12 @@ ghost use Rattle.gixp_handshake.specs.Ending.{EndsInteraction, EndsOnce};
 use gixp_capabilities::client;
 use gixp_wire::{Message, Transport};
 
-/// Tells a server over a connection that no request comes any more, by a flush packet (gitprotocol-v2, "Command
-/// Request"; gitprotocol-pack, "Packfile Negotiation"). Over a transport that doesn't persist nothing is sent.
+/// Sends a flush packet over a connection: no more requests follow (gitprotocol-v2, "Command Request";
+/// gitprotocol-pack, "Packfile Negotiation"). Sends nothing over a transport that doesn't persist.
 ///
 /// # Errors
 ///
-/// `Io` where the write failed, or an earlier one did: the connection stays broken.
+/// `Io` where this write or an earlier one failed. The connection stays broken.
 pub fn indicate_end_of_interaction<T: Transport>(transport: &mut T) -> Result<(), client::Error>
     ensures { EndsInteraction (T.reading transport.old) (T.reading transport.new) result }
 {
@@ -20,7 +20,7 @@ pub fn indicate_end_of_interaction<T: Transport>(transport: &mut T) -> Result<()
     transport.request(&[Message::Flush])
 }
 
-// The same, unless it was told already.
+// Sends the flush packet, unless it was sent before.
 fn end_once<T: Transport>(transport: &mut T, is_sent: bool) -> Result<(), client::Error>
     ensures { EndsOnce is_sent (T.reading transport.old) (T.reading transport.new) result }
 {
@@ -30,10 +30,10 @@ fn end_once<T: Transport>(transport: &mut T, is_sent: bool) -> Result<(), client
     indicate_end_of_interaction(transport)
 }
 
-/// A transport that tells the server when it is dropped that no request comes any more, unless it did before: at
-/// most one flush packet is sent, and none over a transport that doesn't persist.
+/// A transport that sends a flush packet when it is dropped, unless it was sent before. At most one is sent, and none
+/// over a transport that doesn't persist.
 pub struct SendFlushOnDrop<T: Transport + Drop> {
-    /// The transport.
+    /// The wrapped transport.
     pub inner: T,
     is_sent: bool,
 }
@@ -42,7 +42,7 @@ impl<T: Transport + Drop> SendFlushOnDrop<T> {
     ghost use Rattle.std.specs.Prelude.{◌≡◌, true, false};
     ghost use Rattle.gixp_handshake.specs.Ending.{EndsOnce, was_sent};
 
-    /// A guard of this transport, which has sent nothing yet.
+    /// Wraps this transport. No flush packet was sent yet.
     pub fn new(inner: T) -> SendFlushOnDrop<T>
         ensures inner { result.inner ≡ inner }
         ensures unsent { was_sent result ≡ false }
@@ -53,11 +53,11 @@ impl<T: Transport + Drop> SendFlushOnDrop<T> {
         }
     }
 
-    /// Tells the server now that no request comes any more, unless it did before, and never again.
+    /// Sends the flush packet now, unless it was sent before. It is never sent again.
     ///
     /// # Errors
     ///
-    /// As [`indicate_end_of_interaction`]; the flush packet counts as sent then too.
+    /// The same as for [`indicate_end_of_interaction`]. The flush packet counts as sent then too.
     pub fn indicate_end_of_interaction(&mut self) -> Result<(), client::Error>
         ensures ends { EndsOnce (was_sent self.old) (T.reading self.old.inner) (T.reading self.new.inner) result }
         ensures sent { was_sent self.new ≡ true }

@@ -5,10 +5,9 @@ use Rattle.std.specs.Cmp.Lexicographic.{nat_list_cmp_total}
 use Rattle.std.proofs.lemmas.Map.Lookups.{CmpEqualImpliesEq, exact_bytes}
 use Rattle.gixp_hash.specs.ObjectId.{id_cmp}
 
--- ids that compare alike are one
+-- ids that compare equal are equal
 pub ids_exact : CmpEqualImpliesEq id_cmp
 ids_exact a b h = ap (λ bytes. record { bytes = bytes }) (exact_bytes a.bytes b.bytes h)
 
--- the order of ids is total
 pub ids_total : IsTotalOrder id_cmp
 ids_total = on_total (λ d. d.bytes) nat_list_cmp_total

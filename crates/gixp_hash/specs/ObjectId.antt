@@ -10,11 +10,11 @@ use Rattle.gixp_hash.specs.declared.decode.Error.{Error}
 use Rattle.gixp_hash.specs.declared.decode.Error.TheVariants.{InvalidLength, InvalidDigit}
 use Rattle.gixp_hash.specs.declared.object_id.ObjectId.{ObjectId}
 
--- the 20 bytes that 40 digits of either case stand for
+-- the 20 bytes that 40 hexadecimal digits of either case encode
 abbrev pub id_of : List ℕ → Option (List ℕ)
 id_of text = if length text == 40 then result_ok (decode_of text) else None
 
--- why a text is no id: that it doesn't have 40 bytes is found first
+-- why a text is no id; the length is checked first
 abbrev pub IsIdRefusal : List ℕ → Error → Type 0
 IsIdRefusal text (InvalidLength n) = (n ≡ length text) × (n ≢ 40)
 IsIdRefusal text InvalidDigit = (length text ≡ 40) × (id_of text ≡ None)

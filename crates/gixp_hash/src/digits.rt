@@ -1,11 +1,11 @@
-//! Hexadecimal digits, read and written without a branch for each: an id's digits are as good as
-//! random, so every such branch would be guessed wrong half of the time. The functions are inlined,
-//! so that an id isn't handed on through memory at each step.
+//! Hexadecimal digits, read and written without a branch for each digit. The digits of an id are as good as random, so
+//! a processor would mispredict half of these branches. The functions are inlined so that an id isn't copied through
+//! memory at each step.
 ghost use Rattle.std.specs.Prelude.{◌≡◌, ◌<◌, length, slice_index, IfSome, unwrap_or};
 ghost use Rattle.hex.specs.Hex.{hex_digit_value, lower_digits, encode_lower, decode_of};
 ghost use Rattle.gixp_hash.specs.Digits.{AreValues};
 
-/// The value of a hexadecimal digit of either case, 0 to 15; 255 of any other byte.
+/// The value of a hexadecimal digit of either case, 0 to 15; 255 for any other byte.
 pub fn digit_value(digit: u8) -> u8
     ensures { result ≡ unwrap_or (hex_digit_value digit) 255 }
 {
@@ -29,7 +29,7 @@ pub fn digit_of(value: u8) -> u8
     }
 }
 
-// The values of 40 digits, or none where one is no digit.
+// `None` where a byte is not a hexadecimal digit.
 #[tactic(auto, using(crate::proofs::DigitLemmas::digit_reads))]
 #[inline(always)]
 fn values_of(digits: &[u8]) -> Option<[u8; 40]>
@@ -46,7 +46,7 @@ fn values_of(digits: &[u8]) -> Option<[u8; 40]>
     if all { Some(values) } else { None }
 }
 
-// The bytes of 40 digits, or none where one is no digit.
+// `None` where a byte is not a hexadecimal digit.
 #[inline(always)]
 pub(crate) fn decode(digits: &[u8]) -> Option<[u8; 20]>
     requires { length digits.now ≡ 40 }
@@ -60,7 +60,6 @@ pub(crate) fn decode(digits: &[u8]) -> Option<[u8; 20]>
     Some(bytes)
 }
 
-// The lower-case digits of 20 bytes.
 #[inline(always)]
 pub(crate) fn encode(bytes: &[u8; 20]) -> [u8; 40]
     ensures { result ≡ encode_lower bytes.now }

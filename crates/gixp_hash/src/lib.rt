@@ -1,4 +1,4 @@
-//! Names of objects, and the hash function that makes them.
+//! Object ids, and the hash function that makes them.
 #![tactic(auto)]
 
 pub mod decode;

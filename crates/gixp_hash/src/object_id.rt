@@ -21,8 +21,8 @@ impl ObjectId {
     ///
     /// # Errors
     ///
-    /// `InvalidLength` where the text doesn't have 40 bytes, else `InvalidDigit` where one of them
-    /// is no hexadecimal digit.
+    /// `InvalidLength` where the text doesn't have 40 bytes. `InvalidDigit` where it has 40 bytes, but one of them is
+    /// not a hexadecimal digit.
     #[inline(always)]
     pub fn from_hex(text: &[u8]) -> Result<ObjectId, decode::Error>
         ensures { MatchResult result (λ id. id_of text.now ≡ Some id.bytes) (IsIdRefusal text.now) }
@@ -40,14 +40,14 @@ impl ObjectId {
         }
     }
 
-    /// The id of no object: 20 zero bytes.
+    /// The null id: 20 zero bytes. It names no object.
     pub fn null() -> ObjectId
         ensures { result.bytes ≡ replicate 20 0 }
     {
         ObjectId { bytes: [0; 20] }
     }
 
-    /// Whether this is the id of no object.
+    /// Whether this is the null id.
     pub fn is_null(&self) -> bool
         ensures { IsTrue result ↔ (self.now.bytes ≡ replicate 20 0) }
     {
@@ -61,7 +61,7 @@ impl ObjectId {
         digits::encode(&self.bytes)
     }
 
-    /// The 20 bytes.
+    /// The 20 bytes of the id.
     pub fn as_bytes(&self) -> &[u8]
         ensures { result.now ≡ self.now.bytes }
     {
@@ -69,7 +69,7 @@ impl ObjectId {
     }
 }
 
-/// Shows as its text.
+/// Writes the id as `to_hex` does.
 impl fmt::Display for ObjectId {
     ghost output = { λ id. Some (encode_lower id.bytes) };
 
@@ -81,7 +81,7 @@ impl fmt::Display for ObjectId {
     }
 }
 
-/// Shows as its text here too.
+/// Writes the id as `to_hex` does.
 impl fmt::Debug for ObjectId {
     ghost debug_output = { λ id. Some (encode_lower id.bytes) };
 

@@ -7,28 +7,24 @@ use crate::kind::Kind;
 use crate::object_id::ObjectId;
 use std::cmp::Ordering;
 
-// Two ids are equal exactly where their bytes are.
 fn is_same_id(a: &ObjectId, b: &ObjectId) -> bool
     ensures { IsTrue result ↔ (a.now.bytes ≡ b.now.bytes) }
 {
     a == b
 }
 
-// Ids are ordered by their bytes, from the first one on.
 fn order_of_ids(first: &ObjectId, second: &ObjectId) -> Ordering
     ensures { result ≡ id_cmp first.now second.now }
 {
     first.cmp(second)
 }
 
-// Two hash functions are equal exactly where they are one.
 fn is_same_kind(left: &Kind, right: &Kind) -> bool
     ensures { IsTrue result ↔ (left.now ≡ right.now) }
 {
     left == right
 }
 
-// Two errors are equal exactly where they are one.
 fn is_same_error(one: &decode::Error, other: &decode::Error) -> bool
     ensures { IsTrue result ↔ (one.now ≡ other.now) }
 {

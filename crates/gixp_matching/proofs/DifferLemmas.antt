@@ -12,12 +12,11 @@ use Rattle.gixp_matching.proofs.KeyLemmas.{same_source_is}
 abbrev is_other : Source → Mapped → Bool
 is_other source m = not (source_eq source m.source)
 
--- a source is equal to itself
 source_eq-same : (a : Source) → source_eq a a ≡ true
 source_eq-same (FullName a) = (bytes_eq-Decides a a).1 refl
 source_eq-same (ObjectId a) = (bytes_eq-Decides a a).1 refl
 
--- where none has another source than s, none differs from any of them
+-- where no mapping has another source than s, none differs from any other
 none_differs : (s : Source) (ms all : List Mapped) → list_any (is_other s) ms ≡ false → list_any (is_other s) all ≡ false
     → list_any (λ m. list_any (is_other m.source) all) ms ≡ false
 none_differs s [] all h others = refl
@@ -27,7 +26,7 @@ none_differs s (m ∷ ms) all h others =
     ap (λ b. b || list_any (λ n. list_any (is_other n.source) all) ms) (ap (λ t. list_any (is_other t) all) (sym same) ∙ others)
     ∙ none_differs s ms all both.1 others
 
--- to compare with the first is enough
+-- comparing with the first is enough
 pub differ-first : (m : Mapped) (ms : List Mapped) → list_any (is_other m.source) ms ≡ differ (m ∷ ms)
 differ-first m ms = elim (cases_Bool (list_any (is_other m.source) ms)) [
   | inl t ↦ t ∙ sym (or_left _ _ (or_right (is_other m.source m) _ t))

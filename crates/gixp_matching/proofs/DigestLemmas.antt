@@ -1,4 +1,4 @@
--- Keys whose numbers differ are different.
+-- Keys with different hashes are different.
 use Rattle.std.proofs.Common.{rules, ◌≡◌, ℕ, Bool, true, false, List, [], ◌∷◌, map, Option, Ordering, refl, sym, ap, ◌∙◌}
 use Rattle.std.specs.List.{AllByRecursion, IsDistinct}
 use Rattle.std.specs.Borrow.{Bor}
@@ -32,17 +32,17 @@ unfolding IsDistinct
 apart eq f alike [] h = tt
 apart eq f alike (k ∷ ks) h = (apart_by eq f alike k ks h.0, apart eq f alike ks h.1)
 
--- names whose numbers differ are different
+-- names with different hashes are different
 pub names_apart : (names : List (List ℕ)) → IsDistinct (eq_by_cmp nat_cmp) (map digest names) → IsDistinct bytes_eq names
 names_apart = apart bytes_eq digest (λ x y e. ap digest ((bytes_eq-Decides x y).0 e))
 
--- ---- the numbers of what is compared
+-- ---- the hashes of keys
 
--- two numbered keys are equal where the numbers are and what they are of
+-- two hashed keys are equal where the hashes and the keys are
 abbrev pub numbered_eq : ℕ × (Source × Option (List ℕ)) → ℕ × (Source × Option (List ℕ)) → Bool
 numbered_eq a b = eq_by_cmp nat_cmp a.0 b.0 && (source_eq a.1.0 b.1.0 && local_eq a.1.1 b.1.1)
 
--- the order of numbered keys
+-- the order of hashed keys
 abbrev pub by_number : ℕ × Bor Key → ℕ × Bor Key → Ordering
 by_number a b = ordering_then (nat_cmp a.0 b.0) (by_key a.1.now b.1.now)
 
@@ -55,19 +55,19 @@ both_are_second true b h = refl
 both_are_second false true h = h refl
 both_are_second false false h = refl
 
--- the numbers of equal mappings are equal
+-- equal mappings have equal hashes
 same_parts_number : (a b : Mapped) → is_same a b ≡ true → parts_digest (parts a) ≡ parts_digest (parts b)
 same_parts_number a b e =
     let both = and_parts _ _ e in
     ap (λ s. parts_digest (s, a.local)) (same_source_is a.source b.source both.0)
     ∙ ap (λ l. parts_digest (b.source, l)) (same_local_is a.local b.local both.1)
 
--- a number behind which equal ones stand tells no more than they do
+-- hashed keys are equal exactly where the mappings are
 pub numbered_same : (a b : Mapped) → numbered_eq (with_digest (parts a)) (with_digest (parts b)) ≡ is_same a b
 numbered_same a b = both_are_second _ (is_same a b) (λ e.
     ap (λ n. eq_by_cmp nat_cmp n (parts_digest (parts b))) (same_parts_number a b e) ∙ same_number (parts_digest (parts b)))
 
--- mappings whose numbers differ are first ones
+-- mappings with different hashes are all first ones
 pub firsts_by_number : (ms : List Mapped) → IsDistinct (eq_by_cmp nat_cmp) (map (λ m. parts_digest (parts m)) ms) → firsts ms ≡ ms
 firsts_by_number ms h =
     no_repeats ms (distinct-map is_same parts_eq parts (λ x y. refl) ms

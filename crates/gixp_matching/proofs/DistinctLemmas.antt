@@ -25,14 +25,14 @@ is_eq-reverse Less = refl
 is_eq-reverse Equal = refl
 is_eq-reverse Greater = refl
 
--- keys of which each is below the next
+-- keys in ascending order
 rising_sorted : {K : Type 0} {R : K → K → Ordering} → IsTotalOrder R → (ks : List K)
     → AllAdjacentBelow (λ x y. R x y ≡ Less) ks (length ks) → IsStrictlySortedBy R ks
 unfolding IsStrictlySortedBy
 rising_sorted o [] h = tt
 rising_sorted o (k ∷ ks) h = sorted_from_all_adjacent o (k ∷ ks) k (λ i l. h i k l)
 
--- keys that are all different once they are in order
+-- keys that are all different once they are sorted
 pub distinct_sorted : {K : Type 0} {R : K → K → Ordering} → IsTotalOrder R → (ks sorted : List K) → IsPermutation ks sorted
     → AllAdjacentBelow (λ x y. R x y ≡ Less) sorted (length sorted) → IsDistinct (eq_by_cmp R) ks
 distinct_sorted {K} {R} o ks sorted same rising =
@@ -40,7 +40,7 @@ distinct_sorted {K} {R} o ks sorted same rising =
     (IsPermutation-sym ks sorted same)
     (IsDistinct-from_sorted R sorted (rising_sorted o sorted rising))
 
--- what keys stand for is all different where they are
+-- the values of keys are all different where the keys are
 all_apart : {K P : Type 0} (e : K → K → Bool) (t : P → P → Bool) (f : K → P) → ((x y : K) → e x y ≡ t (f x) (f y))
     → (k : K) (ks : List K) → AllByRecursion (λ y. e k y ≡ false) ks → AllByRecursion (λ y. t (f k) y ≡ false) (map f ks)
 all_apart e t f same k [] h = tt
@@ -56,7 +56,6 @@ distinct-map e t f same (k ∷ ks) h = (all_apart e t f same k ks h.0, distinct-
 abbrev pub parts_eq : Source × Option (List ℕ) → Source × Option (List ℕ) → Bool
 parts_eq a b = source_eq a.0 b.0 && local_eq a.1 b.1
 
--- all are kept where none is the same
 all_kept : (m : Mapped) (ms : List Mapped) → AllByRecursion (λ y. parts_eq (parts m) y ≡ false) (map parts ms)
     → filter (λ later. not (is_same m later)) ms ≡ ms
 all_kept m [] h = refl
@@ -67,7 +66,7 @@ unfolding IsDistinct
 no_repeats [] h = refl
 no_repeats (m ∷ ms) h = ap (λ l. m ∷ filter (λ later. not (is_same m later)) l) (no_repeats ms h.1) ∙ ap (λ l. m ∷ l) (all_kept m ms h.0)
 
--- where the keys of mappings are all different, all are first ones
+-- where the keys of mappings are all different, all mappings are first ones
 pub firsts_are_all : (keys : List Key) (ms : List Mapped) → map key_parts keys ≡ map parts ms → IsDistinct (eq_by_cmp by_key) keys
     → firsts ms ≡ ms
 firsts_are_all keys ms is h =
@@ -90,7 +89,7 @@ none_named name (m ∷ ms) h = at (λ k. none_named name ms k) m.local h where
   at rest None h = rest h
   at rest (Some other) h = cond-false _ _ _ (bytes_eq-turned other name ∙ h.0) ∙ rest h.1
 
--- mappings whose local names are all different have one source for each name
+-- mappings with different local names have one source for each name
 one_source : (name : List ℕ) (ms : List Mapped) → IsDistinct bytes_eq (locals ms) → differ (of_local name ms) ≡ false
 unfolding IsDistinct
 one_source name [] h = refl
@@ -108,12 +107,11 @@ one_source name (m ∷ ms) h = at (λ k. one_source name ms k) m.local h where
     | inr f ↦ ap differ (cond-false _ _ _ f) ∙ rest h.1
   ]
 
--- lists that are all empty
 none_made : {A B : Type 0} (f : A → List B) (xs : List A) → ((x : A) → f x ≡ []) → flat_map f xs ≡ []
 none_made f [] h = refl
 none_made f (x ∷ xs) h = ap (λ l. l ++ flat_map f xs) (h x) ∙ none_made f xs h
 
--- and so no conflicts
+-- mappings with different local names have no conflicts
 pub no_conflicts : (specs : List Spec) (ms : List Mapped) → IsDistinct bytes_eq (locals ms) → [] ≡ conflicts specs ms
 unfolding conflicts
 no_conflicts specs ms apart = sym (none_made (λ name. conflict_over specs name (of_local name ms)) (local_names ms)

@@ -1,4 +1,4 @@
--- Mappings follow from their places.
+-- Source and local name of a mapping follow from its place.
 use Rattle.std.proofs.Common.{◌≡◌, ℕ, ◌+◌, ◌<◌, ◌≤◌, Bool, true, false, cond, List, [], ◌∷◌, ◌++◌, Option, Some, None, length, map, get_or, ap, sym, ◌∙◌, refl, arith, append_assoc, length-append}
 use Rattle.std.specs.Prelude.{◌||◌, option_to_list}
 use Rattle.std.specs.Borrow.{Bor}
@@ -12,7 +12,7 @@ use Rattle.gixp_matching.specs.Mappings.{Source, FullName, ObjectId, Mapped, map
 use Rattle.gixp_matching.specs.Places.{repeated, place_of, id_places, places_with, FollowsFromPlace, made_at}
 use Rattle.gixp_matching.proofs.ListLemmas.{map_of_flat_map, flat_map_same, stands_at}
 
--- ---- lists that were put together
+-- ---- lists made of lists
 
 module _ {B : Type 0} (P : B → Type 0) where
   all_appended : (xs ys : List B) → AllByRecursion P xs → AllByRecursion P ys → AllByRecursion P (xs ++ ys)
@@ -28,12 +28,12 @@ module _ {B : Type 0} (P : B → Type 0) where
         (all_from all (done ++ x ∷ []) rest (k + 1) (split ∙ sym (append_assoc done (x ∷ []) rest))
         (omega (arith, length-append done (x ∷ []), e)) h)
 
-    -- what is made of each element and its place
+    -- a property of the results for each element and its index
     pub all_made : (all : List A) → ((i : ℕ) (x : A) → slice_get all i ≡ Some x → AllByRecursion P (f (i, x)))
         → AllByRecursion P (flat_map f (enumerate_from 0 all))
     all_made all h = all_from all [] all 0 refl refl h
 
--- what was read at a number is what stands there
+-- an element that was read at an index
 pub read_at : {A B : Type 0} (h : A → B) (xs : List A) (k : ℕ) (r : Option (Bor A)) (Q : Bor A → Type 0)
     → IfSome r (λ x. x.now ≡ get_or xs k x.now) → MatchOption r (length xs ≤ k) (λ x. (k < length xs) × Q x)
     → option_map h (option_copied r) ≡ slice_get (map h xs) k
@@ -41,7 +41,7 @@ read_at h xs k None Q read past = sym (slice_get-map h xs k ∙ ap (option_map h
 read_at h xs k (Some x) Q read within =
     sym (slice_get-map h xs k ∙ ap (option_map h) (slice_get-get_or xs k x.now within.0 ∙ ap Some (sym read)))
 
--- ---- the places of all mappings
+-- ---- the indices of mappings
 
 pub ids_placed : (specs : List Spec) → flat_map id_places (enumerate_from 0 specs) ≡ map place_of (id_mappings specs)
 ids_placed specs = map_of_flat_map place_of id_mapping (enumerate_from 0 specs)
@@ -55,7 +55,7 @@ pairs_placed specs names =
 
 -- ---- each mapping
 
--- the mapping of a middle, where there is one
+-- the mapping of a match follows from its place
 pair_follows : (specs : List Spec) (names : List (List ℕ)) (k : ℕ) (s : Spec) (i : ℕ) (name : List ℕ) → slice_get specs k ≡ Some s
     → slice_get names i ≡ Some name → AllByRecursion (FollowsFromPlace specs names) (pair specs (k, s) (i, name))
 unfolding pair
@@ -68,7 +68,7 @@ pair_follows specs names k s i name here at = by (is_negative s.sign || is_exclu
     by false None e = tt
     by false (Some m) e = (record { source = at; local = sym (rw (here, e) refl) }, tt)
 
--- the mapping of an id, where there is one
+-- the mapping of an id follows from its place
 id_follows : (specs : List Spec) (names : List (List ℕ)) (k : ℕ) (s : Spec) → slice_get specs k ≡ Some s
     → AllByRecursion (FollowsFromPlace specs names) (id_mapping (k, s))
 unfolding id_mapping
@@ -81,7 +81,7 @@ id_follows specs names k s here = by (is_negative s.sign) (id_of s.source) refl
     by false None e = tt
     by false (Some bytes) e = (record { source = rw here e; local = sym (rw here refl) }, tt)
 
--- each mapping follows from its ref and its refspec
+-- each mapping follows from its place
 pub repeated_follow : (specs : List Spec) (names : List (List ℕ)) → AllByRecursion (FollowsFromPlace specs names) (repeated specs names)
 repeated_follow specs names =
     let P = FollowsFromPlace specs names in
@@ -89,9 +89,9 @@ repeated_follow specs names =
     (all_made P (pairs_of specs names) specs
     (λ k s here. all_made P (pair specs (k, s)) names (λ i name at. pair_follows specs names k s i name here at)))
 
--- ---- what is made of places
+-- ---- mappings made from places
 
--- a mapping that follows from its place is made of it
+-- a mapping that follows from its place is made from it
 remade : (specs : List Spec) (names : List (List ℕ)) (item : Option ℕ) (source : Source) (local : Option (List ℕ)) (spec : ℕ)
     → FollowsFromPlace specs names (mapped item source local spec) → made_at specs names (item, spec) ≡ Some (mapped item source local spec)
 remade specs names (Some i) (FullName name) local spec h =
@@ -101,7 +101,7 @@ remade specs names None (FullName name) local spec h = absurd h.source
 remade specs names None (ObjectId id) local spec h =
     rw h.source (ap (λ l. Some (mapped None (ObjectId id) l spec)) (sym h.local))
 
--- so all of them are made again
+-- all mappings are made again from their places
 pub remade_all : (specs : List Spec) (names : List (List ℕ)) (ms : List Mapped) → AllByRecursion (FollowsFromPlace specs names) ms
     → flat_map (λ place. option_to_list (made_at specs names place)) (map place_of ms) ≡ ms
 remade_all specs names [] h = refl

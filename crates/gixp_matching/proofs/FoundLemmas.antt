@@ -1,4 +1,4 @@
--- Conflicts as they are found: for each name those over it.
+-- Conflicts as the code finds them, by name.
 use Rattle.std.proofs.Common.{◌≡◌, ℕ, zero, suc, ◌+◌, ◌-◌, ◌<◌, ◌≤◌, Bool, true, false, cond, List, [], ◌∷◌, ◌++◌, length, take, drop, map, get_or, Some, ap, sym, subst, ◌∙◌, refl, inl, inr, append_assoc, arith}
 use Rattle.std.specs.Prelude.{◌||◌, ◌==◌, min, not, filter, replicate}
 use Rattle.std.specs.List.{AllByRecursion, IsDistinct, list_any}
@@ -26,7 +26,7 @@ use Rattle.gixp_matching.proofs.FirstLemmas.{or_none}
 use Rattle.gixp_matching.proofs.GroupLemmas.{eqb_turned}
 use Rattle.gixp_matching.proofs.ListLemmas.{gathered_here, map_of_map}
 
--- a step of a loop that keeps what passes
+-- a step of a loop that keeps the elements that pass
 pub kept_more : {A B : Type 0} (h : A → B) (p : B → Bool) (now new : List B) (xs : List A) (i : ℕ) (x : A) → x ≡ get_or xs i x
     → i < length xs
     → now ≡ filter p (take i (map h xs)) → new ≡ now ++ filter p (h x ∷ []) → new ≡ filter p (take (i + 1) (map h xs))
@@ -35,14 +35,14 @@ kept_more h p now new xs i x e l kept step =
     step ∙ ap (λ y. now ++ filter p (h y ∷ [])) e ∙ ap (λ z. z ++ filter p (h (get_or xs i x) ∷ [])) kept
     ∙ sym (filter-append p front (h (get_or xs i x) ∷ [])) ∙ ap (filter p) (sym (take-map_more h xs i x l))
 
--- what passes a test of the first ones and one more
+-- one of the first elements, or the next one, passes
 pub any_next : {A B : Type 0} (h : A → B) (p : B → Bool) (xs : List A) (i : ℕ) (x : A) → x ≡ get_or xs i x → i < length xs
     → list_any p (take (i + 1) (map h xs)) ≡ (list_any p (take i (map h xs)) || p (h x))
 any_next h p xs i x e l =
     ap (list_any p) (take-map_more h xs i x l) ∙ list_any-append p (take i (map h xs)) (h (get_or xs i x) ∷ [])
     ∙ ap (λ b. list_any p (take i (map h xs)) || b) (or_none (p (h (get_or xs i x))) ∙ ap (λ y. p (h y)) (sym e))
 
--- what passes a test of the first ones
+-- one of the first elements passes
 pub any_first : {A B : Type 0} (h : A → B) (p : B → Bool) (xs : List A) (i : ℕ)
     → list_any p (take i (map h xs)) ≡ list_any (λ x. p (h x)) (take i xs)
 any_first h p xs i = ap (list_any p) (take-map h i xs) ∙ any_of_map p h (take i xs)
@@ -57,7 +57,7 @@ over_own texts name group = elim (cases_Bool (differ group)) [
   | inr f ↦ ap (filter (is_over name)) (cond-false _ _ _ f) ∙ sym (cond-false _ _ _ f)
 ]
 
--- and over no other
+-- it is over no other name
 over_other : (texts : List (List ℕ)) (own name : List ℕ) (group : List Mapped) → bytes_eq own name ≡ false
     → filter (is_over name) (found_over texts own group) ≡ []
 over_other texts own name group other = elim (cases_Bool (differ group)) [
@@ -65,9 +65,9 @@ over_other texts own name group other = elim (cases_Bool (differ group)) [
   | inr f ↦ ap (filter (is_over name)) (cond-false _ _ _ f)
 ]
 
--- ---- names, one after the other
+-- ---- names in a row
 
--- nothing is added where no name comes first
+-- a mapping whose name isn't new adds no conflict
 pub adds_none : (texts : List (List ℕ)) (ms : List Mapped) (place : ℕ) (m : Mapped) (cs : List Conflict)
     → ((name : List ℕ) → list_any (has_local name) (take (place + 1) ms) ≡ (list_any (has_local name) (take place ms) || has_local name m))
     → ((name : List ℕ) → has_local name m ≡ true → list_any (has_local name) (take place ms) ≡ true)
@@ -82,7 +82,7 @@ adds_none texts ms place m cs next known name = elim (cases_Bool (list_any (has_
   ]
 ]
 
--- the conflict over the first name is added
+-- a mapping with a new name adds the conflict over it
 pub adds_one : (texts : List (List ℕ)) (ms : List Mapped) (place : ℕ) (m : Mapped) (own : List ℕ) (old new : List Conflict)
     → ((name : List ℕ) → list_any (has_local name) (take (place + 1) ms) ≡ (list_any (has_local name) (take place ms) || has_local name m))
     → m.local ≡ Some own → list_any (has_local own) (take place ms) ≡ false → new ≡ old ++ found_among texts ms own
@@ -113,11 +113,10 @@ adds_one texts ms place m own old new next is fresh step name =
 abbrev pub found_before : List (List ℕ) → List Mapped → List Mapped → List ℕ → List Conflict
 found_before texts ms before name = cond (list_any (has_local name) before) (found_among texts ms name) []
 
--- before the first there is none
 pub before_none : (texts : List (List ℕ)) (ms : List Mapped) (cs : List Conflict) → AddsConflicts (found_before texts ms []) cs cs
 before_none texts ms cs name = sym (append-nil (filter (is_over name) cs))
 
--- one place more
+-- one more mapping
 pub before_more : (texts : List (List ℕ)) (ms : List Mapped) (i : ℕ) (old now new : List Conflict)
     → AddsConflicts (found_before texts ms (take i ms)) old now → AddsConflicts (found_first texts ms i) now new
     → AddsConflicts (found_before texts ms (take (i + 1) ms)) old new
@@ -132,14 +131,13 @@ before_more texts ms i old now new kept step name =
       | inr f ↦ ap (λ l. l ++ found_first texts ms i name) (cond-false _ _ _ f) ∙ cond-false _ _ _ f
     ])
 
--- a name that no mapping has
 pub none_local : (name : List ℕ) (ms : List Mapped) → list_any (has_local name) ms ≡ false → of_local name ms ≡ []
 none_local name [] h = refl
 none_local name (m ∷ ms) h =
     let both = or_parts (has_local name m) (list_any (has_local name) ms) h in
     cond-false _ _ _ both.0 ∙ none_local name ms both.1
 
--- after the last there are all
+-- after the last mapping, all conflicts are found
 pub before_all : (texts : List (List ℕ)) (ms : List Mapped) (old new : List Conflict) → AddsConflicts (found_before texts ms ms) old new
     → AddsConflicts (found_among texts ms) old new
 before_all texts ms old new kept name =
@@ -148,10 +146,10 @@ before_all texts ms old new kept name =
       | inr f ↦ cond-false _ _ _ f ∙ ap (found_over texts name) (sym (none_local name ms f))
     ])
 
--- ---- groups, one after the other
+-- ---- groups in a row
 
 module _ {M : Type 0} where
-  -- the mapping of one row more
+  -- the mapping of one more row
   pub mappings_more : (old now new : List (Bor M)) (rows : List (Named M)) (i : ℕ) (row : Named M) → row ≡ get_or rows i row
       → i < length rows
       → now ≡ old ++ mappings_of (take i rows) → new ≡ now ++ row.mapping ∷ [] → new ≡ old ++ mappings_of (take (i + 1) rows)
@@ -160,14 +158,13 @@ module _ {M : Type 0} where
       ∙ ap (λ l. old ++ l) (ap (λ (r : Named M). mappings_of (take i rows) ++ r.mapping ∷ []) is
       ∙ sym (map_more (λ r. r.mapping) rows i row l))
 
-  -- the mappings of a group
   abbrev own : Group M → List (Bor M)
   own group = mappings_of group.rows.now
 
   own_length : (group : Group M) → length (own group) ≡ length group.rows.now
   own_length group = length-map group.rows.now (λ row. row.mapping)
 
-  -- the mappings of the first groups, of one group and of the others
+  -- all mappings are the mappings of the first groups, of one group and of the other groups
   parted : (groups : List (Group M)) (i : ℕ) (group : Group M) → group ≡ get_or groups i group → i < length groups
       → grouped groups ≡ grouped (take i groups) ++ (own group ++ grouped (drop (suc i) groups))
   parted groups i group is l =
@@ -175,7 +172,7 @@ module _ {M : Type 0} where
       ∙ ap (λ gs. grouped (take i groups) ++ grouped gs) (drop-cons groups i group l)
       ∙ ap (λ one. grouped (take i groups) ++ (own one ++ grouped (drop (suc i) groups))) (sym is)
 
-  -- the mappings of a group end within those of all
+  -- the mappings of a group end within all mappings
   pub ends_within : (groups : List (Group M)) (mappings : List (Bor M)) (i start : ℕ) (group : Group M)
       → group ≡ get_or groups i group → i < length groups → mappings ≡ grouped groups → start ≡ length (grouped (take i groups))
       → start + length group.rows.now ≤ length mappings
@@ -189,7 +186,7 @@ module _ {M : Type 0} where
         length-append (own group) (grouped (drop (suc i) groups)),
       )
 
-  -- those of the next begin there
+  -- the mappings of the next group follow
   pub ends_at : (groups : List (Group M)) (i start : ℕ) (group : Group M) → group ≡ get_or groups i group → i < length groups
       → start ≡ length (grouped (take i groups)) → start + length group.rows.now ≡ length (grouped (take (i + 1) groups))
   ends_at groups i start group is l here =
@@ -198,7 +195,7 @@ module _ {M : Type 0} where
       let same : length (own group) ≡ length (own (get_or groups i group)) = ap (λ one. length (own one)) is in
       omega (arith, here, own_length group, same, ap length more, length-append (grouped (take i groups)) (own (get_or groups i group)))
 
-  -- they stand there
+  -- the mappings between these indices are the group's
   pub stands_at : (groups : List (Group M)) (mappings : List (Bor M)) (i start : ℕ) (group : Group M)
       → group ≡ get_or groups i group → i < length groups → mappings ≡ grouped groups → start ≡ length (grouped (take i groups))
       → take (start + length group.rows.now - start) (drop start mappings) ≡ own group
@@ -215,19 +212,17 @@ module _ {M : Type 0} where
   pub lent_own : (f : M → Mapped) (group : Group M) → lent f (own group) ≡ behind f group.rows.now
   lent_own f group = map_of_map (λ m. f m.now) (λ row. row.mapping) group.rows.now
 
--- fewer than two mappings have one source
 few_agree : (ms : List Mapped) → length ms < 2 → differ ms ≡ false
 few_agree [] h = refl
 few_agree (m ∷ []) h = sym (differ-first m [])
 few_agree (m ∷ other ∷ ms) h = absurd (omega (arith, h))
 
--- no more pass than there are
 fewer_pass : {X : Type 0} (p : X → Bool) (xs : List X) → length (filter p xs) ≤ length xs
 fewer_pass p xs = omega (arith, length-filter_both p (λ x. not (p x)) (λ x. refl) xs)
 
 module _ {M : Type 0} (f : M → Mapped) (texts : List (List ℕ)) (ms : List Mapped) (rows : List (Named M)) (listed : ListsNumbered f ms rows)
     (name : List ℕ) where
-  -- what a group adds
+  -- the conflict that a group adds
   by_group : (group : Group M) → HasAll rows group
       → found_among texts (behind f group.rows.now) name ≡ cond (digest name == group.number) (found_among texts ms name) []
   by_group group all =
@@ -237,7 +232,7 @@ module _ {M : Type 0} (f : M → Mapped) (texts : List (List ℕ)) (ms : List Ma
         | inr e ↦ ap (found_over texts name) (cond-false _ _ _ e) ∙ sym (cond-false _ _ _ e)
       ]
 
-  -- no group of another number adds any
+  -- no group of another hash adds a conflict
   none_by_groups : (groups : List (Group M)) → AllByRecursion (HasAll rows) groups
       → AllByRecursion (λ group. (digest name == group.number) ≡ false) groups → found_in_groups f texts groups name ≡ []
   none_by_groups [] all other = refl
@@ -245,7 +240,7 @@ module _ {M : Type 0} (f : M → Mapped) (texts : List (List ℕ)) (ms : List Ma
       ap (λ l. l ++ found_in_groups f texts groups name) (by_group group all.0 ∙ cond-false _ _ _ other.0)
       ∙ none_by_groups groups all.1 other.1
 
-  -- the conflict over a name is found in the group of its number, or there is none
+  -- the conflict over a name is found in the group of its hash; without a group there is none
   by_groups : (groups : List (Group M)) → AllByRecursion (HasAll rows) groups → IsDistinct have_one_number groups
       → (AllByRecursion (λ group. (group.number == digest name) ≡ false) groups → found_among texts ms name ≡ [])
       → found_in_groups f texts groups name ≡ found_among texts ms name
@@ -283,7 +278,7 @@ all_found f texts ms rows groups cs listed are kept name =
     ) in
     cond-false _ _ _ (few_agree (of_local name ms) less)))
 
--- what begins alike begins alike in fewer bytes
+-- names with a common prefix have each shorter one in common
 pub shorter : (m n : ℕ) (xs ys : List ℕ) → m ≤ n → take n xs ≡ take n ys → take m xs ≡ take m ys
 shorter zero n xs ys l h = refl
 shorter (suc m) zero xs ys l h = absurd (omega (arith, l))
@@ -295,7 +290,7 @@ shorter (suc m) (suc n) (x ∷ xs) (y ∷ ys) l h =
     let rest : take n xs ≡ take n ys = cc in
     ap (λ z. z ∷ take m xs) same ∙ ap (λ r. y ∷ r) (shorter m n xs ys (omega arith) rest)
 
--- bytes, and behind them as many zeros as are lacking
+-- bytes padded with zeros
 pub padded : (n : ℕ) (xs : List ℕ) → take (min (length xs) n) xs ++ drop (min (length xs) n) (replicate n 0) ≡ part n xs
 unfolding part
 padded n xs = elim (cases_lt (length xs) n) [

@@ -1,4 +1,4 @@
--- The groups of rows that stand together.
+-- The groups of rows with the same hash.
 use Rattle.std.proofs.Common.{◌≡◌, ℕ, suc, ◌+◌, ◌-◌, ◌≤◌, ◌<◌, Bool, true, false, cond, List, [], ◌∷◌, ◌++◌, length, take, drop, get_or, Some, None, ap, sym, subst, ◌∙◌, refl, inl, inr, arith, ltb-false}
 use Rattle.std.specs.Prelude.{◌||◌, ◌==◌, not, filter, nat_lt, unwrap_or, position}
 use Rattle.std.specs.List.{All, AllByRecursion, IsDistinct, list_any, position_or_len}
@@ -15,26 +15,22 @@ use Rattle.gixp_matching.specs.declared.match_group.validate.groups.Group.{Group
 use Rattle.gixp_matching.specs.declared.match_group.validate.groups.Named.{Named}
 use Rattle.gixp_matching.specs.Groups.{has_number, run_of, after_run, AreTogether, several, is_group_of, HasAll, have_one_number, AreGroups}
 
--- equality of numbers, the other way round
 pub eqb_turned : (a b : ℕ) → (a == b) ≡ (b == a)
 eqb_turned a b = same_from_decides (a == b) (b == a)
     (λ h. sym ((Decides-eqb a b).0 h), λ e. (Decides-eqb a b).1 (sym e)) (Decides-eqb b a)
 
--- a place, or the end
 at_or_end : (n l : ℕ) → n ≤ l → unwrap_or (cond (nat_lt n l) (Some n) None) l ≡ n
 at_or_end n l h = elim (cases_Bool (nat_lt n l)) [
   | inl t ↦ ap (λ o. unwrap_or o l) (cond-true _ _ _ t)
   | inr f ↦ ap (λ o. unwrap_or o l) (cond-false _ _ _ f) ∙ (let e : l ≡ n = omega (arith, h, ltb-false n l f) in e)
 ]
 
--- what holds of all and of one more
 pub all_more : {X : Type 0} (P : X → Type 0) (xs : List X) (x : X) → All P xs → P x → All P (xs ++ x ∷ [])
 all_more {X} P xs x all one = All-from_recursion P (xs ++ x ∷ []) (more xs (recursion_from_All P xs all)) where
   more : (ys : List X) → AllByRecursion P ys → AllByRecursion P (ys ++ x ∷ [])
   more [] h = (one, tt)
   more (y ∷ ys) h = (h.0, more ys h.1)
 
--- what holds of all holds without the last one
 all_less : {X : Type 0} (P : X → Type 0) (xs : List X) (x : X) → All P (xs ++ x ∷ []) → All P xs × P x
 all_less {X} P xs x all =
     let both = less xs (recursion_from_All P (xs ++ x ∷ []) all) in (All-from_recursion P xs both.0, both.1)
@@ -43,7 +39,7 @@ all_less {X} P xs x all =
     less [] h = (tt, h.0)
     less (y ∷ ys) h = let both = less ys h.1 in ((h.0, both.0), both.1)
 
--- ---- the first rows of a number
+-- ---- the leading rows with a hash
 
 module _ {M : Type 0} where
   pub other_or_end : (p : Named M → Bool) (rows : List (Named M)) → unwrap_or (position p rows) (length rows) ≡ position_or_len p rows
@@ -85,7 +81,6 @@ module _ {M : Type 0} where
         let e : length (after_run number (row ∷ rows)) ≡ suc (length rows) = ap length (cond-false _ _ _ f) in omega (arith, e))
   ]
 
-  -- a row has its own number
   own_number : (row : Named M) → has_number row.number row ≡ true
   own_number row = eq-eqb row.number row.number refl
 
@@ -103,14 +98,13 @@ module _ {M : Type 0} where
     | inr f ↦ subst AreTogether (sym (cond-false _ _ _ f)) h
   ]
 
-  -- no row of the number
   none_of_it : (number : ℕ) (rows : List (Named M)) → list_any (has_number number) rows ≡ false → filter (has_number number) rows ≡ []
   none_of_it number [] h = refl
   none_of_it number (row ∷ rows) h =
       let both = or_parts (has_number number row) (list_any (has_number number) rows) h in
       cond-false _ _ _ both.0 ∙ none_of_it number rows both.1
 
-  -- where no row of the number comes later, the first ones are all
+  -- where no later row has the hash, the leading ones are all
   run_is_all : (number : ℕ) (rows : List (Named M)) → list_any (has_number number) (after_run number rows) ≡ false
       → filter (has_number number) rows ≡ run_of number rows
   run_is_all number [] h = refl
@@ -123,7 +117,6 @@ module _ {M : Type 0} where
         none_of_it number (row ∷ rows) none ∙ sym (cond-false _ _ _ f))
   ]
 
-  -- rows of one number have no other
   other_number : (number other : ℕ) (row : Named M) → (number == other) ≡ false → has_number number row ≡ true
       → has_number other row ≡ false
   other_number number other row different has = ap (λ n. (n == other)) (eqb-true row.number number has) ∙ different
@@ -148,11 +141,11 @@ module _ {M : Type 0} where
     | inr f ↦ ap (list_any (has_number other)) (sym (cond-false _ _ _ f))
   ]
 
-  -- no row of the number is left, and no group has it
+  -- no row left has the hash, and no group has it
   abbrev has_none : ℕ → List (Group M) → Type 0
   has_none number groups = All (λ group. is_group_of number group ≡ false) groups
 
--- the rows of each number are among those that are left, or a group has them where they are several
+-- the rows of each hash are left, or are fewer than two, or a group has them
 pub record IsLeft {M : Type 0} (rows rest : List (Named M)) (groups : List (Group M)) : Type 0 where
   pub together : AreTogether rest
   pub each : All (HasAll rows) groups
@@ -167,7 +160,7 @@ unfolding IsDistinct
 no_group M = tt
 
 module _ {M : Type 0} where
-  -- all rows are left where there is no group yet
+  -- without groups all rows are left
   pub all_left : (rows : List (Named M)) (groups : List (Group M)) → AreTogether rows → groups ≡ [] → IsLeft rows rows groups
   all_left rows groups together none = subst (IsLeft rows rows) (sym none) record {
     together = together;
@@ -178,7 +171,7 @@ module _ {M : Type 0} where
         let e : length (filter (has_number number) rows) ≡ 0 = ap length (none_of_it number rows h) in omega (arith, e);
   }
 
-  -- one group more, of a number that none has
+  -- one more group, of a hash that no group has
   once_more : (groups : List (Group M)) (group : Group M) → IsDistinct have_one_number groups → has_none group.number groups
       → IsDistinct have_one_number (groups ++ group ∷ [])
   unfolding IsDistinct
@@ -193,7 +186,7 @@ module _ {M : Type 0} where
     more [] h new = (tt, tt)
     more (g ∷ gs) h new = (apart g gs new.0 h.0, more gs h.1 new.1)
 
-  -- the rows of one number more
+  -- the rows of one more hash
   pub one_less : (rows : List (Named M)) (row : Named M) (tail : List (Named M)) (old new : List (Group M)) (group : Group M)
       → IsLeft rows (row ∷ tail) old → group.number ≡ row.number → group.rows.now ≡ run_of row.number (row ∷ tail)
       → new ≡ old ++ several group → IsLeft rows (after_run row.number (row ∷ tail)) new
@@ -244,14 +237,14 @@ module _ {M : Type 0} where
             }
       ]
 
-  -- where none is left, each number that has several rows has a group
+  -- with no rows left, each hash with several rows has a group
   pub none_left : (rows : List (Named M)) (start : ℕ) (groups : List (Group M)) → length rows ≤ start → IsLeft rows (drop start rows) groups
       → AreGroups rows groups
   none_left rows start groups past left =
       let end = subst (λ l. IsLeft rows l groups) (drop_all start rows past) left in
       record { each = end.each; once = end.once; others = λ number none. end.done number refl none }
 
-  -- ---- the rows from a place on
+  -- ---- the rows from an index on
 
   front_of : (rows : List (Named M)) (start : ℕ) (row : Named M) → start < length rows → row ≡ get_or rows start row
       → drop start rows ≡ row ∷ drop (suc start) rows
@@ -269,7 +262,7 @@ module _ {M : Type 0} where
       (fewer row (drop (suc start) rows)) in
       omega (arith, within, less, ap length rest, length-drop start rows, length-drop count (drop start rows))
 
-  -- the rows of one number more, from a place on
+  -- the rows of one more hash, from an index on
   pub less_left : (rows : List (Named M)) (start : ℕ) (row : Named M) (old new : List (Group M)) (group : Group M)
       → start < length rows → row ≡ get_or rows start row → IsLeft rows (drop start rows) old
       → group.number ≡ row.number

@@ -1,4 +1,4 @@
--- Laws about the definitions: each id has a mapping, and the local names in order are those of the mappings.
+-- Laws of the definitions: each id has a mapping, and the local names in order are the mappings' local names.
 use Rattle.std.proofs.Common.{◌≡◌, ℕ, Bool, true, false, List, [], ◌∷◌, Option, Some, None, ap, sym, ◌∙◌, refl, inl, inr}
 use Rattle.std.specs.Prelude.{◌||◌}
 use Rattle.std.specs.List.{list_any, fold}
@@ -8,29 +8,26 @@ use Rattle.std.proofs.lemmas.Slice.Eq.{bytes_eq-Decides}
 use Rattle.gixp_matching.specs.Mappings.{Mapped, local_eq}
 use Rattle.gixp_matching.specs.Validation.{has_local, is_below, insert_name, insert_local, local_names}
 
--- three tests in a row
 or_again : (a b c : Bool) → ((a || b) || c) ≡ (a || (b || c))
 or_again true b c = refl
 or_again false b c = refl
 
--- one or the other, the other way round
 or_turned : (a b : Bool) → (a || b) ≡ (b || a)
 or_turned true true = refl
 or_turned true false = refl
 or_turned false true = refl
 or_turned false false = refl
 
--- the same test again adds nothing
 or_once : (a b : Bool) → ((a || b) || a) ≡ (a || b)
 or_once true b = refl
 or_once false true = refl
 or_once false false = refl
 
--- the name is among the names
+-- the names contain the name
 abbrev pub has : List ℕ → List (List ℕ) → Bool
 has name names = list_any (λ other. bytes_eq other name) names
 
--- an insertion adds the name and no other
+-- an insertion adds this name and no other
 has-insert_name : (name new : List ℕ) (names : List (List ℕ)) → has name (insert_name new names) ≡ (has name names || bytes_eq new name)
 has-insert_name name new [] = or_turned (bytes_eq new name) false
 has-insert_name name new (first ∷ rest) = elim (cases_Bool (is_below first new)) [
@@ -47,13 +44,13 @@ has-insert_name name new (first ∷ rest) = elim (cases_Bool (is_below first new
   ]
 ]
 
--- the same for a local name, where there is one
+-- inserting a local name adds this name, if there is one
 has-insert_local : (name : List ℕ) (local : Option (List ℕ)) (names : List (List ℕ)) → has name (insert_local local names)
     ≡ (has name names || local_eq local (Some name))
 has-insert_local name None names = sym (or_turned (has name names) false)
 has-insert_local name (Some new) names = has-insert_name name new names
 
--- the names that were inserted are those of before and the local names
+-- after several insertions the names are the old ones and the local names
 has-fold : (name : List ℕ) (ms : List Mapped) (names : List (List ℕ)) → has name (fold (λ ns m. insert_local m.local ns) names ms)
     ≡ (has name names || list_any (has_local name) ms)
 has-fold name [] names = sym (or_turned (has name names) false)

@@ -13,7 +13,7 @@ use Rattle.gixp_matching.specs.Leaving.{LeavesOut, CoversAll, without_item, all_
 use Rattle.gixp_matching.proofs.ListLemmas.{filter_of_map}
 use Rattle.gixp_refspec.proofs.PrefixLemmas.{matched_is_covered}
 
--- the first of equal ones, without the places of the refs
+-- the first of equal mappings, without the indices of the refs
 firsts-without_item : (ms : List Mapped) → firsts (map without_item ms) ≡ map without_item (firsts ms)
 firsts-without_item [] = refl
 firsts-without_item (m ∷ ms) =
@@ -24,31 +24,30 @@ firsts-without_item (m ∷ ms) =
 abbrev Misses : List (List ℕ) → Spec → Type 0
 Misses prefixes s = (name : List ℕ) → is_covered prefixes name ≡ false → is_negative s.sign ≡ false → matches s name ≡ false
 
--- what a refspec makes of a name at place i: nothing where b, else a mapping for the middle
+-- the mapping of a refspec and the name at index i: none where b holds, else one for the middle
 abbrev made : (s : ℕ × Spec) (name : List ℕ) (i : ℕ) (b : Bool) (middle : Option (List ℕ)) → List Mapped
 made s name i b middle = cond b [] (option_to_list (option_map (λ m. mapped (Some i) (FullName name) (local_of s.1 m) s.0) middle))
 
--- the place changes nothing but the place
+-- another index changes only the index in the mapping
 made_anywhere : (s : ℕ × Spec) (name : List ℕ) (i j : ℕ) (b : Bool) (middle : Option (List ℕ))
     → map without_item (made s name i b middle) ≡ map without_item (made s name j b middle)
 made_anywhere s name i j true middle = refl
 made_anywhere s name i j false None = refl
 made_anywhere s name i j false (Some m) = refl
 
--- nothing is made without a middle
 made_of_none : (s : ℕ × Spec) (name : List ℕ) (i : ℕ) (b : Bool) (middle : Option (List ℕ)) → is_some middle ≡ false
     → made s name i b middle ≡ []
 made_of_none s name i true middle h = refl
 made_of_none s name i false None h = refl
 made_of_none s name i false (Some m) h = cc
 
--- the mapping of a pair, at two places of the ref
+-- a refspec and a name at two indices
 pair_anywhere : (specs : List Spec) (s : ℕ × Spec) (name : List ℕ) (i j : ℕ) → map without_item (pair specs s (i, name))
     ≡ map without_item (pair specs s (j, name))
 unfolding pair
 pair_anywhere specs s name i j = made_anywhere s name i j (is_negative s.1.sign || is_excluded specs name) (middle_of s.1.source name)
 
--- a name that is not covered makes no mapping
+-- a name that isn't covered has no mapping
 pair_of_none : (specs : List Spec) (s : ℕ × Spec) (prefixes : List (List ℕ)) (name : List ℕ) (i : ℕ) → Misses prefixes s.1
     → is_covered prefixes name ≡ false → pair specs s (i, name) ≡ []
 unfolding pair
@@ -58,7 +57,7 @@ pair_of_none specs s prefixes name i misses h = elim (cases_Bool (is_negative s.
       (misses name h positive)
 ]
 
--- one refspec over fewer names
+-- one refspec and fewer names
 pairs_of_fewer : (specs : List Spec) (s : ℕ × Spec) (prefixes : List (List ℕ)) → Misses prefixes s.1
     → (names all : List (List ℕ)) (i j : ℕ) → LeavesOut prefixes names all
     → map without_item (flat_map (pair specs s) (enumerate_from i names))
@@ -77,7 +76,7 @@ pairs_of_fewer specs s prefixes misses names (name ∷ all) i j (inr h) =
     ∙ ap (λ z. map without_item (pair specs s (j, name)) ++ z) (pairs_of_fewer specs s prefixes misses h.0 all (i + 1) (j + 1) h.2)
     ∙ sym (map-append without_item (pair specs s (j, name)) right)
 
--- a positive refspec of the list matches no name that its prefixes do not cover
+-- a positive refspec of the list matches no name that its prefixes don't cover
 misses_from_prefixes : (prefixes : List (List ℕ)) (s : Spec) (part : List Spec) → CoversAll prefixes (s ∷ part) → Misses prefixes s
 misses_from_prefixes prefixes s part has name h positive = elim (cases_Bool (matches s name)) [
   | inl t ↦ (
@@ -87,12 +86,12 @@ misses_from_prefixes prefixes s part has name h positive = elim (cases_Bool (mat
   | inr f ↦ f
 ]
 
--- the prefixes of the rest are among the prefixes
+-- the prefixes of the remaining refspecs are among the prefixes
 rest_has : (prefixes : List (List ℕ)) (s : Spec) (part : List Spec) → CoversAll prefixes (s ∷ part) → CoversAll prefixes part
 rest_has prefixes s part has name h =
     has name (list_any-append (λ prefix. starts_with nat_eq name prefix) (prefixes_of s) (all_prefixes part) ∙ or_right _ _ h)
 
--- each refspec over fewer names
+-- each refspec and fewer names
 pairs_fewer : (specs : List Spec) (prefixes : List (List ℕ)) (names all : List (List ℕ)) → LeavesOut prefixes names all
     → (part : List Spec) (k : ℕ) → CoversAll prefixes part
     → map without_item (flat_map (pairs_of specs names) (enumerate_from k part))

@@ -1,4 +1,3 @@
--- Lemmas.
 pub mod NeedleLemmas
 pub mod PairLemmas
 pub mod ListLemmas

@@ -1,4 +1,4 @@
--- What a needle matches is what its source matches.
+-- A needle matches what its source matches.
 use Rattle.std.proofs.Common.{◌≡◌, ℕ, List, Option, ap, sym, ◌∙◌}
 use Rattle.gixp_refspec.specs.declared.needle.Needle.{Needle}
 use Rattle.gixp_refspec.specs.declared.needle.Needle.TheVariants.{Id as the_id, Pattern as the_pattern, Exact as the_exact, Short as the_short}
@@ -7,7 +7,7 @@ use Rattle.std.specs.Str.{bytes_eq}
 use Rattle.gixp_refspec.specs.Matching.{middle_of, middle_by, between, where_true, candidates, before_star}
 use Rattle.gixp_refspec.specs.Needle.{IsNeedle, middle_with}
 
--- the middle of a name is the same by the needle and by the source
+-- the needle and the source find the same middle of a name
 pub middle_with-needle : (source name : List ℕ) (needle : Needle) → IsNeedle source needle → middle_with needle name ≡ middle_of source name
 unfolding middle_of
 middle_with-needle source name the_id h = ap (λ k. middle_by k source name) (sym h)
@@ -17,7 +17,6 @@ middle_with-needle source name (the_exact text) h = ap (λ t. where_true (bytes_
 middle_with-needle source name (the_short text) h =
     ap (λ t. where_true (list_any (λ candidate. bytes_eq name candidate) (candidates t))) h.1 ∙ ap (λ k. middle_by k source name) (sym h.0)
 
--- what the needle finds is the middle
 pub found_is : (source name : List ℕ) (needle : Needle) (r found : Option (List ℕ)) → IsNeedle source needle → r ≡ middle_with needle name
     → r ≡ found → middle_of source name ≡ found
 found_is source name needle r found made was is = sym (middle_with-needle source name needle made) ∙ sym was ∙ is

@@ -1,4 +1,4 @@
--- Negative refspecs that were looked at once.
+-- Prepared negative refspecs.
 use Rattle.std.proofs.Common.{◌≡◌, ℕ, ◌+◌, ◌<◌, ◌≤◌, Bool, true, false, List, [], ◌∷◌, ◌++◌, length, take, map, get_or, inl, inr, arith, IsPermutation, ap, sym, ◌∙◌, refl}
 use Rattle.std.specs.Prelude.{◌&&◌, ◌||◌, ◌==◌, not, filter, is_some}
 use Rattle.std.specs.List.{list_any}
@@ -21,12 +21,10 @@ use Rattle.gixp_matching.proofs.KeyLemmas.{bytes_eq-turned}
 use Rattle.gixp_packetline.proofs.ListLemmas.{take-map_more}
 use Rattle.gixp_matching.proofs.NeedleLemmas.{middle_with-needle}
 
--- a middle that is empty is there where the test holds
 some_where : (b : Bool) → is_some (where_true b) ≡ b
 some_where true = refl
 some_where false = refl
 
--- one more after the first of two
 or_between : (a b c : Bool) → ((a || c) || b) ≡ ((a || b) || c)
 or_between true b c = refl
 or_between false true true = refl
@@ -38,7 +36,7 @@ or_behind : (a b c : Bool) → (a || (b || c)) ≡ ((a || b) || c)
 or_behind true b c = refl
 or_behind false b c = refl
 
--- what a needle of a negative refspec matches is excluded
+-- a name that the needle of a negative refspec matches is excluded
 matched_is : (s : Spec) (needle : Needle) (name : List ℕ) → is_negative s.sign ≡ true → IsNeedle s.source needle
     → is_some (middle_with needle name) ≡ excludes name s
 matched_is s needle name negative made = ap is_some (middle_with-needle s.source name needle made)
@@ -50,7 +48,7 @@ pub none_more : (rows : List Row) (needles : List Needle) (s : Spec) (name : Lis
 none_more rows needles s name positive =
     sym (ap (λ b. is_any rows needles name || (b && is_some (middle_of s.source name))) positive ∙ or_none (is_any rows needles name))
 
--- one exact name more
+-- one more exact name
 pub name_more : (rows new : List Row) (needles : List Needle) (row : Row) (needle : Needle) (s : Spec) (name : List ℕ)
     → is_negative s.sign ≡ true → IsNeedle s.source needle
     → is_some (middle_with needle name) ≡ bytes_eq name row.name.now → new ≡ rows ++ row ∷ []
@@ -63,7 +61,7 @@ name_more rows new needles row needle s name negative made exact put =
     ∙ or_between (list_any (is_row_of name) rows) others (is_row_of name row)
     ∙ ap (λ b. is_any rows needles name || b) (bytes_eq-turned row.name.now name ∙ sym exact ∙ matched_is s needle name negative made)
 
--- one needle more
+-- one more needle
 pub needle_more : (rows : List Row) (needles new : List Needle) (needle : Needle) (s : Spec) (name : List ℕ) → is_negative s.sign ≡ true
     → IsNeedle s.source needle
     → new ≡ needles ++ needle ∷ [] → is_any rows new name ≡ (is_any rows needles name || excludes name s)
@@ -78,7 +76,7 @@ needle_more rows needles new needle s name negative made put =
 pub exact_is : (name text : List ℕ) → is_some (where_true (bytes_eq name text)) ≡ bytes_eq name text
 exact_is name text = some_where (bytes_eq name text)
 
--- a step of the walk over the refspecs
+-- a step of the loop over the refspecs
 pub prepared_more : (rows new : List Row) (needles others : List Needle) (specs : List RefSpecRef) (i : ℕ) (x : RefSpecRef)
     (name : List ℕ) → x ≡ get_or specs i x → i < length specs
     → is_any rows needles name ≡ list_any (excludes name) (take i (map value_of specs))
@@ -91,7 +89,7 @@ prepared_more rows new needles others specs i x name e l kept step =
     ∙ sym (list_any-append (excludes name) front (value_of (get_or specs i x) ∷ []))
     ∙ ap (list_any (excludes name)) (sym (take-map_more value_of specs i x l))
 
--- something passes exactly where not nothing is kept
+-- an element passes exactly where a filter keeps one
 pub kept_some : {X : Type 0} (p : X → Bool) (xs kept : List X) (b : Bool) → b ≡ (length kept == 0) → kept ≡ filter p xs
     → not b ≡ list_any p xs
 kept_some p xs kept b is same = ap not (is ∙ ap (λ l. length l == 0) same) ∙ at p xs where

@@ -1,4 +1,4 @@
--- A mapping is of one of the refspecs, and takes the first ref of its name, or an id.
+-- A mapping has one of the refspecs, and the first ref with its name or an id.
 use Rattle.std.proofs.Common.{◌≡◌, ℕ, ◌+◌, Bool, true, false, cond, List, [], ◌∷◌, ◌++◌, Option, Some, None, ◌⊎◌, inl, inr, length, ap, sym, ◌∙◌, refl, subst, arith, append_assoc}
 use Rattle.std.specs.Prelude.{◌||◌, ◌&&◌, is_some, option_to_list}
 use Rattle.std.specs.Option.{option_map}
@@ -17,7 +17,7 @@ use Rattle.gixp_refspec.proofs.PrefixLemmas.{matched_is_covered}
 use Rattle.gixp_matching.proofs.ListLemmas.{stands_at}
 use Rattle.gixp_matching.proofs.BackedLemmas.{has_same, Backed, backed_append, firsts_are_good}
 
--- the other is the name
+-- two names are equal
 abbrev is_name : List ℕ → List ℕ → Bool
 is_name name other = bytes_eq other name
 
@@ -31,11 +31,11 @@ local_same (Some a) = bytes_same a
 both : (a b : Bool) → a ≡ true → b ≡ true → (a && b) ≡ true
 both a b p q = rw p q
 
--- what a refspec makes of a name at place i: nothing where b, else a mapping for the middle
+-- the mapping of a refspec and the name at index i: none where b holds, else one for the middle
 abbrev made : (s : ℕ × Spec) (name : List ℕ) (i : ℕ) (b : Bool) (middle : Option (List ℕ)) → List Mapped
 made s name i b middle = cond b [] (option_to_list (option_map (λ m. mapped (Some i) (FullName name) (local_of s.1 m) s.0) middle))
 
--- all that a refspec makes of a name is known
+-- all mappings of a refspec and a name are known
 abbrev Knows : List Mapped → List Mapped → Type 0
 Knows known ms = AllByRecursion (λ m. has_same known m ≡ true) ms
 
@@ -43,7 +43,7 @@ knows_more : (x : Mapped) (known ms : List Mapped) → Knows known ms → Knows 
 knows_more x known [] h = tt
 knows_more x known (m ∷ ms) h = (or_right _ _ h.0, knows_more x known ms h.1)
 
--- one name of one refspec, and what comes after it
+-- one name of one refspec, followed by others
 one_backed : (G : Mapped → Type 0) (known ys : List Mapped) (s : ℕ × Spec) (name : List ℕ) (i : ℕ) (b : Bool) (middle : Option (List ℕ))
     → ((m : List ℕ) → b ≡ false → middle ≡ Some m → G (mapped (Some i) (FullName name) (local_of s.1 m) s.0)
     ⊎ (has_same known (mapped (Some i) (FullName name) (local_of s.1 m) s.0) ≡ true))
@@ -59,13 +59,13 @@ one_backed G known ys s name i false (Some m) h t =
           (λ j. (or_left _ _ (both _ _ (bytes_same name) (local_same (local_of s.1 m))), tt)),
     )
 
--- what is known of what was made
+-- the origin of a mapping that was made
 knows_made : (known : List Mapped) (s : ℕ × Spec) (name : List ℕ) (i : ℕ) (b : Bool) (middle : Option (List ℕ)) (m : List ℕ) → b ≡ false
     → middle ≡ Some m
     → Knows known (made s name i b middle) → has_same known (mapped (Some i) (FullName name) (local_of s.1 m) s.0) ≡ true
 knows_made known s name i b middle m e f h = let k = rw (e, f) at h in k.0
 
--- the first that passes, after others that don't
+-- the first element that passes, after others that don't
 first_at_seam : (p : List ℕ → Bool) (k : ℕ) (done rest : List (List ℕ)) (x : List ℕ) → list_any p done ≡ false → p x ≡ true
     → position_from p k (done ++ x ∷ rest) ≡ Some (k + length done)
 first_at_seam p k [] rest x none here = rw here (ap (λ n. Some n) (omega arith))
@@ -83,12 +83,11 @@ not_either false b h = refl
 is_there : (o : Option (List ℕ)) (m : List ℕ) → o ≡ Some m → is_some o ≡ true
 is_there o m e = ap is_some e
 
--- a name that is the only one
 named : (other name : List ℕ) → (is_name other name || false) ≡ true → name ≡ other
 named other name h =
     (bytes_eq-Decides name other).0 (elim (or_cases (is_name other name) false h) [ inl t ↦ t | inr f ↦ absurd (false≢true f) ])
 
--- one refspec and the names after those that are done
+-- one refspec and the remaining names
 row_backed : (specs : List Spec) (names : List (List ℕ)) (j : ℕ) (s : Spec) → slice_get specs j ≡ Some s
     → (known : List Mapped) (done rest : List (List ℕ)) (i : ℕ) → i ≡ length done → names ≡ done ++ rest
     → ((name : List ℕ) → list_any (is_name name) done ≡ true → (at : ℕ) → Knows known (pair specs (j, s) (at, name)))

@@ -1,4 +1,4 @@
--- The places of the refs that a short name stands for.
+-- The indices of the refs that a short name may mean.
 use Rattle.std.proofs.Common.{◌≡◌, ℕ, ◌+◌, ◌<◌, ◌==◌, Bool, true, false, cond, List, [], ◌∷◌, ◌++◌, length, map, filter, get_or, ◌≤◌, Option, Some, None, Less, Equal, refl, sym, ap, ◌∙◌, append_assoc, subst, arith, length-append}
 use Rattle.std.specs.Prelude.{◌||◌}
 use Rattle.std.specs.Borrow.{Bor}
@@ -32,7 +32,6 @@ use Rattle.gixp_matching.proofs.PairLemmas.{pair_none}
 use Rattle.gixp_matching.proofs.RowLemmas.{meant_none, flat_map-filter}
 use Rattle.gixp_matching.proofs.SoughtLemmas.{itself, short_sought}
 
--- at first none was added
 pub none_added : (set : BTreeSet ℕ) → AddsPlaces [] set set
 none_added set place = sym (or_none (contains nat_cmp set place))
 
@@ -42,7 +41,7 @@ turned true false = refl
 turned false true = refl
 turned false false = refl
 
--- the place of one ref
+-- the index of one ref
 pub place_added : (ref : ℕ × List ℕ) (old new : BTreeSet ℕ)
     → ((place : ℕ) → contains nat_cmp new place ≡ cond (is_eq (nat_cmp ref.0 place)) true (contains nat_cmp old place))
     → AddsPlaces (ref ∷ []) old new
@@ -54,7 +53,7 @@ or_again : (a b c : Bool) → ((a || b) || c) ≡ (a || (b || c))
 or_again true b c = refl
 or_again false b c = refl
 
--- those of more refs
+-- the indices of more refs
 pub places_added : (refs more : List (ℕ × List ℕ)) (old now new : BTreeSet ℕ) → AddsPlaces refs old now → AddsPlaces more now new
     → AddsPlaces (refs ++ more) old new
 places_added refs more old now new kept step place =
@@ -62,7 +61,7 @@ places_added refs more old now new kept step place =
     ∙ or_again (contains nat_cmp old place) (has_place place refs) (has_place place more)
     ∙ ap (λ b. contains nat_cmp old place || b) (sym (list_any-append (λ (r : ℕ × List ℕ). r.0 == place) refs more))
 
--- an empty set has those of no name
+-- an empty set has the indices of no name
 pub no_places : (all : List (List ℕ)) (set : BTreeSet ℕ) (place : ℕ) → set.keys ≡ []
     → contains nat_cmp set place ≡ has_place place (meant all [])
 no_places all set place h = rw h (ap (has_place place) (meant_none all))
@@ -80,7 +79,7 @@ second_has true f true b h = refl
 second_has true f false b h = refl
 second_has false f a b h = h
 
--- what is found among those that pass one of two tests
+-- an element is found among those that pass one of two tests
 any_of_either : {X : Type 0} (p a b : X → Bool) (xs : List X) → list_any p (filter (λ x. a x || b x) xs)
     ≡ (list_any p (filter a xs) || list_any p (filter b xs))
 any_of_either p a b [] = refl
@@ -94,7 +93,7 @@ any_of_either {X} p a b (x ∷ xs) = at (a x) (b x) (any_of_either p a b xs)
     at false true h = second_has (p x) _ _ _ h
     at false false h = h
 
--- those of one name more
+-- the indices of one more name
 pub places_more : (wanted all texts : List (List ℕ)) (text : List ℕ) (rows run : List Row) (now new : BTreeSet ℕ)
     → IsRowTable wanted all rows → is_among wanted text ≡ true
     → ((place : ℕ) → contains nat_cmp now place ≡ has_place place (meant all texts)) → run ≡ filter (is_row_of text) rows
@@ -111,12 +110,12 @@ places_more wanted all texts text rows run now new table has kept was step place
     ∙ ap (λ l. has_place place (meant all texts) || has_place place l) its
     ∙ sym (ap (has_place place) both ∙ any_of_either (λ (ref : ℕ × List ℕ). ref.0 == place) before here refs)
 
--- ---- in order
+-- ---- in ascending order
 
 less_from : (j k : ℕ) → j < k → nat_cmp j k ≡ Less
 less_from j k l = sym (nat_cmp_is j k Less l)
 
--- the places of refs from one on are above those before it
+-- the indices of refs from one on are above those before it
 above : (q : ℕ × List ℕ → Bool) (j k : ℕ) (xs : List (List ℕ)) → j < k
     → AllByRecursion (λ y. nat_cmp j y ≡ Less) (map (λ ref. ref.0) (filter q (enumerate_from k xs)))
 above q j k [] l = tt
@@ -143,7 +142,7 @@ rising q k (x ∷ xs) = at (q (k, x)) (rising q (k + 1) xs)
 same_place : (p q : ℕ) → is_eq (nat_cmp q p) ≡ (p == q)
 same_place p q = ap is_eq (nat_cmp_total.antisymm q p) ∙ is_eq-reverse (nat_cmp p q) ∙ unsigned_tied p q
 
--- the numbers of the set are these places in order
+-- the numbers of the set are these indices in order
 pub places_are : (texts : List (List ℕ)) (rows : List Row) (set : BTreeSet ℕ) → IsOrdered nat_cmp set → HasPlaces texts rows set
     → ArePlaces texts rows set.keys
 places_are texts rows set up has wanted all table within =
@@ -156,15 +155,15 @@ places_are texts rows set up has wanted all table within =
     ∙ any_same (λ (ref : ℕ × List ℕ). is_eq (nat_cmp place ref.0)) (λ ref. ref.0 == place) (λ ref. same_place ref.0 place) refs))
     (λ x y h. ranked x y Equal (sym h))
 
--- ---- the refs at the places
+-- ---- the refs at the indices
 
--- none at a place after the last
+-- no ref has an index past the last one
 pub no_ref : {X : Type 0} (h : X → List ℕ) (xs : List X) (k : ℕ) → length xs ≤ k → ref_at (map h xs) k ≡ []
 no_ref h xs k l =
     let none : slice_get (map h xs) k ≡ None = slice_get-map h xs k ∙ ap (option_map h) (slice_get_past xs k l) in
     rw none refl
 
--- at any other its name
+-- each other index has a ref
 pub one_ref : {X : Type 0} (h : X → List ℕ) (xs : List X) (k : ℕ) (x : X) → k < length xs → x ≡ get_or xs k x
     → ref_at (map h xs) k ≡ (k, h x) ∷ []
 one_ref h xs k x l e =
@@ -177,7 +176,7 @@ the_ref all front xs x k h e =
     let found = stands_at all front xs x k h e in
     rw found refl
 
--- what is made of the refs at the places of refs is what is made of these
+-- the results for the refs at these indices are those for the refs
 refs_at : {B : Type 0} (f : ℕ × List ℕ → List B) (q : ℕ × List ℕ → Bool) (all front xs : List (List ℕ)) (k : ℕ) → all ≡ front ++ xs
     → k ≡ length front
     → flat_map (λ place. flat_map f (ref_at all place)) (map (λ ref. ref.0) (filter q (enumerate_from k xs)))
@@ -200,7 +199,7 @@ refs_at {B} f q all front (x ∷ xs) k h e =
         ∙ ap (λ l. f (k, x) ++ l) more
     at false more = more
 
--- a short name has the places of the refs that it stands for
+-- a short name has the places of the refs that it may mean
 pub short_placed : (specs : List Spec) (wanted all : List (List ℕ)) (s : ℕ × Spec) (name : Bor (List ℕ)) (rows : List Row) (places : List ℕ)
     (now new : List (Option ℕ × ℕ)) → IsNeedle s.1.source (the_short name) → is_negative s.1.sign ≡ false → IsRowTable wanted all rows
     → AreSought wanted (sought_by s.1) → ArePlaces (candidates name.now) rows places
@@ -215,7 +214,7 @@ short_placed specs wanted all s name rows places now new made positive table has
     (λ ref other. sym (pair_none specs s ref (sym (middle_with-needle s.1.source ref.1 (the_short name) made) ∙ ap where_true other)))
     (enumerate_from 0 all))
 
--- of texts and one more that are sought, the texts are, and the one is
+-- where a list of texts and one more are looked up, so are both parts
 pub sought_front : (wanted texts : List (List ℕ)) (text : List ℕ) → AreSought wanted (texts ++ text ∷ []) → AreSought wanted texts
 sought_front wanted texts text has t is = has t (list_any-append (λ other. bytes_eq t other) texts (text ∷ []) ∙ or_left _ _ is)
 

@@ -1,4 +1,4 @@
--- Keys at their places, and which of them are the first of equal ones.
+-- Keys with their indices, and which of them are the first of equal ones.
 use Rattle.std.proofs.Common.{◌≡◌, ℕ, ◌+◌, ◌<◌, ◌≤◌, Bool, true, false, List, [], ◌∷◌, ◌++◌, length, take, map, get_or, Ordering, refl, sym, ap, subst, ◌∙◌, append_assoc, arith}
 use Rattle.std.specs.Prelude.{◌&&◌, ◌||◌, ◌==◌, nat_lt, not}
 use Rattle.std.specs.List.{AllByRecursion, IsDistinct, list_any}
@@ -14,7 +14,7 @@ use Rattle.gixp_matching.specs.Placed.{placed, placed_from}
 use Rattle.gixp_matching.proofs.FirstLemmas.{or_none}
 use Rattle.gixp_matching.proofs.ListLemmas.{any_same}
 
--- ---- places
+-- ---- indices
 
 module _ {P : Type 0} where
   placed-append : (n : ℕ) (xs ys : List P) → placed_from n (xs ++ ys) ≡ placed_from n xs ++ placed_from (n + length xs) ys
@@ -23,7 +23,7 @@ module _ {P : Type 0} where
       let same : n + 1 + length xs ≡ n + length (x ∷ xs) = omega arith in
       ap (λ l. (x, n) ∷ l) (placed-append (n + 1) xs ys ∙ ap (λ m. placed_from (n + 1) xs ++ placed_from m ys) same)
 
-  -- a step of a loop that lists each element with its place
+  -- a step of a loop that lists each element with its index
   pub placed_more : {A : Type 0} (g : A → P) (now new : List (P × ℕ)) (xs : List A) (i : ℕ) (d : A) → i < length xs
       → now ≡ placed_from 0 (take i (map g xs)) → new ≡ now ++ (g (get_or xs i d), i) ∷ [] → new ≡ placed_from 0 (take (i + 1) (map g xs))
   placed_more g now new xs i d l kept step =
@@ -54,11 +54,11 @@ module _ {P : Type 0} where
     apart_back [] h = tt
     apart_back (row ∷ rows) h = (all_back row.1 rows h.0, apart_back rows h.1)
 
-    -- no two rows have one place
+    -- no two rows have one index
     pub rows_apart : (rows : List (K × ℕ)) (xs : List P) → map (placed s) rows ≡ placed_from 0 xs → IsDistinct (λ a b. a.1 == b.1) rows
     rows_apart rows xs is = apart_back rows (subst (IsDistinct (λ a b. a.1 == b.1)) (sym is) (places_apart 0 xs))
 
-  -- ---- what stands before a place
+  -- ---- the elements before an index
 
   module _ (t : P → P → Bool) where
     abbrev before : List (P × ℕ) → P → ℕ → Bool
@@ -104,7 +104,7 @@ module _ {P : Type 0} where
         ∙ ap (λ b. b || before (placed_from (k + 1) ys) x n) (and_false (t y x))
         ∙ before_none x n (k + 1) ys (omega arith)
 
-    -- what stands before the place of an element is what stands in front of it
+    -- the elements before the index of an element are those in front of it
     repeat_at : (front : List P) (x : P) (later : List P) (n : ℕ) → n ≡ length front
         → repeat (placed_from 0 front ++ (x, n) ∷ placed_from (n + 1) later) n ≡ list_any (λ y. t y x) front
     repeat_at front x later n e =
@@ -144,7 +144,7 @@ module _ {P : Type 0} where
           ∙ first_tested (front ++ m ∷ []) rest in
           ap (λ b. b ∷ tested_from (λ p. not (repeat all p)) (n + 1) rest) flag ∙ ap (λ l. is_fresh front m ∷ l) later
 
--- ---- rows that stand for the keys of mappings
+-- ---- rows for the keys of mappings
 
 tested_map : {A B : Type 0} (f : A → B) (t : ℕ → Bool) (n : ℕ) (xs : List A) → tested_from t n xs ≡ tested_from t n (map f xs)
 tested_map f t n [] = refl

@@ -1,4 +1,4 @@
--- One key more that is above the last one.
+-- One more key above the last one.
 use Rattle.std.proofs.Common.{◌≡◌, List, [], ◌∷◌, ◌++◌, Option, Some, None, Ordering, Less, ap, sym, subst, refl}
 use Rattle.std.specs.Cmp.{IsTotalOrder}
 use Rattle.std.specs.List.{AllByRecursion}
@@ -6,7 +6,7 @@ use Rattle.std.specs.List.Sorted.{IsStrictlySortedBy}
 use Rattle.gixp_matching.specs.Rising.{IsAbove, RisesTo}
 
 module _ {K : Type 0} {R : K → K → Ordering} (o : IsTotalOrder R) where
-  -- what is below all of some keys and so below the last is below one that is above the last
+  -- a key below all others is below a key that is above the last
   all_below_more : (x last key : K) (front : List K) → AllByRecursion (λ y. R x y ≡ Less) (front ++ last ∷ []) → R last key ≡ Less
       → AllByRecursion (λ y. R x y ≡ Less) ((front ++ last ∷ []) ++ key ∷ [])
   all_below_more x last key [] h above = (h.0, (o.trans x last key h.0 above, tt))
@@ -22,7 +22,7 @@ module _ {K : Type 0} {R : K → K → Ordering} (o : IsTotalOrder R) where
   unfolding IsStrictlySortedBy
   only_one key = (tt, tt)
 
-  -- one key more
+  -- one more key
   pub rises_more : (last : Option K) (key : K) → IsAbove R last key → (keys : List K) → RisesTo R keys last
       → RisesTo R (keys ++ key ∷ []) (Some key)
   rises_more None key above keys h =
@@ -33,7 +33,7 @@ module _ {K : Type 0} {R : K → K → Ordering} (o : IsTotalOrder R) where
         (sorted_more last key h.0.0 (subst (IsStrictlySortedBy R) h.0.1 h.1) above),
   )
 
--- keys that rise to a last one
+-- keys that ascend to a last one are sorted
 pub sorted_from_rising : {K : Type 0} (R : K → K → Ordering) (keys : List K) (last : Option K) → RisesTo R keys last
     → IsStrictlySortedBy R keys
 unfolding IsStrictlySortedBy

@@ -1,4 +1,4 @@
--- Refs in the order of their names.
+-- Refs sorted by name.
 use Rattle.std.proofs.Common.{◌≡◌, ℕ, ◌+◌, ◌≤◌, ◌<◌, Bool, true, false, cond, List, [], ◌∷◌, ◌++◌, length, take, drop, map, get_or, Option, Ordering, Less, Equal, Greater, ap, sym, subst, ◌∙◌, refl, inl, inr, arith}
 use Rattle.std.specs.Prelude.{◌&&◌, not, filter, Result, Ok, Err, OnOk}
 use Rattle.std.specs.Borrow.{Bor}
@@ -31,7 +31,7 @@ use Rattle.gixp_matching.proofs.PairLemmas.{pair_none, pair_negative}
 use Rattle.gixp_matching.proofs.SoughtLemmas.{exact_sought}
 use Rattle.gixp_matching.proofs.SortedLemmas.{below_trans, other_below}
 
--- ---- what passes of a list
+-- ---- the elements of a list that pass
 
 module _ {X : Type 0} where
   filter_all : (p : X → Bool) (xs : List X) → AllByRecursion (λ x. p x ≡ true) xs → filter p xs ≡ xs
@@ -49,7 +49,7 @@ module _ {X : Type 0} where
     | inr f ↦ rw f (filter_twice p q xs)
   ]
 
-  -- up to a partition point all pass, and after it none
+  -- up to a partition point all elements pass, and after it none
   front_passes : (p : X → Bool) (xs : List X) (i : ℕ) → i ≤ length xs → IsPartitionPoint (λ y. p y ≡ true) (λ y. p y ≡ false) xs i
       → All (λ y. p y ≡ true) (take i xs)
   front_passes p xs i l h = λ k d m.
@@ -82,7 +82,7 @@ module _ {X : Type 0} where
       (all_turned p true (take i xs) (recursion_from_All _ _ (front_passes p xs i l h))))
       ∙ filter_all q (drop i xs) (all_turned p false (drop i xs) (recursion_from_All _ _ (back_fails p xs i l h)))
 
-  -- what gives nothing may be left out
+  -- elements with no results may be left out
   pub flat_map-filter : {B : Type 0} (f : X → List B) (p : X → Bool) → ((x : X) → p x ≡ false → f x ≡ []) → (xs : List X)
       → flat_map f (filter p xs) ≡ flat_map f xs
   flat_map-filter f p none [] = refl
@@ -93,7 +93,6 @@ module _ {X : Type 0} where
 
 -- ---- the order of names
 
--- neither is below the other
 pub neither : (o : Ordering) → (not (is_lt o) && not (is_lt (ordering_reverse o))) ≡ is_eq o
 neither Less = refl
 neither Equal = refl
@@ -123,7 +122,7 @@ until_from a b c h k = elim (cases_Bool (is_below c a)) [
 abbrev row_lt : Row → Row → Bool
 row_lt x y = is_lt (slice_cmp nat_cmp x.name.now y.name.now)
 
--- rows in order are parted by each name
+-- sorted rows are partitioned by each name
 pub parted_before : (name : List ℕ) (rows : List Row) → AreByName rows → IsPartitionedBy (λ (row : Row). is_below row.name.now name) rows
 parted_before name rows up = λ i j d le l t.
     below_from (get_or rows i d).name.now (get_or rows j d).name.now name
@@ -135,7 +134,7 @@ parted_until name rows up = λ i j d le l t.
     until_from (get_or rows i d).name.now (get_or rows j d).name.now name
     (sorted_far row_lt (ranks_by nat_list_cmp_total (λ row. row.name.now)) rows up i j d le l) t
 
--- what comes after the rows before a name is in order too
+-- the rows after those before a name are sorted too
 pub rest_in_order : (name : List ℕ) (rows : List Row) (i : ℕ) → AreByName rows → i ≤ length rows
     → IsPartitionPoint (λ (row : Row). is_below row.name.now name ≡ true) (λ row. is_below row.name.now name ≡ false) rows i
     → AreByName (drop i rows)
@@ -143,7 +142,7 @@ rest_in_order name rows i up l h =
     subst AreByName (rest_split (λ (row : Row). is_below row.name.now name) rows i l h)
     (IsSortedBy-filter row_lt (ranks_by nat_list_cmp_total (λ row. row.name.now)) (λ (row : Row). not (is_below row.name.now name)) rows up)
 
--- between the two points stand the rows of the name
+-- the rows between the two partition points have the name
 pub rows_between : (name : List ℕ) (rows : List Row) (i n : ℕ) → i ≤ length rows → n ≤ length (drop i rows)
     → IsPartitionPoint (λ (row : Row). is_below row.name.now name ≡ true) (λ row. is_below row.name.now name ≡ false) rows i
     → IsPartitionPoint (λ (row : Row). not (is_below name row.name.now) ≡ true) (λ row. not (is_below name row.name.now) ≡ false)
@@ -156,7 +155,7 @@ rows_between name rows i n l m h k =
     ∙ filter_twice (λ (row : Row). not (is_below name row.name.now)) (λ (row : Row). not (is_below row.name.now name)) rows
     ∙ kept_same _ _ (λ row. equal_or row.name.now name) rows
 
--- a stable sort by name keeps the order of the rows of each name
+-- a stable sort by name keeps the order of the rows with one name
 pub named_stays : (old new : List Row) → IsStableBy row_lt old new → (name : List ℕ)
     → filter (is_row_of name) new ≡ filter (is_row_of name) old
 named_stays old new stable name =
@@ -169,7 +168,7 @@ both_is_second true b h = refl
 both_is_second false true h = h refl
 both_is_second false false h = refl
 
--- the refs of a name are among those whose name is sought, where this one is
+-- the refs with a name are among those whose names are looked up, if this one is
 named_sought : (q : List ℕ → Bool) (name : List ℕ) (refs : List (ℕ × List ℕ)) → q name ≡ true
     → filter (λ ref. bytes_eq ref.1 name) (filter (λ ref. q ref.1) refs) ≡ filter (λ ref. bytes_eq ref.1 name) refs
 named_sought q name refs is =
@@ -177,7 +176,7 @@ named_sought q name refs is =
     ∙ kept_same (λ (ref : ℕ × List ℕ). q ref.1 && bytes_eq ref.1 name) (λ ref. bytes_eq ref.1 name)
     (λ ref. both_is_second (q ref.1) (bytes_eq ref.1 name) (λ e. ap q ((bytes_eq-Decides ref.1 name).0 e) ∙ is)) refs
 
--- the table of refs that were listed, where their name is sought, and sorted
+-- the table has the refs whose names are looked up, sorted
 pub table_is : (texts names : List (List ℕ)) (q : List ℕ → Bool) (rows sorted : List Row)
     → map shown rows ≡ filter (λ ref. q ref.1) (enumerate_from 0 names) → ((text : List ℕ) → q text ≡ is_among texts text)
     → AreByName sorted → ((name : List ℕ) → filter (is_row_of name) sorted ≡ filter (is_row_of name) rows)
@@ -190,7 +189,6 @@ table_is texts names q rows sorted listed has up same = record {
 
 -- ---- short names
 
--- refs of no name
 pub meant_none : (all : List (List ℕ)) → [] ≡ meant all []
 meant_none all = sym (filter_none (λ ref. false) (enumerate_from 0 all) (none (enumerate_from 0 all))) where
   none : (xs : List (ℕ × List ℕ)) → AllByRecursion (λ x. false ≡ false) xs
@@ -199,12 +197,11 @@ meant_none all = sym (filter_none (λ ref. false) (enumerate_from 0 all) (none (
 
 -- ---- the places of refs that were looked up
 
--- what holds on success of one holds of another that it implies
 pub on_ok : {X E : Type 0} (r : Result X E) (P Q : Type 0) → (P → Q) → OnOk r P → OnOk r Q
 on_ok (Ok x) P Q f h = f h
 on_ok (Err e) P Q f h = h
 
--- a refspec that matches nothing
+-- a refspec that matches nothing has no place
 pub nothing_placed : (specs : List Spec) (all : List (List ℕ)) (s : ℕ × Spec) (now : List (Option ℕ × ℕ))
     → ((ref : ℕ × List ℕ) → [] ≡ pair_places specs s ref) → now ≡ now ++ places_with specs all s
 nothing_placed specs all s now none = sym (ap (λ l. now ++ l) (empty (enumerate_from 0 all)) ∙ append-nil now) where
@@ -218,12 +215,12 @@ pub id_placed : (specs : List Spec) (all : List (List ℕ)) (s : ℕ × Spec) (n
 id_placed specs all s now made =
     nothing_placed specs all s now (λ ref. pair_none specs s ref (sym (middle_with-needle s.1.source ref.1 the_id made)))
 
--- a negative refspec has none
+-- a negative refspec has no place
 pub negative_placed : (specs : List Spec) (all : List (List ℕ)) (s : ℕ × Spec) (now : List (Option ℕ × ℕ)) → is_negative s.1.sign ≡ true
     → now ≡ now ++ places_with specs all s
 negative_placed specs all s now negative = nothing_placed specs all s now (λ ref. pair_negative specs s ref negative)
 
--- an exact name has those of the refs of this name
+-- an exact name has the places of the refs with this name
 pub exact_placed : (specs : List Spec) (texts all : List (List ℕ)) (s : ℕ × Spec) (name : Bor (List ℕ)) (rows run : List Row)
     (now new : List (Option ℕ × ℕ)) → IsNeedle s.1.source (the_exact name) → is_negative s.1.sign ≡ false → IsRowTable texts all rows
     → AreSought texts (sought_by s.1) → run ≡ filter (is_row_of name.now) rows

@@ -1,4 +1,4 @@
--- All mappings are those of the only positive refspec, where its source is a pattern.
+-- The only positive refspec makes all mappings, where its source is a pattern.
 use Rattle.std.proofs.Common.{◌≡◌, ℕ, zero, suc, ◌+◌, ◌<◌, ◌≤◌, Bool, true, false, List, [], ◌∷◌, ◌++◌, length, drop, map, get_or, cond, Option, Some, None, ap, sym, ◌∙◌, refl, inl, inr, subst, arith, add-one}
 use Rattle.std.specs.Prelude.{not, filter, is_some, option_map, option_to_list, position}
 use Rattle.std.specs.List.{list_any, flat_map, enumerate_from, position_or_len}
@@ -22,7 +22,7 @@ use Rattle.gixp_matching.specs.Places.{repeated}
 use Rattle.gixp_matching.specs.Single.{maps_refs, HasLonePattern}
 use Rattle.gixp_matching.proofs.PairLemmas.{unmapped_negative}
 
--- ---- lists of which just one item passes, where the others give nothing
+-- ---- lists with exactly one item that passes, where the others have no results
 
 module _ {A B C : Type 0} (p : A → Bool) (g : A → B) (f : ℕ × B → List C)
     (none : (n : ℕ) (x : A) → p x ≡ false → f (n, g x) ≡ []) where
@@ -43,7 +43,7 @@ module _ {A B C : Type 0} (p : A → Bool) (g : A → B) (f : ℕ × B → List 
       ap (λ l. l ++ flat_map f (enumerate_from (n + 1) (map g xs))) (none n x (before 0 (omega arith)))
       ∙ one_gives (n + 1) i k xs d (omega arith) (omega arith) (λ j l. before (suc j) (omega arith)) after
 
--- ---- what a refspec maps
+-- ---- the mappings of a refspec
 
 is_negative_of : (b : Bool) → not b ≡ false → b ≡ true
 is_negative_of true h = refl
@@ -53,24 +53,23 @@ is_positive_of : (b : Bool) → not b ≡ true → b ≡ false
 is_positive_of true h = absurd (false≢true h)
 is_positive_of false h = refl
 
--- the only positive refspec is positive
 pub only_is_positive : (specs : List RefSpecRef) (i : ℕ) (d : RefSpecRef) → IsOnlyPositive specs i
     → is_negative (get_or specs i d).sign ≡ false
 only_is_positive specs i d only = is_positive_of _ (position-Some is_positive specs i d only.first).1
 
--- a negative refspec has no id
+-- a negative refspec has no mapping of an id
 negative_id : (s : ℕ × Spec) → is_negative s.1.sign ≡ true → id_mapping s ≡ []
 unfolding id_mapping
 negative_id s negative = rw negative refl
 
--- it maps no ref
+-- a negative refspec maps no ref
 negative_pairs : (specs : List Spec) (s : ℕ × Spec) (refs : List (ℕ × List ℕ)) → is_negative s.1.sign ≡ true
     → flat_map (pair specs s) refs ≡ []
 negative_pairs specs s [] negative = refl
 negative_pairs specs s (ref ∷ refs) negative =
     ap (λ l. l ++ flat_map (pair specs s) refs) (sym (unmapped_negative specs s ref negative)) ∙ negative_pairs specs s refs negative
 
--- a pattern is no id
+-- a pattern isn't an id
 pattern_is_no_id : (source : List ℕ) → kind_of source ≡ Pattern → is_id source ≡ false
 unfolding kind_of
 pattern_is_no_id source h = elim (cases_Bool (is_id source)) [
@@ -96,7 +95,7 @@ pub pattern_source : (source : List ℕ) (needle : Needle) (before after : Bor (
     → needle ≡ the_pattern before after → kind_of source ≡ Pattern
 pattern_source source needle before after made is = (subst (IsNeedle source) is made).0
 
--- another needle's source is no pattern
+-- the source of another needle isn't a pattern
 pub other_source : (source : List ℕ) (needle : Needle) → IsNeedle source needle
     → ((before after : Bor (List ℕ)) → ¬ (needle ≡ the_pattern before after)) → ¬ (kind_of source ≡ Pattern)
 other_source source the_id made other pattern = let id : kind_of source ≡ Id = made in cc
@@ -104,9 +103,9 @@ other_source source (the_pattern before after) made other pattern = other before
 other_source source (the_exact name) made other pattern = let exact : kind_of source ≡ Exact = made.0 in cc
 other_source source (the_short name) made other pattern = let short : kind_of source ≡ Short = made.0 in cc
 
--- ---- what all refspecs map
+-- ---- the mappings of all refspecs
 
--- a group's mappings are those of its only positive refspec, where this is a pattern
+-- the only positive refspec of a group makes all its mappings, where it is a pattern
 pub single_makes : (specs : List RefSpecRef) (names : List (List ℕ)) (i : ℕ) (d : RefSpecRef) → IsOnlyPositive specs i
     → kind_of (get_or specs i d).source.now ≡ Pattern
     → repeated (values specs) names ≡ pairs_of (values specs) names (i, value_of (get_or specs i d))
@@ -121,10 +120,9 @@ single_makes specs names i d only pattern =
     ∙ one_gives is_positive value_of (pairs_of all names)
     (λ n x h. negative_pairs all (n, value_of x) (enumerate_from 0 names) (is_negative_of _ h)) 0 i i specs d here found.0 found.2 last
 
--- ---- that no other answer was left
+-- ---- without a single refspec
 
 module _ {A : Type 0} (p : A → Bool) where
-  -- none passes before the end
   none_kept : (xs : List A) → length xs ≤ position_or_len p xs → filter p xs ≡ []
   none_kept [] h = refl
   none_kept (x ∷ xs) h = elim (cases_Bool (p x)) [
@@ -132,7 +130,6 @@ module _ {A : Type 0} (p : A → Bool) where
     | inr f ↦ rw f (none_kept xs (let more = rw f at h in omega arith))
   ]
 
-  -- some item passes, so that the passing ones aren't none
   some_kept : (xs : List A) → list_any p xs ≡ true → ¬ (filter p xs ≡ [])
   some_kept [] any none = false≢true any
   some_kept (x ∷ xs) any none = elim (cases_Bool (p x)) [
@@ -140,7 +137,6 @@ module _ {A : Type 0} (p : A → Bool) where
     | inr f ↦ some_kept xs (rw f at any) (rw f at none)
   ]
 
-  -- one passes, and a later one too
   two_kept : (i : ℕ) (xs : List A) (d s : A) → i < length xs → p (get_or xs i d) ≡ true → ((j : ℕ) → j < i → p (get_or xs j d) ≡ false)
       → list_any p (drop (suc i) xs) ≡ true → ¬ (filter p xs ≡ s ∷ [])
   two_kept i [] d s within here before after lone = omega arith
@@ -150,7 +146,6 @@ module _ {A : Type 0} (p : A → Bool) where
       two_kept i xs d s (omega arith) here (λ j l. before (suc j) (omega arith)) after
       (let first : p x ≡ false = before 0 (omega arith) in rw first at lone)
 
-  -- one passes, and no other
   one_kept : (i : ℕ) (xs : List A) (d : A) → i < length xs → p (get_or xs i d) ≡ true → ((j : ℕ) → j < i → p (get_or xs j d) ≡ false)
       → list_any p (drop (suc i) xs) ≡ false → filter p xs ≡ get_or xs i d ∷ []
   one_kept i [] d within here before after = absurd (omega arith)
@@ -166,7 +161,7 @@ module _ {A : Type 0} (p : A → Bool) where
       let first : p x ≡ false = before 0 (omega arith) in
       rw first (one_kept i xs d (omega arith) here (λ j l. before (suc j) (omega arith)) after)
 
--- what passes among the values of refspecs
+-- the positive refspecs as values
 kept_values : (specs : List RefSpecRef) → filter maps_refs (values specs) ≡ values (filter is_positive specs)
 kept_values [] = refl
 kept_values (s ∷ specs) = elim (cases_Bool (is_positive s)) [
@@ -179,14 +174,14 @@ pub none_positive : (specs : List RefSpecRef) (s : RefSpecRef) → position is_p
 none_positive specs s none lone =
     let no : filter is_positive specs ≡ [] = none_kept is_positive specs (grind (arith, common_steps)) in cc
 
--- two are
+-- two refspecs are positive
 pub two_positive : (specs : List RefSpecRef) (s d : RefSpecRef) (i : ℕ) → position is_positive specs ≡ Some i
     → list_any is_positive (drop (i + 1) specs) ≡ true → ¬ (filter is_positive specs ≡ s ∷ [])
 two_positive specs s d i first another =
     let found = position-Some is_positive specs i d first in
     two_kept is_positive i specs d s found.0 found.1 found.2 (rw add-one at another)
 
--- no lone refspec is positive
+-- no single refspec is positive
 pub no_lone : (specs : List RefSpecRef) → IsPlaceOfOnly specs None → ¬ HasLonePattern (values specs)
 no_lone specs none has = one_value (filter is_positive specs) none (sym (kept_values specs) ∙ has.lone) where
   one_value : (kept : List RefSpecRef) → ((s : RefSpecRef) → ¬ (kept ≡ s ∷ [])) → ¬ (values kept ≡ has.spec ∷ [])
@@ -194,7 +189,7 @@ no_lone specs none has = one_value (filter is_positive specs) none (sym (kept_va
   one_value (s ∷ []) none same = none s refl
   one_value (s ∷ t ∷ more) none same = cc
 
--- the only positive refspec is no pattern
+-- the only positive refspec isn't a pattern
 pub no_pattern : (specs : List RefSpecRef) (i : ℕ) (d : RefSpecRef) → IsOnlyPositive specs i
     → ¬ (kind_of (get_or specs i d).source.now ≡ Pattern) → ¬ HasLonePattern (values specs)
 no_pattern specs i d only other has =

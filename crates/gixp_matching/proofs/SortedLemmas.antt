@@ -1,4 +1,4 @@
--- Local names stand in byte order.
+-- Local names are in byte order.
 use Rattle.std.proofs.Common.{◌≡◌, ℕ, Bool, true, false, List, [], ◌∷◌, Option, Some, None, Ordering, ap, sym, ◌∙◌, refl, inl, inr}
 use Rattle.std.specs.declared.cmp.Ordering.TheVariants.{Less, Equal, Greater}
 use Rattle.std.specs.Ordering.{is_lt, nat_cmp, ordering_reverse}
@@ -13,35 +13,29 @@ use Rattle.gixp_matching.specs.Mappings.{Mapped}
 use Rattle.gixp_matching.specs.Validation.{is_below, insert_name, insert_local, local_names}
 use Rattle.gixp_matching.specs.RefspecLaws.{is_increasing}
 
--- only `Less` is below
 pub less_is : (o : Ordering) → is_lt o ≡ true → o ≡ Less
 less_is Less h = refl
 less_is Equal h = cc
 less_is Greater h = cc
 
--- what is neither below nor equal is above
 turned : (o : Ordering) → is_lt o ≡ false → (o ≡ Equal → ⊥) → is_lt (ordering_reverse o) ≡ true
 turned Less h n = cc
 turned Equal h n = absurd (n refl)
 turned Greater h n = refl
 
--- byte order goes along
 pub below_trans : (a b c : List ℕ) → is_below a b ≡ true → is_below b c ≡ true → is_below a c ≡ true
 below_trans a b c h k = ap is_lt (nat_list_cmp_total.trans a b c (less_is (slice_cmp nat_cmp a b) h) (less_is (slice_cmp nat_cmp b c) k))
 
--- of two names one is below the other
 pub other_below : (first new : List ℕ) → is_below first new ≡ false → bytes_eq first new ≡ false → is_below new first ≡ true
 other_below first new h other =
     ap is_lt (nat_list_cmp_total.antisymm new first)
     ∙ turned (slice_cmp nat_cmp first new) h (λ e. false≢true (sym other ∙ (bytes_eq-Decides first new).1 (exact_bytes first new e)))
 
--- all pass a weaker test
 all_weaker : (p q : List ℕ → Bool) → ((x : List ℕ) → p x ≡ true → q x ≡ true) → (xs : List (List ℕ)) → list_all p xs ≡ true
     → list_all q xs ≡ true
 all_weaker p q h [] t = refl
 all_weaker p q h (x ∷ xs) t = let both = and_parts (p x) (list_all p xs) t in and_from _ _ (h x both.0) (all_weaker p q h xs both.1)
 
--- a name that is below all stays so after an insertion
 insert_all : (x new : List ℕ) (names : List (List ℕ)) → is_below x new ≡ true → list_all (is_below x) names ≡ true
     → list_all (is_below x) (insert_name new names) ≡ true
 insert_all x new [] h all = and_from _ _ h refl
@@ -72,18 +66,18 @@ increasing-insert_name new (first ∷ rest) h =
       ]
     ]
 
--- the same for a local name, where there is one
+-- inserting a local name keeps the order
 increasing-insert_local : (local : Option (List ℕ)) (names : List (List ℕ)) → is_increasing names ≡ true
     → is_increasing (insert_local local names) ≡ true
 increasing-insert_local None names h = h
 increasing-insert_local (Some new) names h = increasing-insert_name new names h
 
--- so do all insertions
+-- several insertions keep the order
 increasing-fold : (ms : List Mapped) (names : List (List ℕ)) → is_increasing names ≡ true
     → is_increasing (fold (λ ns m. insert_local m.local ns) names ms) ≡ true
 increasing-fold [] names h = h
 increasing-fold (m ∷ ms) names h = increasing-fold ms (insert_local m.local names) (increasing-insert_local m.local names h)
 
--- the local names increase
+-- the local names ascend
 pub increasing-local_names : (ms : List Mapped) → is_increasing (local_names ms) ≡ true
 increasing-local_names ms = increasing-fold ms [] refl

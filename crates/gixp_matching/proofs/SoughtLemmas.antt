@@ -1,4 +1,4 @@
--- The names that refspecs stand for.
+-- The full names that refspecs may mean.
 use Rattle.std.proofs.Common.{◌≡◌, ℕ, ◌+◌, ◌<◌, zero, suc, Bool, true, false, List, [], ◌∷◌, ◌++◌, length, take, cond, map, get_or, refl, sym, ap, ◌∙◌, inl, inr, arith}
 use Rattle.std.specs.Prelude.{◌||◌}
 use Rattle.std.specs.Borrow.{Bor}
@@ -19,7 +19,7 @@ use Rattle.gixp_packetline.proofs.ListLemmas.{take-map_more}
 use Rattle.gixp_matching.proofs.FirstLemmas.{or_none}
 use Rattle.gixp_matching.proofs.KeyLemmas.{bytes_eq-turned}
 
--- what is no pattern is sought by its prefixes
+-- the prefixes of a refspec without a pattern are looked up
 prefixes_sought : (s : Spec) → is_pattern s.source ≡ false → is_negative s.sign ≡ false
     → sought_by s ≡ prefixes_by (kind_of s.source) s.source
 unfolding prefixes_of
@@ -45,11 +45,10 @@ short_is_plain source h = elim (cases_Bool (is_id source)) [
   ]
 ]
 
--- a name is itself
 pub itself : (name : List ℕ) → bytes_eq name name ≡ true
 itself name = (bytes_eq-Decides name name).1 refl
 
--- an exact name is sought
+-- an exact name is looked up
 pub exact_sought : (s : Spec) (name : Bor (List ℕ)) → is_negative s.sign ≡ false → IsNeedle s.source (the_exact name)
     → is_among (sought_by s) name.now ≡ true
 exact_sought s name positive made =
@@ -57,7 +56,7 @@ exact_sought s name positive made =
     ∙ ap (λ kind. prefixes_by kind s.source) made.0)
     ∙ ap (λ text. is_among (text ∷ []) name.now) (sym made.1) ∙ or_left _ _ (itself name.now)
 
--- a short one by the names that it stands for
+-- the full names that a short name may mean are looked up
 pub short_sought : (s : Spec) (name : Bor (List ℕ)) → is_negative s.sign ≡ false → IsNeedle s.source (the_short name)
     → sought_by s ≡ candidates name.now
 short_sought s name positive made =
@@ -73,7 +72,7 @@ among_part h (x ∷ xs) (suc i) d text l is =
     list_any-append (λ t. bytes_eq text t) (sought_by (h x)) (flat_map sought_by (map h xs))
     ∙ or_right _ _ (among_part h xs i d text (omega arith) is)
 
--- what one of the refspecs stands for is sought
+-- the full names of one of the refspecs are looked up
 pub sought_at : {A : Type 0} (h : A → Spec) (xs : List A) (i : ℕ) (x : A) → x ≡ get_or xs i x → i < length xs
     → AreSought (flat_map sought_by (map h xs)) (sought_by (h x))
 sought_at h xs i x e l text is = among_part h xs i x text l (ap (λ y. is_among (sought_by (h y)) text) (sym e) ∙ is)
@@ -84,7 +83,7 @@ either_way true false = refl
 either_way false true = refl
 either_way false false = refl
 
--- a set with a name more
+-- a set with one more name
 pub name_added : {S : Type 0} (old new : HashSet (Bor (List ℕ)) S) (key : Bor (List ℕ)) (name text : List ℕ)
     → Updates (λ x y. bytes_eq x.now y.now) old new key true → key.now ≡ name
     → has_key new text ≡ (has_key old text || bytes_eq text name)

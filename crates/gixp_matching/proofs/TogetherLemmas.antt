@@ -1,4 +1,4 @@
--- Rows in order of the numbers: those of one number stand together, in the order that they had.
+-- Rows sorted by hash: rows with the same hash follow one another, and keep their order.
 use Rattle.std.proofs.Common.{◌≡◌, ℕ, suc, ◌≤◌, ◌<◌, Bool, true, false, cond, List, [], ◌∷◌, ◌++◌, length, map, get_or, Option, Some, None, ap, sym, ◌∙◌, refl, inl, inr, arith}
 use Rattle.std.specs.Prelude.{◌&&◌, ◌||◌, ◌⊎◌, ◌==◌, not, filter, option_to_list}
 use Rattle.std.specs.List.{AllByRecursion, list_any, flat_map}
@@ -17,7 +17,7 @@ use Rattle.gixp_matching.specs.Mappings.{Mapped, local_eq}
 use Rattle.gixp_matching.specs.Validation.{of_local}
 use Rattle.gixp_matching.proofs.ListLemmas.{kept_same}
 
--- ---- the order of numbers
+-- ---- the order of hashes
 
 abbrev below : ℕ → ℕ → Bool
 below a b = is_lt (nat_cmp a b)
@@ -25,7 +25,6 @@ below a b = is_lt (nat_cmp a b)
 tied : (a b : ℕ) → (not (below a b) && not (below b a)) ≡ (b == a)
 tied a b = grind arith
 
--- a number that isn't below one above another is not that
 not_behind : (a b c : ℕ) → (b == a) ≡ false → below b a ≡ false → below c b ≡ false → (c == a) ≡ false
 not_behind a b c different low high = grind arith
 
@@ -75,13 +74,12 @@ module _ {M : Type 0} where
   all_together [] up = tt
   all_together (row ∷ rows) up = (one_together row rows up.0 up.1, all_together rows up.1)
 
-  -- rows that were sorted
+  -- rows with the same hash follow one another once they are sorted
   pub sorted_together : (rows : List (Named M)) → IsSortedBy row_lt rows → AreTogether rows
   sorted_together rows up = all_together rows (ascend rows (sorted_far row_lt (ranks_by nat_cmp_total (λ row. row.number)) rows up))
 
-  -- ---- rows of one number keep their order
+  -- ---- rows with the same hash keep their order
 
-  -- a row that passes, or none does
   one_or_none : (n : ℕ) (rows : List (Named M)) → ((row : Named M) × (has_number n row ≡ true)) ⊎ (filter (has_number n) rows ≡ [])
   one_or_none n [] = inr refl
   one_or_none n (row ∷ rows) = elim (cases_Bool (has_number n row)) [
@@ -125,7 +123,6 @@ behind_shown f n (row ∷ rows) = elim (cases_Bool (has_number n row)) [
   | inr e ↦ ap (behind f) (cond-false _ _ _ e) ∙ behind_shown f n rows ∙ sym (ap (map (λ (t : Shown). t.1)) (cond-false _ _ _ e))
 ]
 
--- a mapping with another name
 other_name : (name own : List ℕ) (n : ℕ) (m : Mapped) (ts : List Shown) → local_eq m.local (Some name) ≡ false
     → of_local name (with_number n ((digest own, m) ∷ ts)) ≡ of_local name (with_number n ts)
 other_name name own n m ts other = elim (cases_Bool (digest own == n)) [
@@ -133,7 +130,6 @@ other_name name own n m ts other = elim (cases_Bool (digest own == n)) [
   | inr f ↦ ap (λ l. of_local name (map (λ (t : Shown). t.1) l)) (cond-false _ _ _ f)
 ]
 
--- a mapping with the name
 own_name : (name : List ℕ) (n : ℕ) (m : Mapped) (ms : List Mapped) (ts : List Shown) → local_eq m.local (Some name) ≡ true
     → of_local name (with_number n ts) ≡ cond (digest name == n) ms []
     → of_local name (with_number n ((digest name, m) ∷ ts)) ≡ cond (digest name == n) (m ∷ ms) []
@@ -144,7 +140,7 @@ own_name name n m ms ts has rest = elim (cases_Bool (digest name == n)) [
       ∙ sym (cond-false _ _ _ f)
 ]
 
--- the mappings of a number that have a name, which are none where the name has another number
+-- the mappings of a hash that have a name: none where the name has another hash
 local_numbered : (name : List ℕ) (n : ℕ) (ms : List Mapped)
     → of_local name (with_number n (flat_map numbered ms)) ≡ cond (digest name == n) (of_local name ms) []
 local_numbered name n [] = elim (cases_Bool (digest name == n)) [
@@ -165,7 +161,7 @@ local_numbered name n (m ∷ ms) = at (local_numbered name n ms) m.local refl wh
         ∙ ap (λ l. cond (digest name == n) l []) (sym (cond-false _ _ _ f))
   ]
 
--- the rows of the number of a name have all mappings with the name, and those of other numbers none
+-- the rows with the hash of a name contain all mappings with the name, and rows with other hashes none
 pub rows_local : {M : Type 0} (f : M → Mapped) (ms : List Mapped) (rows : List (Named M)) → map (shown f) rows ≡ flat_map numbered ms
     → (name : List ℕ) (n : ℕ) → of_local name (behind f (filter (has_number n) rows)) ≡ cond (digest name == n) (of_local name ms) []
 rows_local f ms rows is name n =

@@ -1,4 +1,4 @@
--- Conflicts, one over each name at most, in byte order of the names.
+-- Conflicts in byte order of their names, at most one for each name.
 use Rattle.std.proofs.Common.{◌≡◌, ℕ, suc, ◌≤◌, ◌<◌, Bool, true, false, cond, List, [], ◌∷◌, ◌++◌, length, map, get_or, Option, Some, None, nat_cmp, arith, ap, sym, subst, ◌∙◌, refl, inl, inr, append_assoc}
 use Rattle.std.specs.declared.cmp.Ordering.TheVariants.{Less}
 use Rattle.std.specs.Prelude.{◌||◌, filter}
@@ -29,13 +29,11 @@ use Rattle.gixp_matching.proofs.LawLemmas.{has-local_names, has}
 use Rattle.gixp_matching.proofs.ListLemmas.{map_same}
 use Rattle.gixp_matching.proofs.SortedLemmas.{increasing-local_names, less_is, below_trans, other_below}
 
--- a name is not below itself
 below_itself : (name : List ℕ) → is_below name name ≡ true → ⊥
 below_itself name h =
     let less : slice_cmp nat_cmp name name ≡ Less = less_is (slice_cmp nat_cmp name name) h in
     false≢true (sym (ap (λ o. is_lt (ordering_reverse o)) less) ∙ sym (ap is_lt (nat_list_cmp_total.antisymm name name)) ∙ h)
 
--- a name that is below all of some names is none of them
 not_among : (name : List ℕ) (names : List (List ℕ)) → list_all (is_below name) names ≡ true → has name names ≡ false
 not_among name [] h = refl
 not_among name (first ∷ rest) h =
@@ -44,7 +42,6 @@ not_among name (first ∷ rest) h =
     false_from_ne_true _ (λ t. below_itself name (ap (is_below name) (sym ((bytes_eq-Decides first name).0 t)) ∙ both.0)) in
     ap (λ b. b || has name rest) other ∙ not_among name rest both.1
 
--- what is below a name is below all that it is below
 all_below : (x y : List ℕ) (names : List (List ℕ)) → is_below x y ≡ true → list_all (is_below y) names ≡ true
     → list_all (is_below x) names ≡ true
 all_below x y [] h all = refl
@@ -52,11 +49,10 @@ all_below x y (first ∷ rest) h all =
     let both = and_parts (is_below y first) (list_all (is_below y) rest) all in
     and_from _ _ (below_trans x y first h both.0) (all_below x y rest h both.1)
 
--- a name that is another than one is among more names where it is among these
 among_more : (x name : List ℕ) (names : List (List ℕ)) → has name names ≡ true → has name (x ∷ names) ≡ true
 among_more x name names h = or_right (bytes_eq x name) (has name names) h
 
--- a name that one list has and the other doesn't differs from one that the other begins with
+-- a name that only one list has differs from the first name of the other
 differs_from : (x name : List ℕ) (xs ys : List (List ℕ)) → has x ys ≡ false → has name ys ≡ true → has name xs ≡ false
     → has name (x ∷ xs) ≡ false
 differs_from x name xs ys absent there lacking =
@@ -64,7 +60,7 @@ differs_from x name xs ys absent there lacking =
     false_from_ne_true _ (λ t. false≢true (sym absent ∙ ap (λ n. has n ys) ((bytes_eq-Decides x name).0 t) ∙ there)) in
     ap (λ b. b || has name xs) other ∙ lacking
 
--- what is made of names in order doesn't depend on those of which nothing is made
+-- the results for names in order don't depend on names without results
 supported : {B : Type 0} (F : List ℕ → List B) (xs ys : List (List ℕ)) → is_increasing xs ≡ true → is_increasing ys ≡ true
     → ((name : List ℕ) → has name xs ≡ false → has name ys ≡ true → F name ≡ [])
     → ((name : List ℕ) → has name ys ≡ false → has name xs ≡ true → F name ≡ [])
@@ -107,19 +103,19 @@ supported F (x ∷ xs) (y ∷ ys) up_x up_y not_x not_y =
       ]
     ]
 
--- ---- conflicts of which each is what is made of its name
+-- ---- conflicts that are the results for their names
 
--- two issues are over one name
+-- two issues are over the same name
 abbrev over_one_name : Issue → Issue → Bool
 over_one_name a b = bytes_eq (destination_of a) (destination_of b)
 
--- each is all that is made of its name, there is one over each name at most, and nothing is made of other names
+-- the issues are all results for their names, at most one for each name, and other names have no results
 pub record AreOver (F : List ℕ → List Conflict) (issues : List Issue) : Type 0 where
   pub each : All (λ issue. F (destination_of issue) ≡ conflict_of issue ∷ []) issues
   pub once : IsDistinct over_one_name issues
   pub others : (name : List ℕ) → All (λ issue. is_over name (conflict_of issue) ≡ false) issues → F name ≡ []
 
--- what has one element at most has nothing beside one
+-- a list with at most one element has nothing next to it
 alone : {X : Type 0} (front back : List X) (x : X) → length (front ++ x ∷ back) ≤ 1 → (front ≡ []) × (back ≡ [])
 alone [] [] x h = (refl, refl)
 alone [] (y ∷ back) x h = absurd (omega (arith, h))
@@ -140,7 +136,7 @@ none_passed name (issue ∷ issues) h = elim (cases_Bool (is_over name (conflict
 ]
 
 module _ (F : List ℕ → List Conflict) (short : (name : List ℕ) → length (F name) ≤ 1) where
-  -- nothing else is made of the name of an issue
+  -- the name of an issue has no other result
   one_of : (front back : List Issue) (issue : Issue)
       → ((name : List ℕ) → filter (is_over name) (map conflict_of (front ++ issue ∷ back)) ≡ F name)
       → (F (destination_of issue) ≡ conflict_of issue ∷ []) × (filter (is_over (destination_of issue)) (map conflict_of back) ≡ [])
@@ -190,7 +186,7 @@ module _ (F : List ℕ → List Conflict) (short : (name : List ℕ) → length 
     others = λ name none. sym (is name) ∙ none_pass name issues (recursion_from_All _ issues none);
   }
 
--- in another order they stay so
+-- the order of the issues doesn't matter
 over_moved : (F : List ℕ → List Conflict) (old new : List Issue) → IsPermutation old new → AreOver F old → AreOver F new
 over_moved F old new moved are = record {
   each = All-permutation (λ issue. F (destination_of issue) ≡ conflict_of issue ∷ []) old new moved are.each;
@@ -204,7 +200,7 @@ over_moved F old new moved are = record {
 abbrev issue_lt : Issue → Issue → Bool
 issue_lt x y = is_below (destination_of x) (destination_of y)
 
--- of issues in order the first is below all later ones, which are over other names
+-- the first of sorted issues is below all later ones, which are over other names
 all_above : (issue : Issue) (issues : List Issue) → AllByRecursion (λ y. over_one_name issue y ≡ false) issues
     → ((k : ℕ) → k < length issues → issue_lt (get_or issues k issue) issue ≡ false)
     → list_all (is_below (destination_of issue)) (map destination_of issues) ≡ true
@@ -227,7 +223,7 @@ increasing (issue ∷ issues) once far =
     and_from _ _ (all_above issue issues once.0 (λ k p. far 0 (suc k) issue (omega arith) (omega arith)))
     (increasing issues once.1 (λ i j d p q. far (suc i) (suc j) d (omega arith) (omega arith)))
 
--- they are what is made of their names
+-- the issues are the results for their names
 made : (F : List ℕ → List Conflict) (issues : List Issue)
     → AllByRecursion (λ issue. F (destination_of issue) ≡ conflict_of issue ∷ []) issues
     → map conflict_of issues ≡ flat_map F (map destination_of issues)
@@ -235,9 +231,9 @@ made F [] h = refl
 made F (issue ∷ issues) h =
     ap (λ l. conflict_of issue ∷ l) (made F issues h.1) ∙ ap (λ l. l ++ flat_map F (map destination_of issues)) (sym h.0)
 
--- ---- what is made of mappings
+-- ---- the conflicts of mappings
 
--- the texts at hand are those of the refspecs
+-- the texts at hand are the refspecs' texts
 same_text : (specs : List Spec) (m : Mapped) → text_in (map text_of specs) m ≡ spec_text specs m
 same_text specs m = ap (λ o. option_map_or (λ text. text) o []) (slice_get-map text_of specs m.spec) ∙ at (slice_get specs m.spec) where
   at : (o : Option Spec) → option_map_or (λ text. text) (option_map text_of o) [] ≡ option_map_or text_of o []
@@ -261,7 +257,6 @@ flat_map_same : {A B : Type 0} (f h : A → List B) → ((x : A) → f x ≡ h x
 flat_map_same f h e [] = refl
 flat_map_same f h e (x ∷ xs) = ap (λ l. l ++ flat_map f xs) (e x) ∙ ap (λ l. h x ++ l) (flat_map_same f h e xs)
 
--- a name that no issue has
 none_has : (name : List ℕ) (issues : List Issue) → has name (map destination_of issues) ≡ false
     → All (λ issue. is_over name (conflict_of issue) ≡ false) issues
 none_has name issues h = All-from_recursion _ issues (each issues h) where
@@ -270,7 +265,7 @@ none_has name issues h = All-from_recursion _ issues (each issues h) where
   each [] e = tt
   each (y ∷ ys) e = let both = or_parts (is_over name (conflict_of y)) (has name (map destination_of ys)) e in (both.0, each ys both.1)
 
--- issues that were found by their names and sorted are the conflicts
+-- the issues that were found and sorted are the conflicts
 pub conflicts_from_issues : (specs : List Spec) (texts : List (List ℕ)) (ms : List Mapped) (old new : List Issue)
     → texts ≡ map text_of specs
     → ((name : List ℕ) → filter (is_over name) (map conflict_of old) ≡ found_among texts ms name) → IsPermutation old new

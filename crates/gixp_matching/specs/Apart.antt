@@ -1,4 +1,4 @@
--- Mappings that are all different in what is compared of them.
+-- The parts of mappings that are compared.
 use Rattle.std.specs.Prelude.{ℕ, List, Option, option_to_list}
 use Rattle.std.specs.Cmp.Lexicographic.{slice_cmp}
 use Rattle.std.specs.declared.cmp.Ordering.{Ordering}
@@ -10,7 +10,7 @@ use Rattle.gixp_matching.specs.declared.match_group.key.KeySource.{KeySource}
 use Rattle.gixp_matching.specs.Mappings.{Source, Mapped}
 use Rattle.gixp_matching.specs.MatchGroup.{key_bytes, key_source}
 
--- the order of bytes
+-- the order by bytes
 abbrev pub by_bytes : KeyBytes → KeyBytes → Ordering
 by_bytes a b = slice_cmp nat_cmp (key_bytes a) (key_bytes b)
 
@@ -18,7 +18,7 @@ by_bytes a b = slice_cmp nat_cmp (key_bytes a) (key_bytes b)
 abbrev pub parts : Mapped → Source × Option (List ℕ)
 parts m = (m.source, m.local)
 
--- the source and the local name that a key is of
+-- the source and the local name of a key
 abbrev pub key_parts : KeySource × Option KeyBytes → Source × Option (List ℕ)
 key_parts key = (key_source key.0, option_map key_bytes key.1)
 

@@ -1,4 +1,4 @@
--- What contracts cite.
+-- Definitions that contracts cite.
 pub mod Sought
 pub use Rattle.gixp_repeats.specs.Repeats
 pub mod Placed

@@ -1,4 +1,4 @@
--- What a clause reads of a match group, its items and its outcome.
+-- A match group, its items and its outcome in contracts.
 use Rattle.std.specs.Prelude.{ℕ, List, map, Vec}
 use Rattle.std.specs.Option.{option_map}
 use Rattle.std.specs.declared.alloc.Global.{Global}
@@ -18,44 +18,37 @@ use Rattle.gixp_refspec.specs.Spec.{Spec}
 use Rattle.gixp_refspec.specs.RefSpec.{value_of}
 use Rattle.gixp_matching.specs.Mappings.{Source, FullName, ObjectId as IdOf, Mapped, mapped}
 
--- what a source of the code means
+-- a source as plain data
 abbrev pub source_of : SourceRef → Source
 source_of (the_name name) = FullName (bstring_bytes name)
 source_of (the_id id) = IdOf id.bytes
 
--- what a mapping of the code means
+-- a mapping as plain data
 abbrev pub mapped_of : Mapping → Mapped
 mapped_of m = mapped m.item_index (source_of m.lhs) (option_map bstring_bytes m.rhs) m.spec_index
 
--- the mappings of a vector
 abbrev pub mapped_in : Vec Mapping Global → List Mapped
 mapped_in v = map mapped_of v.items
 
--- the bytes of a key
 abbrev pub key_bytes : KeyBytes → List ℕ
 key_bytes key = key.bytes.now
 
--- the source that a key is of
 abbrev pub key_source : KeySource → Source
 key_source (the_name_key name) = FullName (key_bytes name)
 key_source (the_id_key id) = IdOf (key_bytes id)
 
--- the values of refspecs
 abbrev pub values : List RefSpecRef → List Spec
 values specs = map value_of specs
 
--- the name of a ref
 abbrev pub name_of : Item → List ℕ
 name_of item = bstr_bytes item.full_ref_name
 
--- the names of refs
 abbrev pub names : List Item → List (List ℕ)
 names items = map name_of items
 
--- the refspecs of a group, and of an outcome
+-- the refspecs of a group
 abbrev pub group_specs : MatchGroup → List Spec
 group_specs group = values group.specs.now
 
--- the refspecs of an outcome
 abbrev pub outcome_specs : Outcome → List Spec
 outcome_specs outcome = values outcome.specs.now

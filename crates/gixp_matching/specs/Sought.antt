@@ -1,4 +1,4 @@
--- The names that refspecs stand for, which are looked up among the refs.
+-- The full names that refspecs may mean, which are looked up among the refs.
 use Rattle.std.specs.Prelude.{ℕ, ◌≡◌, nat_eq, Bool, true, if◌then◌else◌, List, []}
 use Rattle.std.specs.Borrow.{Bor}
 use Rattle.std.specs.HashSet.{HashSet, contains_by}
@@ -9,30 +9,30 @@ use Rattle.gixp_refspec.specs.Matching.{is_pattern, prefixes_of}
 use Rattle.gixp_matching.specs.declared.match_group.sought.NameSet.{NameSet}
 use Rattle.gixp_matching.specs.Digest.{tail}
 
--- the names that a positive refspec stands for: an exact name, or the six of a short one; none where it is a pattern or an id
+-- the full names that a positive refspec may mean: an exact name, or the six of a short one; none for a pattern or an id
 abbrev pub sought_by : Spec → List (List ℕ)
 sought_by s = if is_pattern s.source then [] else prefixes_of s
 
--- those of all refspecs
+-- the full names that the refspecs may mean
 abbrev pub sought : List Spec → List (List ℕ)
 sought specs = flat_map sought_by specs
 
--- the name is one of these
+-- the texts contain the name
 abbrev pub is_among : List (List ℕ) → List ℕ → Bool
 is_among texts name = list_any (λ text. bytes_eq name text) texts
 
--- the set has the name
+-- the set contains the name
 abbrev pub has_key : {S : Type 0} → HashSet (Bor (List ℕ)) S → List ℕ → Bool
 has_key keys name = contains_by (λ key. bytes_eq name key.now) keys
 
--- one of its names is this
+-- the name set contains the name
 abbrev pub has_name : NameSet → List ℕ → Bool
 has_name set name = has_key set.names name
 
--- the set has the number
+-- the set contains the number
 abbrev pub has_tail : {S : Type 0} → HashSet ℕ S → ℕ → Bool
 has_tail tails number = contains_by (nat_eq number) tails
 
--- it has the last bytes of each name
+-- the set has the last bytes of each of its names
 abbrev pub HasTails : NameSet → Type 0
 HasTails set = (text : List ℕ) → has_name set text ≡ true → has_tail set.tails (tail text) ≡ true

@@ -1,4 +1,4 @@
--- What a clause reads of issues and fixes.
+-- Issues and fixes in contracts.
 use Rattle.std.specs.Prelude.{◌≡◌, ◌≢◌, not, List, [], filter, map, Some, Vec, Result, Ok, Err}
 use Rattle.std.specs.declared.alloc.Global.{Global}
 use Rattle.bstr.specs.Owned.{bstring_bytes}
@@ -15,35 +15,32 @@ use Rattle.gixp_matching.specs.MatchGroup.{source_of, mapped_in, outcome_specs}
 use Rattle.gixp_refspec.specs.Texts.{texts}
 use Rattle.gixp_matching.specs.Validation.{Conflict, Removed, is_partial, conflicts, fixes, kept}
 
--- the sources of a vector
 abbrev pub sources_in : Vec SourceRef Global → List Source
 sources_in v = map source_of v.items
 
--- what an issue of the code means
+-- an issue as plain data
 abbrev pub conflict_of : Issue → Conflict
 conflict_of (the_conflict destination specs sources) =
     record { destination = bstring_bytes destination; specs = texts specs; sources = sources_in sources }
 
--- the conflicts of a vector
 abbrev pub conflicts_in : Vec Issue Global → List Conflict
 conflicts_in v = map conflict_of v.items
 
--- what a fix of the code means
+-- a fix as plain data
 abbrev pub removed_of : Fix → Removed
 removed_of (MappingWithPartialDestinationRemoved name spec) = record { name = Some (bstring_bytes name); spec = bstring_bytes spec }
 
--- the fixes of a vector
 abbrev pub fixes_in : Vec Fix Global → List Removed
 fixes_in v = map removed_of v.items
 
--- conflicts are the refusal; without one the partial mappings are taken out
+-- with conflicts these are the error; without any the mappings with partial local names are removed
 abbrev pub Validates : List Spec → List Mapped → Result (Outcome × Vec Fix Global) Error → Type 0
 Validates specs ms (Ok answer) =
     (conflicts specs ms ≡ []) × (mapped_in answer.0.mappings ≡ kept ms) × (fixes_in answer.1 ≡ fixes specs ms)
     × (outcome_specs answer.0 ≡ specs)
 Validates specs ms (Err e) = (conflicts specs ms ≢ []) × (conflicts_in e.issues ≡ conflicts specs ms)
 
--- the same of whatever holds mappings: those that stay keep their order
+-- the same for all values with the parts of a mapping; those that stay keep their order
 abbrev pub ValidatesAs : {M : Type 0} → (M → Mapped) → List Spec → List M → Result (Vec M Global × Vec Fix Global) Error → Type 0
 ValidatesAs f specs ms (Ok answer) =
     (conflicts specs (map f ms) ≡ []) × (answer.0.items ≡ filter (λ m. not (is_partial (f m))) ms)

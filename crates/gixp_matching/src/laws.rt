@@ -2,17 +2,17 @@
 ghost use Rattle.gixp_matching.specs.RefspecLaws.{MatchesMiddle, MatchesOnly, NamesAreLocal, NamesIncrease, MappingsHaveOrigins};
 ghost use Rattle.gixp_matching.specs.Leaving.{KeepsAnswers};
 
-/// Leaving out refs whose names begin with none of the prefixes that [`expand_prefixes`] adds for the refspecs, each
-/// once or more often, changes no mapping but for the places of the refs, no conflict and no fix (gitprotocol-v2,
-/// `ref-prefix`).
+/// A server that leaves out refs whose names begin with none of the prefixes that [`expand_prefixes`] adds for the
+/// refspecs changes no conflict and no fix, and of the mappings only the indices of their refs (gitprotocol-v2,
+/// `ref-prefix`). The client may send each prefix once or more often.
 ///
 /// [`expand_prefixes`]: gixp_refspec::RefSpecRef::expand_prefixes
 pub fn filtering_keeps_answers()
     ensures { KeepsAnswers }
 {}
 
-/// A pattern matches exactly the names that are its front, any middle and its back, and the local names in byte
-/// order are what the mappings have, each once.
+/// A pattern matches exactly the names made of its front, any middle and its back. The local names in byte order are
+/// exactly the mappings' local names, each once.
 pub fn definitions_mean_what_they_say()
     ensures middle { MatchesMiddle }
     ensures only { MatchesOnly }
@@ -20,8 +20,8 @@ pub fn definitions_mean_what_they_say()
     ensures increase { NamesIncrease }
 {}
 
-/// Where a mapping comes from: its `spec_index` is the place of one of the refspecs. Its item is the first ref of its
-/// name, and the name begins with a prefix of that refspec; or it has no item, and that refspec names its id.
+/// The origin of a mapping: its `spec_index` is the index of one of the refspecs. Either its item is the first ref
+/// with its name, which begins with a prefix of that refspec; or it has no item, and that refspec names its id.
 pub fn mappings_have_origins()
     ensures { MappingsHaveOrigins }
 {}

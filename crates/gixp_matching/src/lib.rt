@@ -1,4 +1,4 @@
-//! What a list of refspecs maps of the refs that a server answers, and whether that can be used.
+//! The mappings that refspecs make of the refs of a server, and their validation.
 #![tactic(auto)]
 
 pub mod laws;

@@ -1,4 +1,4 @@
-//! What a list of refspecs maps of a list of refs.
+//! The mappings that a list of refspecs makes of a list of refs.
 ghost use Rattle.std.specs.Prelude.{ℕ, ◌≡◌, List, IfOk, map};
 ghost use Rattle.std.specs.Option.{option_copied, option_map};
 ghost use Rattle.std.specs.List.{AllByRecursion, slice_get};
@@ -42,62 +42,62 @@ pub use plain::checked;
 pub use single::Single;
 use std::alloc::{AllocError, Global};
 
-/// A ref of the remote. Matching reads its name alone.
+/// A ref of the remote. Matching reads only its name.
 #[derive(Clone, Copy, Debug)]
 pub struct Item<'a> {
-    /// The whole name, as `refs/heads/main`.
+    /// The full name, like `refs/heads/main`.
     pub full_ref_name: BStr<'a>,
-    /// The id that the ref holds.
+    /// The id of the ref.
     pub target: &'a ObjectId,
-    /// For a tag, the object that the tag is of.
+    /// For an annotated tag, the object that it peels to.
     pub object: Option<&'a ObjectId>,
 }
 
-/// What a mapping takes from the remote.
+/// The source of a mapping.
 #[derive(Debug, Drop, PartialEq, Eq, Hash)]
 pub enum SourceRef {
-    /// The ref of this whole name.
+    /// The ref with this full name.
     FullName(BString),
-    /// The object of this id.
+    /// The object with this id.
     ObjectId(ObjectId),
 }
 
-/// A ref or an id of the remote, and the local name that it goes to.
+/// A ref or an id of the remote, and the local name that it maps to.
 #[derive(Debug, Drop, PartialEq, Eq)]
 pub struct Mapping {
-    /// The place of the ref among those that were matched, from 0; none for an id.
+    /// The index of the ref among those that were matched, from 0. None for an id.
     pub item_index: Option<usize>,
-    /// What is taken.
+    /// The ref or the id.
     pub lhs: SourceRef,
-    /// The local name, where the refspec has a destination.
+    /// The local name. None where the refspec has no destination.
     ///
-    /// **It is not checked.** What a pattern puts for its asterisk was chosen by the server:
+    /// **It is not checked.** The server chose the part that replaces a pattern's asterisk:
     /// `refs/heads/*:refs/remotes/o/*` maps a server's `refs/heads/../../../config` to
-    /// `refs/remotes/o/../../../config`. Who makes a path or a ref of it asks
-    /// [`has_safe_local_name`](Mapping::has_safe_local_name) first.
+    /// `refs/remotes/o/../../../config`. Call
+    /// [`has_safe_local_name`](Mapping::has_safe_local_name) before making a path or a ref of it.
     pub rhs: Option<BString>,
-    /// The place of the refspec in its group, from 0.
+    /// The index of the refspec in its group, from 0.
     pub spec_index: usize,
 }
 
-/// Where a mapping comes from: a refspec, and a ref that it matches or the id that it names.
+/// The origin of a mapping: a refspec, and a ref that it matches or the id that it names.
 #[derive(Clone, Copy, Debug)]
 pub struct Place {
-    /// The place of the ref among those that were matched, from 0; none for an id.
+    /// The index of the ref among those that were matched, from 0. None for an id.
     pub item_index: Option<usize>,
-    /// The place of the refspec in its group, from 0.
+    /// The index of the refspec in its group, from 0.
     pub spec_index: usize,
 }
 
 /// The mappings of a group of refspecs.
 #[derive(Debug, Drop)]
 pub struct Outcome<'s> {
-    /// Ids first, then by refspec and then by ref; no two have the same source and local name.
+    /// First the mappings of ids, then by refspec and then by ref. No two have the same source and local name.
     pub mappings: Vec<Mapping>,
     pub(crate) specs: &'s [RefSpecRef<'s>],
 }
 
-/// Refspecs that are matched together, so that a negative one holds for all.
+/// Refspecs that are matched together: a negative one applies to all of them.
 #[derive(Clone, Copy, Debug)]
 pub struct MatchGroup<'s> {
     specs: &'s [RefSpecRef<'s>],
@@ -128,9 +128,9 @@ impl Clone for Mapping {
 }
 
 impl Mapping {
-    /// Whether the local name, where there is one, keeps the rules for names (git-check-ref-format, with
-    /// `--allow-onelevel`) and has no asterisk, as a [`PartialName`](gixp_refspec::PartialName) does. `git fetch` leaves
-    /// out a ref whose local name breaks them (a "funny ref"), or doesn't begin with `refs/`.
+    /// Whether the local name is valid by git-check-ref-format with `--allow-onelevel` and has no asterisk, like a
+    /// [`PartialName`](gixp_refspec::PartialName). True without a local name. `git fetch` skips a ref whose local name isn't
+    /// valid (a "funny ref"), or doesn't begin with `refs/`.
     pub fn has_safe_local_name(&self) -> bool
         ensures { result ≡ has_safe_local (mapped_of self.now) }
     {
@@ -141,7 +141,7 @@ impl Mapping {
     }
 }
 
-// The id that a refspec names, if there is one.
+// The id that a refspec names.
 fn id_named(spec: Option<&RefSpecRef<'_>>) -> Option<ObjectId>
     ensures { option_map (λ id. id.bytes) result ≡ id_for (option_map value_of (option_copied spec.entry)) }
 {
@@ -152,19 +152,19 @@ fn id_named(spec: Option<&RefSpecRef<'_>>) -> Option<ObjectId>
 }
 
 impl<'s> MatchGroup<'s> {
-    /// A group of refspecs, in their order.
+    /// A group of these refspecs, in their order.
     pub fn from_fetch_specs(specs: &'s [RefSpecRef<'s>]) -> MatchGroup<'s>
         ensures { group_specs result ≡ values specs.now }
     {
         MatchGroup { specs }
     }
 
-    /// Where the mappings of the refs come from, also those that are equal to an earlier one in source and local name:
-    /// first the ids, then each positive refspec with each ref that it matches and no negative refspec matches.
+    /// The places of the mappings, including those that repeat the source and local name of an earlier one. First the places
+    /// of ids, then each positive refspec with each ref that it matches and no negative refspec matches.
     ///
     /// # Errors
     ///
-    /// Only when an allocation fails; what was lent stands as it was.
+    /// Only an allocation failure.
     pub fn places(&self, alloc: Global, items: &[Item<'_>]) -> Result<Vec<Place>, AllocError>
         ensures places { IfOk result (λ places. map place_value places.items ≡ map place_of
             (repeated (group_specs self.now) (names items.now))) }
@@ -183,12 +183,12 @@ impl<'s> MatchGroup<'s> {
         Ok(found)
     }
 
-    /// The one refspec that makes all mappings, where just one is positive and that is a pattern, so that each ref is mapped
-    /// once at most.
+    /// The single refspec that makes all mappings, where exactly one is positive and that is a pattern. Each ref is then
+    /// mapped at most once.
     ///
     /// # Errors
     ///
-    /// Only when an allocation fails.
+    /// Only an allocation failure.
     pub fn single(&self, alloc: Global) -> Result<Option<Single<'s>>, AllocError>
         ensures { IfOk result (SinglesOut (group_specs self.now)) }
     {
@@ -209,11 +209,11 @@ impl<'s> MatchGroup<'s> {
         Ok(None)
     }
 
-    /// The local name that the refspec at a place gives the ref of this whole name.
+    /// The local name that the refspec at this index makes of the ref with this full name.
     ///
     /// # Errors
     ///
-    /// Only when an allocation fails.
+    /// Only an allocation failure.
     pub fn local_name(
         &self,
         alloc: Global,
@@ -226,11 +226,11 @@ impl<'s> MatchGroup<'s> {
         local_of_name(alloc, self.specs.get(spec_index), full_ref_name)
     }
 
-    /// The local name that the refspec at a place gives the id that it names.
+    /// The local name that the refspec at this index makes of the id that it names.
     ///
     /// # Errors
     ///
-    /// Only when an allocation fails.
+    /// Only an allocation failure.
     pub fn local_name_of_id(
         &self,
         alloc: Global,
@@ -242,7 +242,7 @@ impl<'s> MatchGroup<'s> {
         local_of_id(alloc, self.specs.get(spec_index))
     }
 
-    /// The id that the refspec at a place names, if there is one.
+    /// The id that the refspec at this index names.
     pub fn id_at(&self, spec_index: usize) -> Option<ObjectId>
         ensures { option_map (λ id. id.bytes) result ≡ id_for (slice_get (group_specs self.now) spec_index) }
     {
@@ -257,18 +257,18 @@ impl<'s> MatchGroup<'s> {
         firsts(alloc, found)
     }
 
-    /// The mappings of the refs: first the ids, then each positive refspec with each ref that it matches and no
-    /// negative refspec matches. Of equal source and local name the first stays. Refs that begin with none of the
-    /// prefixes may be missing: the answer is then the same as for all refs, but for their places.
+    /// The mappings of the refs. First the mappings of ids, then each positive refspec with each ref that it matches and no
+    /// negative refspec matches. Of those with equal source and local name the first stays. Refs that begin with none of the
+    /// prefixes may be left out: that changes only the indices of the refs.
     ///
     /// # Errors
     ///
-    /// Only when an allocation fails; what was lent stands as it was.
+    /// Only an allocation failure.
     pub fn match_lhs(&self, alloc: Global, items: &[Item<'_>]) -> Result<Outcome<'s>, AllocError>
         ensures mappings { IfOk result (λ outcome. mapped_in outcome.mappings ≡ mappings (group_specs self.now) (names items.now)) }
         ensures specs { IfOk result (λ outcome. outcome_specs outcome ≡ group_specs self.now) }
 
-        // A server that was asked for the prefixes may leave out refs that begin with none of them.
+        // A server that got the prefixes may leave out refs that begin with none of them.
         ensures filtered { IfOk result (λ outcome. AnswersAll (group_specs self.now) (names items.now) (mapped_in outcome.mappings)) }
     {
         let mappings = self.mappings(alloc, items)?;
@@ -282,12 +282,12 @@ impl<'s> MatchGroup<'s> {
 impl<'s> Outcome<'s> {
     ghost use Rattle.gixp_matching.specs.Validate.{Validates};
 
-    /// Refuses conflicts: local names with two different sources. Without one it takes out the mappings whose local
-    /// name is neither `HEAD` nor begins with `refs/`, and notes each, in the order of the mappings.
+    /// Reports conflicts: local names with two different sources. Without any, removes the mappings whose local name
+    /// isn't `HEAD` and doesn't begin with `refs/`, and returns a fix for each, in the order of the mappings.
     ///
     /// # Errors
     ///
-    /// The outer one only when an allocation fails, the inner one for conflicts. The mappings are dropped then.
+    /// The outer error is an allocation failure, the inner one has the conflicts. The mappings are dropped then.
     pub fn validated(
         self,
         alloc: Global,

@@ -6,21 +6,18 @@ ghost use Rattle.gixp_matching.specs.Validate.{removed_of};
 use crate::match_group::validate::Fix;
 use crate::match_group::{Mapping, SourceRef};
 
-// Two sources are equal exactly where they are one value.
 fn is_same_source(a: &SourceRef, b: &SourceRef) -> bool
     ensures { IsTrue result ↔ (source_of a.now ≡ source_of b.now) }
 {
     a == b
 }
 
-// Two mappings are equal exactly where they are one value.
 fn is_same_mapping(one: &Mapping, other: &Mapping) -> bool
     ensures { IsTrue result ↔ (mapped_of one.now ≡ mapped_of other.now) }
 {
     one == other
 }
 
-// Two fixes are equal exactly where they are one value.
 fn is_same_fix(first: &Fix, second: &Fix) -> bool
     ensures { IsTrue result ↔ (removed_of first.now ≡ removed_of second.now) }
 {

@@ -1,4 +1,4 @@
--- Lines, words and digits that are read one after another.
+-- Lines, words and digits, read one after another.
 use Rattle.std.proofs.Common.{◌≡◌, ℕ, ◌+◌, ◌<◌, ◌≤◌, List, [], ◌∷◌, ◌++◌, length, take, drop, get_or, map, Option, Some, None, ap, refl, sym, subst, ◌∙◌, append_assoc, append-nil}
 use Rattle.std.specs.Prelude.{option_map, option_and_then}
 use Rattle.std.proofs.lemmas.List.{drop_more, drop_all, take_more, take_all, take-map, drop-map, map-append}
@@ -7,27 +7,27 @@ use Rattle.gixp_text.specs.Lines.{text_lines}
 use Rattle.gixp_memory.specs.Text.{after_lines, BeginsUnread, ReadsSome}
 use Rattle.gixp_memory.specs.Repository.{one_digit_more, digits_more, named_id, named_ids}
 
--- one digit more
+-- one more digit
 pub digit_more : (ds : List ℕ) (n m i : ℕ) → i < length ds → Some m ≡ one_digit_more n (get_or ds i 0)
     → digits_more 0 ds ≡ digits_more n (drop i ds) → digits_more 0 ds ≡ digits_more m (drop (i + 1) ds)
 digit_more ds n m i l e h = h ∙ ap (digits_more n) (drop_more ds i 0 l)
     ∙ ap (λ o. option_and_then (λ k. digits_more k (drop (i + 1) ds)) o) (sym e)
 
--- what is no digit, or too many of them
+-- the next byte isn't a digit, or the number gets too great
 pub digit_none : (ds : List ℕ) (n i : ℕ) → i < length ds → None ≡ one_digit_more n (get_or ds i 0)
     → digits_more 0 ds ≡ digits_more n (drop i ds) → None ≡ digits_more 0 ds
 digit_none ds n i l e h =
     sym (h ∙ ap (digits_more n) (drop_more ds i 0 l) ∙ ap (λ o. option_and_then (λ k. digits_more k (drop (i + 1) ds)) o) (sym e))
 
--- and no more
+-- all digits were read
 pub digits_all : (ds : List ℕ) (n i : ℕ) → length ds ≤ i → digits_more 0 ds ≡ digits_more n (drop i ds) → Some n ≡ digits_more 0 ds
 digits_all ds n i l h = sym (h ∙ ap (digits_more n) (drop_all i ds l))
 
--- these ids in front of those to come
+-- these ids, then the ids of the words to come
 abbrev pub ids_in_front : List ObjectId → Option (List ObjectId) → Option (List ObjectId)
 ids_in_front xs o = option_map (λ ids. xs ++ ids) o
 
--- the ids of all words are those so far in front of those of the words to come
+-- the ids of all words are the ids so far and the ids of the words to come
 pub record NamedSoFar (all left : List (List ℕ)) (ids : List ObjectId) : Type 0 where
   pub split : named_ids all ≡ ids_in_front ids (named_ids left)
 
@@ -62,7 +62,7 @@ named-none all left rest word ids h e f = h.split ∙ ap (λ l. ids_in_front ids
 -- ---- lines
 
 module _ {S : Type 0} (step : S → List ℕ → Option S) where
-  -- one line more
+  -- one more line
   after_more : (lines : List (List ℕ)) (line : List ℕ) (s : S) → after_lines step s (lines ++ line ∷ [])
       ≡ option_and_then (λ t. step t line) (after_lines step s lines)
   after_more [] line s = last (step s line)
@@ -78,7 +78,7 @@ module _ {S : Type 0} (step : S → List ℕ → Option S) where
       next r (Some t) = r t
       next r None = refl
 
--- some lines were read, as many as are counted
+-- so many lines were read
 pub record ReadSoFar {S B : Type 0} (step : S → List ℕ → Option S) (f : B → List ℕ) (items : List B) (start : S) (i number : ℕ)
     (now : S) : Type 0 where
   pub count : number ≡ i
@@ -99,18 +99,18 @@ module _ {S B : Type 0} (step : S → List ℕ → Option S) (f : B → List ℕ
   }
 
   module _ (text : List ℕ) (lines : map f items ≡ text_lines text) where
-    -- all lines are read
+    -- all lines were read
     pub read_all : (i n : ℕ) (now : S) → ReadSoFar step f items start i n now → length items ≤ i
         → after_lines step start (text_lines text) ≡ Some now
     read_all i n now h l = sym (ap (after_lines step start) (ap (map f) (take_all i items l) ∙ lines)) ∙ h.read
 
-    -- some are
+    -- some lines were read
     pub read_some : (i n k : ℕ) (now next : S) → ReadSoFar step f items start i n now → next ≡ now → k ≡ i
         → ReadsSome step start (text_lines text) k next
     read_some i n k now next h e g = ap (λ j. after_lines step start (take j (text_lines text))) g ∙ ap (λ ls.
         after_lines step start (take i ls)) (sym lines) ∙ ap (after_lines step start) (take-map f i items) ∙ h.read ∙ ap Some (sym e)
 
-    -- and not the next one
+    -- the next line can't be read
     pub line_unread : (i k : ℕ) (line : List ℕ) (d : B) (now next : S) → i < length items → line ≡ f (get_or items i d)
         → step now line ≡ None → next ≡ now → k ≡ i → BeginsUnread step next (drop k (text_lines text))
     line_unread i k line d now next l e s g j =

@@ -13,11 +13,11 @@ use Rattle.gixp_memory.specs.declared.stored_objects.StoredObject.{StoredObject}
 use Rattle.gixp_memory.specs.declared.stored_objects.Answered.{Answered}
 use Rattle.gixp_memory.specs.declared.stored_objects.Answered.TheVariants.{Kind, Missing}
 
--- what is stored, as an object
+-- a stored object as plain data
 abbrev pub object_of : StoredObject → Object
 object_of s = record { kind = s.kind; commit = option_map commit_of s.commit }
 
--- the objects that are stored, by their ids
+-- the stored objects, by id
 abbrev pub objects_of : List (ObjectId × StoredObject) → Objects
 objects_of stored = finite.from_entries (map (λ (e : ObjectId × StoredObject). (e.0, object_of e.1)) stored)
 
@@ -25,7 +25,7 @@ objects_of stored = finite.from_entries (map (λ (e : ObjectId × StoredObject).
 abbrev pub name_cmp : Vec ℕ Global → Vec ℕ Global → Ordering
 name_cmp a b = slice_cmp nat_cmp a.items b.items
 
--- the kind of the object that an answer tells of, or none where that is missing
+-- the kind of the object, or none where it is missing
 abbrev pub kind_answered : Answered → Option ObjectKind
 kind_answered (Kind kind) = Some kind
 kind_answered Missing = None

@@ -1,4 +1,4 @@
-//! A repository in memory: objects and refs, filled from lists or from texts that git writes.
+//! A repository in memory: objects and refs, filled from lists or from the output of git commands.
 #![tactic(auto)]
 
 mod same;

@@ -1,4 +1,4 @@
-//! The objects of a repository, filled from lists or from texts.
+//! The objects of a repository in memory, filled from lists or from texts.
 ghost use Rattle.std.specs.Prelude.{◌≡◌, Some, None, IfOk, IfErr, IfSome, OnOk, OnErr, is_some, option_map, true, false};
 ghost use Rattle.std.specs.FinMap as finite;
 ghost use Rattle.gixp_graph.specs.Object.{commit_of};
@@ -17,20 +17,20 @@ use std::alloc::{AllocError, Global};
 use std::collections::BTreeMap;
 use std::marker::Model;
 
-/// What a repository in memory has under an id.
+/// An object of a repository in memory.
 #[derive(Drop)]
 pub(crate) struct StoredObject {
-    /// None where it isn't known.
+    /// None where the kind isn't known.
     pub kind: Option<ObjectKind>,
-    /// Where it is a commit.
+    /// Present where the object is a commit.
     pub commit: Option<CommitData>,
 }
 
-/// The objects of a repository in memory: by their ids, each with its kind, commits with their time and parents.
+/// The objects of a repository in memory, by id: the kind of each, and the time and parents of commits.
 ///
-/// They are read by a shared reference, so that `Shared` makes objects of them for a graph and for `NegotiateContext`
-/// alike. An id that was added needs no parent that is there: a look-up finds none, as in a shallow repository. Parents
-/// may even lead back to a commit, as git's can't: a walk visits each commit once.
+/// They are read over a shared reference, so `Shared` implements `Objects` over them for a graph and for
+/// `NegotiateContext`. The parents of a commit need not exist: a look-up of one then finds none, as in a shallow repository.
+/// Parents may even lead back to a commit, which can't happen in git. A walk visits each commit once.
 #[derive(Drop)]
 pub struct StoredObjects {
     objects: BTreeMap<ObjectId, StoredObject>,
@@ -51,7 +51,7 @@ impl Model for StoredObjects {
 }
 
 impl StoredObjects {
-    /// No objects.
+    /// A repository without objects.
     pub fn new(alloc: Global) -> StoredObjects
         ensures { result ≡ finite.empty }
     {
@@ -60,7 +60,6 @@ impl StoredObjects {
         }
     }
 
-    // Adds an object.
     fn put(
         &mut self,
         id: ObjectId,
@@ -77,7 +76,7 @@ impl StoredObjects {
         }
     }
 
-    // Adds an object unless there is one of that id.
+    // Adds an object, unless one with this id exists.
     fn put_new(&mut self, id: ObjectId, kind: Option<ObjectKind>) -> Result<(), AllocError>
         ensures ok { OnOk result (self.new ≡ with_new self.old id kind) }
         ensures err { OnErr result (self.new ≡ self.old) }
@@ -88,11 +87,11 @@ impl StoredObjects {
         self.put(id, kind, None)
     }
 
-    /// Adds an object of a kind. Where one of that id is there, it stays as it is.
+    /// Adds an object of a kind. An existing object with this id stays the same.
     ///
     /// # Errors
     ///
-    /// An allocation failure; nothing is added then.
+    /// Only an allocation failure; nothing is added then.
     pub fn add(&mut self, id: ObjectId, kind: ObjectKind) -> Result<(), AllocError>
         ensures ok { OnOk result (self.new ≡ with_kind self.old id kind) }
         ensures err { OnErr result (self.new ≡ self.old) }
@@ -100,11 +99,11 @@ impl StoredObjects {
         self.put_new(id, Some(kind))
     }
 
-    /// Adds an object whose kind isn't known. Where one of that id is there, it stays as it is.
+    /// Adds an object whose kind isn't known. An existing object with this id stays the same.
     ///
     /// # Errors
     ///
-    /// An allocation failure; nothing is added then.
+    /// Only an allocation failure; nothing is added then.
     pub fn add_id(&mut self, id: ObjectId) -> Result<(), AllocError>
         ensures ok { OnOk result (self.new ≡ with_id self.old id) }
         ensures err { OnErr result (self.new ≡ self.old) }
@@ -112,11 +111,11 @@ impl StoredObjects {
         self.put_new(id, None)
     }
 
-    /// Adds a commit. What was there of that id goes.
+    /// Adds a commit. It replaces an existing object with this id.
     ///
     /// # Errors
     ///
-    /// An allocation failure; nothing is added then.
+    /// Only an allocation failure; nothing is added then.
     pub fn add_commit(&mut self, id: ObjectId, commit: CommitData) -> Result<(), AllocError>
         ensures ok { OnOk result (self.new ≡ with_commit self.old id (commit_of commit)) }
         ensures err { OnErr result (self.new ≡ self.old) }
@@ -124,7 +123,7 @@ impl StoredObjects {
         self.put(id, Some(ObjectKind::Commit), Some(commit))
     }
 
-    // Adds the commit of a line. Returns whether it is one.
+    // Adds the commit of a line. Returns false where the line isn't a commit's.
     fn add_commit_line(&mut self, alloc: Global, line: &[u8]) -> Result<bool, AllocError>
         ensures read { IfOk result (λ is_read. is_read ≡ true → commit_line self.old line.now ≡ Some self.new) }
         ensures unread { IfOk result (λ is_read. is_read ≡ false → (commit_line self.old line.now ≡ None) × (self.new ≡ self.old)) }
@@ -137,7 +136,7 @@ impl StoredObjects {
         Ok(true)
     }
 
-    // Adds the object of a line. Returns whether it is one.
+    // Adds the object of a line. Returns false where the line isn't an object's.
     fn add_kind_line(&mut self, alloc: Global, line: &[u8]) -> Result<bool, AllocError>
         ensures read { IfOk result (λ is_read. is_read ≡ true → kind_line self.old line.now ≡ Some self.new) }
         ensures unread { IfOk result (λ is_read. is_read ≡ false → (kind_line self.old line.now ≡ None) × (self.new ≡ self.old)) }
@@ -150,9 +149,9 @@ impl StoredObjects {
         Ok(true)
     }
 
-    /// Adds the commits of a text as `git rev-list --timestamp --parents` writes it: on each line the seconds since the
-    /// epoch of the committer's clock, the id and the ids of the parents, between single blanks. Where an id stands on
-    /// two lines, the later one counts.
+    /// Adds the commits of the output of `git rev-list --timestamp --parents`. Each line has the committer's time in
+    /// seconds since the epoch, the id, and the ids of the parents, separated by single spaces. Where an id has two lines, the
+    /// later one counts.
     ///
     /// # Errors
     ///
@@ -175,9 +174,8 @@ impl StoredObjects {
         Ok(())
     }
 
-    /// Adds the objects of a text of lines of an id, a blank and a kind, as `git cat-file --batch-check` writes it with
-    /// the format `%(objectname) %(objecttype)`. An object that is there stays as it is, so commits may be read before
-    /// or after it.
+    /// Adds the objects of the output of `git cat-file --batch-check` with the format `%(objectname) %(objecttype)`:
+    /// lines of an id, a space and a kind. An existing object stays the same, so commits may be read before or after.
     ///
     /// # Errors
     ///
@@ -200,13 +198,13 @@ impl StoredObjects {
         Ok(())
     }
 
-    /// Adds the object that an answer of `git cat-file --batch-check` to an id has, where it has one. The line, with its LF
-    /// or without, is the id and after a blank its kind, which a blank and the size may follow, or `missing`. An object that is
-    /// there stays as it is. Returns whether the line is an answer to this id: nothing is added where it isn't.
+    /// Adds the object that a line of `git cat-file --batch-check` reports for an id, where it reports one. The line,
+    /// with or without its LF, has the id, a space, and `missing` or the object's kind; a space and the size may follow the
+    /// kind. An existing object stays the same. Returns whether the line is about this id; if not, nothing is added.
     ///
     /// # Errors
     ///
-    /// An allocation failure; nothing is added then.
+    /// Only an allocation failure; nothing is added then.
     pub fn add_answer(
         &mut self,
         alloc: Global,
@@ -230,15 +228,15 @@ impl StoredObjects {
     }
 }
 
-// What an answer says of an object.
+// What `git cat-file` reports of an object.
 #[derive(Clone, Copy)]
 enum Answered {
-    // It is there, and of this kind.
+    // The object exists and has this kind.
     Kind(ObjectKind),
     Missing,
 }
 
-// What the word after the id of an answer says.
+// Reads the word after the id.
 fn answered_kind(word: &[u8]) -> Option<Answered>
     ensures { option_map kind_answered result ≡ answered_kind word.now }
 {
@@ -248,7 +246,7 @@ fn answered_kind(word: &[u8]) -> Option<Answered>
     sized_kind(word)
 }
 
-// What an answer says whose last word is a size.
+// Reads the word after the id where a size follows.
 fn sized_kind(word: &[u8]) -> Option<Answered>
     ensures { option_map kind_answered result ≡ option_map (λ kind. Some kind) (named_kind word.now) }
 {
@@ -258,7 +256,7 @@ fn sized_kind(word: &[u8]) -> Option<Answered>
     }
 }
 
-// The id of an answer, and what it says.
+// The id of a line of `git cat-file`, and what the line reports.
 fn answer_in(alloc: Global, line: &[u8]) -> Result<Option<(ObjectId, Answered)>, AllocError>
     ensures { IfOk result (λ found. option_map answer_value found ≡ answer_of_words (line_words line.now)) }
 {
@@ -276,7 +274,7 @@ fn answer_in(alloc: Global, line: &[u8]) -> Result<Option<(ObjectId, Answered)>,
     Ok(Some((id, kind)))
 }
 
-// What the answer to an id says; none where the line is no answer to it.
+// What the line reports of this id. None where it isn't about this id.
 fn answer_to(alloc: Global, id: &ObjectId, line: &[u8]) -> Result<Option<Answered>, AllocError>
     ensures { IfOk result (λ found. option_map kind_answered found ≡ answer_to id.now line.now) }
 {
@@ -311,7 +309,7 @@ fn commit_in(alloc: Global, line: &[u8]) -> Result<Option<(ObjectId, CommitData)
     Ok(Some((id, CommitData { time, parents })))
 }
 
-// The object of a line: its id and its kind.
+// The object of a line, with its id.
 fn kind_in(alloc: Global, line: &[u8]) -> Result<Option<(ObjectId, ObjectKind)>, AllocError>
     ensures { IfOk result (λ found. found ≡ kind_of_words (line_words line.now)) }
 {
@@ -327,7 +325,6 @@ fn kind_in(alloc: Global, line: &[u8]) -> Result<Option<(ObjectId, ObjectKind)>,
     Ok(Some((id, kind)))
 }
 
-// A commit once more.
 fn copied(alloc: Global, commit: &Option<CommitData>) -> Result<Option<CommitData>, ObjectError>
     ensures found { IfOk result (λ copy. option_map commit_of copy ≡ option_map commit_of commit.now) }
     ensures failed { IfErr result (λ e. e ≡ Memory) }

@@ -1,4 +1,4 @@
-//! The refs of a repository, filled from lists or from texts.
+//! The refs of a repository in memory, filled from lists or from texts.
 ghost use Rattle.std.specs.Prelude.{◌≡◌, ℕ, [], Some, None, Vec, IfOk, OnOk, OnErr, map, true, false};
 ghost use Rattle.std.specs.BTreeMap.{values};
 ghost use Rattle.std.specs.declared.alloc.Global.{Global};
@@ -17,15 +17,15 @@ use std::alloc::{AllocError, Global};
 use std::collections::BTreeMap;
 use std::marker::Model;
 
-/// What a ref holds and leads to.
+/// The id of a ref, and the id that it peels to.
 #[derive(Clone, Copy, Drop)]
 pub(crate) struct StoredRef {
     pub id: ObjectId,
     pub peeled: ObjectId,
 }
 
-/// The refs of a repository in memory, in the order of their names: each with its id, and with the id of the object,
-/// which is no tag, that it leads to.
+/// The refs of a repository in memory, sorted by name: the id of each, and the id of the object that it peels to,
+/// which isn't a tag.
 #[derive(Drop)]
 pub struct StoredRefs {
     names: BTreeMap<Vec<u8>, StoredRef>,
@@ -45,7 +45,7 @@ impl Model for StoredRefs {
 }
 
 impl StoredRefs {
-    /// No refs.
+    /// A repository without refs.
     pub fn new(alloc: Global) -> StoredRefs
         ensures { result ≡ [] }
     {
@@ -54,11 +54,11 @@ impl StoredRefs {
         }
     }
 
-    /// Adds a ref that holds an id and leads to an object that is no tag. One of the same name goes.
+    /// Adds a ref with its id and the id that it peels to. It replaces an existing ref with this name.
     ///
     /// # Errors
     ///
-    /// An allocation failure; nothing is added then.
+    /// Only an allocation failure; nothing is added then.
     pub fn add(&mut self, name: Vec<u8>, id: ObjectId, peeled: ObjectId) -> Result<(), AllocError>
         ensures ok { OnOk result (self.new ≡ with_ref self.old (record { name = name.items; id = id; peeled = peeled })) }
         ensures err { OnErr result (self.new ≡ self.old) }
@@ -67,11 +67,11 @@ impl StoredRefs {
         Ok(())
     }
 
-    /// The refs, in the order of their names: the full name of each, and the id that it holds.
+    /// The full name and the id of each ref, sorted by name.
     ///
     /// # Errors
     ///
-    /// An allocation failure alone.
+    /// Only an allocation failure.
     pub fn to_vec(&self, alloc: Global) -> Result<Vec<(BStr<'_>, ObjectId)>, AllocError>
         ensures { IfOk result (λ refs. map named_id_of refs.items ≡ map held_ref self.now) }
     {
@@ -81,7 +81,7 @@ impl StoredRefs {
         }
     }
 
-    // The id that the ref of a name holds.
+    // The id of the ref with this name.
     fn held(&self, name: &[u8]) -> Option<ObjectId>
         ensures { result ≡ ref_named self.now name.now }
     {
@@ -91,7 +91,7 @@ impl StoredRefs {
         }
     }
 
-    // Adds a ref of a name, or what one leads to. Returns whether there is one.
+    // Adds a ref, or for a name with `^{}` the id that an existing ref peels to. Returns false where that ref doesn't exist.
     fn add_by(&mut self, alloc: Global, id: ObjectId, name: &[u8]) -> Result<bool, AllocError>
         ensures read { IfOk result (λ is_read. is_read ≡ true → ref_by self.old id name.now (peeled_name name.now) ≡ Some self.new) }
         ensures unread { IfOk result (λ is_read. is_read ≡ false → (ref_by self.old id name.now (peeled_name name.now) ≡ None)
@@ -111,7 +111,7 @@ impl StoredRefs {
         Ok(true)
     }
 
-    // Adds the ref of a line. Returns whether it is one.
+    // Adds the ref of a line. Returns false where the line isn't a ref's.
     fn add_ref_line(&mut self, alloc: Global, line: &[u8]) -> Result<bool, AllocError>
         ensures read { IfOk result (λ is_read. is_read ≡ true → ref_line self.old line.now ≡ Some self.new) }
         ensures unread { IfOk result (λ is_read. is_read ≡ false → (ref_line self.old line.now ≡ None) × (self.new ≡ self.old)) }
@@ -129,14 +129,14 @@ impl StoredRefs {
         self.add_by(alloc, id, name.as_bytes())
     }
 
-    /// Adds the refs of a text as `git show-ref -d` writes it: on each line an id, a blank and the full name of a ref;
-    /// after the line of a tag one of the id that it leads to, and of its name and `^{}`. Names aren't checked
-    /// (git-check-ref-format). Where a name stands on two lines, the later one counts.
+    /// Adds the refs of the output of `git show-ref -d`. Each line has an id, a space and the full name of a ref. The
+    /// line of a tag may be followed by a line with the id that the tag peels to, and its name with `^{}`. Names aren't checked
+    /// (git-check-ref-format). Where a name has two lines, the later one counts.
     ///
     /// # Errors
     ///
-    /// The number of the first line that isn't of this form, or whose `^{}` follows no ref's name, or an allocation
-    /// failure. The refs of the lines before are added.
+    /// The number of the first line that isn't of this form, or whose `^{}` follows no name of an earlier ref, or an
+    /// allocation failure. The refs of the lines before it are added.
     pub fn read_refs(&mut self, alloc: Global, text: &[u8]) -> Result<(), TextError>
         ensures { FillsByText ref_line self.old text.now self.new result }
     {
@@ -155,14 +155,13 @@ impl StoredRefs {
     }
 }
 
-// The name in front of `^{}`.
 fn peeled_name(name: &[u8]) -> Option<&[u8]>
     ensures { option_copied result ≡ peeled_name name.now }
 {
     name.strip_suffix(b"^{}")
 }
 
-// The names, and the ids that they hold.
+// The names of the refs and their ids.
 fn named_ids_of(
     alloc: Global,
     names: &BTreeMap<Vec<u8>, StoredRef>,
@@ -176,7 +175,7 @@ fn named_ids_of(
         .collect(alloc)
 }
 
-// What the refs lead to.
+// The ids that the refs peel to.
 fn targets(alloc: Global, names: &BTreeMap<Vec<u8>, StoredRef>) -> Result<Vec<ObjectId>, AllocError>
     ensures { IfOk result (λ ids. ids.items ≡ map (λ (r : StoredRef). r.peeled) (values names.now)) }
 {
@@ -204,7 +203,7 @@ impl RefStore for StoredRefs {
     }
 }
 
-/// The error of repositories that lend no objects, and so can't fail to be opened: no call returns it
-/// (gitrepository-layout, `objects/info/alternates`). For `NegotiateContext`, as `Ok::<_, NoAlternates>(&mut [])`.
+/// The error of a repository without alternates (gitrepository-layout, `objects/info/alternates`): none is opened, so
+/// no call returns it. For `NegotiateContext`, as `Ok::<_, NoAlternates>(&mut [])`.
 #[derive(Clone, Copy, Debug, PartialEq, Eq)]
 pub struct NoAlternates;

@@ -1,4 +1,4 @@
-//! Ids, kinds and numbers of the texts that git writes of a repository.
+//! Ids, kinds and numbers in the output of git commands.
 ghost use Rattle.std.specs.Prelude.{◌≡◌, ◌<◌, ◌^◌, IfOk, IfSome, map, option_map};
 ghost use Rattle.bstr.specs.BStr.{bstr_bytes};
 ghost use Rattle.gixp_memory.specs.Repository.{named_id, named_ids, named_kind, one_digit_more, digits_more, seconds};
@@ -9,10 +9,10 @@ use gixp_hash::ObjectId;
 use std::alloc::{AllocError, AllocFailed, Global};
 use thiserror::Error;
 
-/// Why a text isn't read to its end. What the lines before added stays.
+/// Why a text isn't read to its end. The lines before the error are added.
 #[derive(Clone, Copy, Debug, PartialEq, Eq, Drop, Error)]
 pub enum TextError {
-    /// The line of this number, from 1 on, isn't of the text's form.
+    /// The line with this number, counted from 1, isn't of the text's form.
     #[error("line {0} can't be read")]
     Line(usize),
     /// An allocation failed.
@@ -40,14 +40,13 @@ impl<T: Drop> From<AllocFailed<T>> for TextError {
     }
 }
 
-// The id that a word is.
 pub(crate) fn named_id(word: &[u8]) -> Option<ObjectId>
     ensures { result ≡ named_id word.now }
 {
     ObjectId::from_hex(word).ok()
 }
 
-// The ids that all of some words are.
+// The ids of all words. None where a word isn't an id.
 pub(crate) fn named_ids(
     alloc: Global,
     words: &[BStr<'_>],
@@ -64,7 +63,6 @@ pub(crate) fn named_ids(
     Ok(Some(ids))
 }
 
-// The kind that a word names.
 pub(crate) fn named_kind(word: &[u8]) -> Option<ObjectKind>
     ensures { result ≡ named_kind word.now }
 {
@@ -81,7 +79,7 @@ pub(crate) fn named_kind(word: &[u8]) -> Option<ObjectKind>
     }
 }
 
-// A number below 2^63 with one digit more.
+// Appends a decimal digit to a number. None where the result isn't below 2^63.
 fn one_digit_more(number: u64, digit: u8) -> Option<u64>
     ensures value { result ≡ one_digit_more number digit }
     ensures fits { IfSome result (λ n. n < 2 ^ 63) }
@@ -94,7 +92,7 @@ fn one_digit_more(number: u64, digit: u8) -> Option<u64>
     if more < 1 << 63 { Some(more) } else { None }
 }
 
-// The number that some digits write, one at least.
+// The number that decimal digits write. 0 for an empty word.
 fn digits(word: &[u8]) -> Option<u64>
     ensures value { result ≡ digits_more 0 word.now }
     ensures fits { IfSome result (λ n. n < 2 ^ 63) }
@@ -109,7 +107,6 @@ fn digits(word: &[u8]) -> Option<u64>
     Some(number)
 }
 
-// The seconds that a word writes.
 pub(crate) fn seconds(word: &[u8]) -> Option<i64>
     ensures { result ≡ seconds word.now }
 {

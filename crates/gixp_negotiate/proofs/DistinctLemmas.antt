@@ -1,4 +1,4 @@
--- The set in which ids are found.
+-- The set of ids.
 use Rattle.std.proofs.Common.{◌≡◌, Bool, true, false, cond, List, [], ◌∷◌, ◌++◌, refl, sym, ap, ◌∙◌, ◌||◌}
 use Rattle.std.specs.List.{list_any}
 use Rattle.std.specs.BTreeMap.{is_at}
@@ -9,7 +9,6 @@ use Rattle.gixp_hash.specs.ObjectId.{id_cmp}
 use Rattle.gixp_negotiate.specs.Rounds.{is_same_id, has_id, keeping}
 use Rattle.gixp_negotiate.specs.Distinct.{IsIndex}
 
--- to compare ids is to compare their bytes
 same_at : (id q : ObjectId) → is_at (id_cmp id) q ≡ is_same_id id q
 same_at id q = is_eq-slice_cmp id.bytes q.bytes
 
@@ -19,7 +18,7 @@ or_cond true false = refl
 or_cond false true = refl
 or_cond false false = refl
 
--- one id more
+-- one more id
 pub index_more : (keys more ids : List ObjectId) (id : ObjectId) → IsIndex keys ids → ((q : ObjectId) → list_any (is_at (id_cmp q)) more
     ≡ cond (is_at (id_cmp id) q) true (list_any (is_at (id_cmp q)) keys)) → IsIndex more (ids ++ id ∷ [])
 index_more keys more ids id i u q =
@@ -27,7 +26,7 @@ index_more keys more ids id i u q =
     ∙ (ap (cond (is_same_id id q) true) (i q)
     ∙ (or_cond (is_same_id id q) (has_id ids q) ∙ sym (list_any-append (λ had. is_same_id had q) ids (id ∷ [])))))
 
--- an id that is there, and one that isn't
+-- an id that is among the ids, and one that isn't
 pub kept_there : (ids : List ObjectId) (id : ObjectId) → has_id ids id ≡ true → ids ≡ keeping ids id
 kept_there ids id e = ap (λ b. cond b ids (ids ++ id ∷ [])) (sym e)
 

@@ -1,4 +1,4 @@
--- What looks at ids leave.
+-- The graph after look-ups.
 use Rattle.std.proofs.Common.{◌≡◌, ◌⊎◌, inl, inr, ℕ, ℤ, ◌+◌, ◌<◌, Bool, true, false, cond, List, [], ◌∷◌, ◌++◌, length, get_or, take, drop, filter, map, Option, Some, None, refl, sym, ap, ◌∙◌, subst, suc, arith, not, ◌||◌, ◌&&◌, ◌↔◌}
 use Rattle.std.specs.List.{list_any}
 use Rattle.std.proofs.lemmas.List.{map-append}
@@ -49,7 +49,7 @@ mapping_ids-append [] ys = refl
 mapping_ids-append (x ∷ xs) ys = ap (with_common (mapping_id x)) (mapping_ids-append xs ys)
     ∙ with_common-append (mapping_id x) (mapping_ids xs) (mapping_ids ys)
 
--- one mapping more
+-- one more mapping
 pub mapping_ids_more : (ms : List Mapping) (i : ℕ) (d : Mapping) → i < length ms
     → mapping_ids (take (i + 1) ms) ≡ mapping_ids (take i ms) ++ with_common (mapping_id (get_or ms i d)) []
 mapping_ids_more ms i d h = ap mapping_ids (take_more ms i d h) ∙ mapping_ids-append (take i ms) (get_or ms i d ∷ [])
@@ -77,7 +77,7 @@ tips_more objects ids id e =
     (filter (λ x. is_some (commit_at objects x)) ids) (filter (λ x. is_some (commit_at objects x)) (id ∷ []))
     ∙ ap (λ b. keeping_all (tips_in objects ids) (cond b (id ∷ []) [])) e))
 
--- an id of no commit
+-- an id that isn't a commit
 pub tips_same : (objects : Objects) (ids : List ObjectId) (id : ObjectId) → is_some (commit_at objects id) ≡ false
     → tips_in objects ids ≡ tips_in objects (ids ++ id ∷ [])
 tips_same objects ids id e =
@@ -85,7 +85,7 @@ tips_same objects ids id e =
     (filter (λ x. is_some (commit_at objects x)) ids) (filter (λ x. is_some (commit_at objects x)) (id ∷ []))
     ∙ ap (λ b. keeping_all (tips_in objects ids) (cond b (id ∷ []) [])) e))
 
--- what a look shows is what the objects have
+-- the time that is shown is the time of the commit
 shown_time : (o : Option HeldCommit) → commit_time (option_map as_read o) ≡ option_map (λ (x : ℤ × Flags). x.0) (option_map shown o)
 shown_time None = refl
 shown_time (Some h) = refl
@@ -95,12 +95,11 @@ pub time_found : (g : GraphData) (id : ObjectId) (r : Option (ℤ × Flags)) →
 time_found g id r f e = ap (option_map (λ (x : ℤ × Flags). x.0)) e
     ∙ (sym (shown_time (found_in g id)) ∙ ap commit_time (faithful_reads g f id))
 
--- a time is found where a commit is
 pub time_some : (o : Option Commit) → is_some (commit_time o) ≡ is_some o
 time_some None = refl
 time_some (Some c) = refl
 
--- a look marks nothing
+-- a look-up marks nothing
 pub marked_look : (g : GraphData) (id q : ObjectId) → is_marked (look id g).held q ≡ is_marked g.held q
 marked_look g id q = marked_looked_up g id q
 
@@ -108,7 +107,7 @@ pub marked_look_each : (ids : List ObjectId) (g : GraphData) (q : ObjectId) → 
 marked_look_each [] g q = refl
 marked_look_each (id ∷ ids) g q = marked_look_each ids (look id g) q ∙ marked_look g id q
 
--- nor does it hold any other commit
+-- a look-up holds no other commit
 contains_here : (x q : ObjectId) (xs : List ObjectId) → q ≡ x → Contains (x ∷ xs) q
 contains_here x q xs e = (0, omega arith, sym e)
 
@@ -125,7 +124,6 @@ held_look_each (id ∷ ids) g q f =
     first (inl a) = inl a
     first (inr e) = inr (contains_here id q ids e)
 
--- one element more
 pub take_one : {X : Type 0} (xs : List X) (i : ℕ) (x : X) → i < length xs → x ≡ get_or xs i x → take (i + 1) xs ≡ take i xs ++ x ∷ []
 take_one xs i x h e = take_more xs i x h ∙ ap (λ y. take i xs ++ y ∷ []) (sym e)
 
@@ -180,7 +178,7 @@ pub commit_some : (found now : Objects) (id : ObjectId) (time : Option ℤ) (s :
 commit_some found now id time s en et es = sym (time_some (commit_at found id))
     ∙ (ap is_some (sym (et ∙ ap (λ x. time_at x (Some id)) en)) ∙ es)
 
--- the marked ones among the ids of one mapping more
+-- the marked commits with one more mapping's
 pub marked_none : (p : ObjectId → Bool) (front : List Mapping) (m : Mapping) (had : List ObjectId) → had ≡ filter p (mapping_ids front)
     → None ≡ mapping_id m → had ≡ filter p (mapping_ids (front ++ m ∷ []))
 marked_none p front m had eh em = eh ∙ ap (filter p) (sym
@@ -194,7 +192,7 @@ marked_some p front m id b had new eh em eb en =
     ∙ (sym (filter-append p (mapping_ids front) (id ∷ []))
     ∙ ap (filter p) (sym (mapping_ids-append front (m ∷ []) ∙ ap (λ o. mapping_ids front ++ with_common o []) (sym em))))))
 
--- what a walk marks and holds, by the graph in front of all looks
+-- the commits that a walk marks and holds, by the graph before all look-ups
 pub walk_marks : {N : Type 0} (calls : NegotiatorCalls N) (n : N) (g g1 : GraphData) (ids tips : List ObjectId) (cutoff : Option ℤ)
     (m : N) (h : GraphData) → g1 ≡ look_each ids g → cutoff ≡ cutoff_of g.objects ids → TellsNegotiator calls n g1 ids tips cutoff m h
     → Marks calls n g ids tips m h
@@ -238,7 +236,7 @@ walk_marks calls n g g1 ids tips cutoff m h e ec t =
         (look_each-objects tips g1 ∙ (ap (λ x. x.objects) e ∙ look_each-objects ids g))
         (subst (λ (c : Option ℤ). IsComplete (commit_at (look_each tips g1).objects) tips c id) ec k))))
 
--- some of the ids of all mappings, and of all ids
+-- a first part of all ids was looked up
 looks_by : (ids front behind : List ObjectId) (g h : GraphData) → ids ≡ front ++ behind → h ≡ look_each front g → LooksAtSome ids g h
 looks_by ids front behind g h split e = record { looked = front; left = behind; split = split; graph = e }
 
@@ -253,7 +251,7 @@ looks_at ids i g h e = looks_by ids (take i ids) (drop i ids) g h (sym (take-app
 pub looks_none : (ids : List ObjectId) (g h : GraphData) → h ≡ g → LooksAtSome ids g h
 looks_none ids g h e = looks_by ids [] ids g h refl e
 
--- the first calls were made, and the next was refused
+-- a first part of the calls were made, and the next failed
 pub calls_some : {N : Type 0} (call : Call N) (fails : RefusedCall N) (ids : List ObjectId) (i : ℕ) (d : ObjectId) (n : N)
     (g : GraphData) (told : N) (told_graph : GraphData) (x : NegotiatorError) (m : N) (h : GraphData)
     → i < length ids → IsRun call (take i ids) n g told told_graph → fails told told_graph (get_or ids i d) x m h
@@ -269,7 +267,7 @@ calls_some call fails ids i d n g told told_graph x m h less run refused = recor
   fails = refused;
 }
 
--- what was refused after the mappings, by the graph in front of all looks
+-- how far a step went after the mappings, by the graph before all look-ups
 pub stops_behind : {N R A : Type 0} (calls : NegotiatorCalls N) (listings : Listings R) (Negotiates : Type 0) (n : N) (g g1 : GraphData)
     (q q1 : Written ObjectError) (refs : R) (lent : Lent R A) (ids tips : List ObjectId) (cutoff : Option ℤ) (e : Error A)
     (new : Step N R A)
@@ -284,7 +282,6 @@ stops_behind calls listings P n g g1 q q1 refs lent ids tips cutoff e new eg ec 
     (subst (λ z. StopsTelling calls n g1 z ids tips (cutoff_of g.objects ids) x new.negotiator new.graph new.refusals) eq
     (subst (λ k. StopsTelling calls n g1 q1 ids tips k x new.negotiator new.graph new.refusals) ec s)))
 
--- the same where the decision is told otherwise
 pub stops_when : {N R A : Type 0} (calls : NegotiatorCalls N) (listings : Listings R) (P Q : Type 0) (ids tips : List ObjectId)
     (old : Step N R A) (e : Error A) (new : Step N R A) → (P → Q) → Stops calls listings P ids tips old e new
     → Stops calls listings Q ids tips old e new
@@ -293,7 +290,6 @@ stops_when calls listings P Q ids tips old e new f (at_refs p a b c d) = at_refs
 stops_when calls listings P Q ids tips old e new f (at_lent p a b c d) = at_lent (f p) a b c d
 stops_when calls listings P Q ids tips old e new f (at_telling p a b x c d) = at_telling (f p) a b x c d
 
--- the same calls, by what the ids are
 pub calls_same : {N : Type 0} (call : Call N) (refuses : RefusedCall N) (ids others : List ObjectId) (n : N) (g : GraphData)
     (x : NegotiatorError) (m : N) (h : GraphData) → ids ≡ others → CallsSome call refuses ids n g x m h
     → CallsSome call refuses others n g x m h

@@ -15,7 +15,7 @@ run_leaves : {N : Type 0} (call : Call N) → LeavesMarks call → (ids : List O
 run_leaves call law [] n g m h r q = ap (λ x. is_marked x.held q) r.1
 run_leaves call law (id ∷ ids) n g m h r q = run_leaves call law ids r.0 r.1 m h r.3 q ∙ law n g id r.0 r.1 r.2 q
 
--- the marks after both runs are those of the walk
+-- the marks after all calls are the walk's
 pub marks_complete : {N : Type 0} (calls : NegotiatorCalls N) (n : N) (g : GraphData) (ids tips : List ObjectId) (m : N) (h : GraphData)
     → LeavesMarks calls.knows → LeavesMarks calls.adds → Marks calls n g ids tips m h → MarksComplete g ids tips h
 marks_complete calls n g ids tips m h k a marks id =

@@ -1,4 +1,4 @@
--- Stores that are listed one after the other.
+-- Stores that are listed one after another.
 use Rattle.std.proofs.Common.{◌≡◌, ◌⊎◌, ℕ, ◌+◌, ◌<◌, zero, suc, List, [], ◌∷◌, length, get_or, set, drop, ◌++◌, append_assoc, refl, sym, ap, ◌∙◌, subst, arith, ◌||◌, if◌then◌else◌}
 use Rattle.std.proofs.Math.Numerals.{add-one}
 use Rattle.std.proofs.Math.Seq.{drop-cons}
@@ -24,12 +24,12 @@ module _ {R : Type 0} (listings : Listings R) (d b : R) where
   front_suc (suc k) (a ∷ old) [] f h l = absurd f
   front_suc (suc k) (a ∷ old) (x ∷ mid) f h l = (f.0, front_suc k old mid f.1 (omega arith) l)
 
-  -- one store more
+  -- one more store
   pub front_more : (k : ℕ) (old mid : List R) → ListsFront listings k old mid → k < length mid → HasListed listings (get_or mid k d) b
       → ListsFront listings (k + 1) old (set mid k b)
   front_more k old mid f h l = subst (λ n. ListsFront listings n old (set mid k b)) (sym (add-one k)) (front_suc k old mid f h l)
 
-  -- the store that was the last
+  -- the store that failed
   pub up_to : {A : Type 0} (k : ℕ) (old mid : List R) (e : Error A) → ListsFront listings k old mid → k < length mid
       → RefusesToList listings (get_or mid k d) b e ⊎ (HasListed listings (get_or mid k d) b × (e ≡ Memory))
       → ListsUpTo listings k old (set mid k b) e
@@ -39,7 +39,7 @@ module _ {R : Type 0} (listings : Listings R) (d b : R) where
   up_to (suc k) (a ∷ old) [] e f h l = absurd f
   up_to (suc k) (a ∷ old) (x ∷ mid) e f h l = (f.0, up_to k old mid e f.1 (omega arith) l)
 
--- what is after a store isn't touched with it
+-- the stores after this one aren't touched
 drop_set : {R : Type 0} (xs : List R) (i : ℕ) (b : R) → drop (suc i) (set xs i b) ≡ drop (suc i) xs
 drop_set [] i b = refl
 drop_set (x ∷ xs) zero b = refl
@@ -55,7 +55,7 @@ pub behind_more : {R : Type 0} (stores old : List R) (i : ℕ) (b : R) → drop 
 behind_more stores old i b e = subst (λ n. drop n (set stores i b) ≡ drop n old) (sym (add-one i))
     (drop_set stores i b ∙ (drop_suc i stores ∙ (ap (drop 1) e ∙ sym (drop_suc i old))))
 
--- what one store more lists
+-- the ids of one more store
 pub listed_more : {R : Type 0} (targets : R → List ObjectId) (stores : List R) (i : ℕ) (d b : R) (ids more new whole : List ObjectId)
     → i < length stores → ids ++ flat_map targets (drop i stores) ≡ whole → more ≡ targets (get_or stores i d) → new ≡ ids ++ more
     → new ++ flat_map targets (drop (i + 1) (set stores i b)) ≡ whole
@@ -67,7 +67,7 @@ listed_more targets stores i d b ids more new whole h kept em en =
     ∙ (append_assoc ids (targets (get_or stores i d)) rest
     ∙ (ap (λ xs. ids ++ flat_map targets xs) (sym (drop-cons stores i d h)) ∙ kept))))
 
--- where all is settled, or plain before, nothing is listed
+-- with any other decision nothing is listed
 module _ {R A : Type 0} (listings : Listings R) (refs : R) (lent : Lent R A) where
   pub untouched : (a : ActionValue) → (a ≡ no_change) ⊎ (a ≡ skip) → ListsBy listings a refs lent refs lent
   untouched no_change h = (refl, refl)
@@ -92,7 +92,7 @@ module _ {R A : Type 0} (listings : Listings R) (refs : R) (lent : Lent R A) whe
       → ListsBy listings a refs lent refs lent
   early_lists a shallow ms e = early_at a (has_none ms || is_deepen_zero shallow) (is_lone_unborn ms) e
 
--- where nothing is settled, something is to be negotiated
+-- without a decision before, the fetch has to negotiate
 pub unsettled : (stays changed unknown ch un : Bool) (known : List Bool) → changed ≡ ch → unknown ≡ un
     → None ≡ settled stays changed unknown → IsNegotiate (settle stays ch un known)
 unsettled stays changed unknown ch un known ec eu e = at stays ch un (e ∙ (ap (λ b. settled stays b unknown) ec ∙ ap (settled stays ch) eu))

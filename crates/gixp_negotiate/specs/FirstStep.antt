@@ -1,4 +1,4 @@
--- What the first step of a negotiation works with, what it keeps, and why it is refused.
+-- The first step of a negotiation: its context, what it doesn't change, and its errors.
 use Rattle.std.specs.Prelude.{◌≡◌, ◌⊎◌, ◌≤◌, ◌++◌, ℕ, Bool, List, map}
 use Rattle.gixp_hash.specs.declared.object_id.ObjectId.{ObjectId}
 use Rattle.gixp_graph.specs.Object.{Objects}
@@ -16,11 +16,11 @@ use Rattle.gixp_negotiate.specs.Marking.{LocalRefs, listed, is_known, any_change
 use Rattle.gixp_negotiate.specs.Stores.{Listings, lent_value, ListsBy}
 use Rattle.gixp_negotiate.specs.Stopped.{Step}
 
--- calls on a negotiator and a graph keep what the graph's objects mean, and failures are only counted up
+-- calls on a negotiator and a graph don't change the graph's objects, and counts of failures only rise
 abbrev pub KeepsObjects : {N : Type 0} → NegotiatorCalls N → N → GraphValue → N → GraphValue → Type 0
 KeepsObjects calls n g m h = (h.graph.objects ≡ g.graph.objects) × (calls.failures n ≤ calls.failures m) × (g.failures ≤ h.failures)
 
--- why calls on them are refused, by the error of the negotiator, and by that of the negotiation
+-- why such calls fail, by the negotiator's error and by the negotiation's
 abbrev pub IsCallRefusal : {N : Type 0} → NegotiatorCalls N → N → GraphValue → N → GraphValue → NegotiatorError → Type 0
 IsCallRefusal calls n g m h e = IsRefusal (calls.failures n) (calls.failures m) g.failures h.failures e
 
@@ -28,7 +28,7 @@ abbrev pub IsRoundRefusal : {N A : Type 0} → NegotiatorCalls N → N → Graph
 IsRoundRefusal calls n g m h e = IsNegotiatorRefusal (calls.failures n) (calls.failures m) g.failures h.failures e
 
 module _ {O R N G E : Type 0} where
-  -- how far it is
+  -- the state of a step
   abbrev pub step_of : NegotiateContext O R N G E → Step N R E
   step_of c = record {
     negotiator = c.negotiator.now;
@@ -38,22 +38,22 @@ module _ {O R N G E : Type 0} where
     lent = lent_value c.alternates;
   }
 
-  -- what the refs lead to, and those of the repositories that lend objects
+  -- the ids that the refs of the repository and of its alternates peel to
   abbrev pub tips_of : (R → List ObjectId) → NegotiateContext O R N G E → List ObjectId
   tips_of targets c = targets c.refs.now ++ listed targets c.alternates
 
-  -- what is done for an action: the negotiator is told of what is complete and common
+  -- acting on a decision: complete commits are marked, and complete and common ones reported to the negotiator
   abbrev pub ActsIn : NegotiatorCalls N → (R → List ObjectId) → ActionValue → List ObjectId → NegotiateContext O R N G E
       → NegotiateContext O R N G E → Type 0
   ActsIn calls targets action ids old new =
       Acts calls action old.negotiator.now old.graph.now.graph ids (tips_of targets old) new.negotiator.now new.graph.now.graph
 
-  -- the refs of all stores are listed where something is to be negotiated, and else untouched
+  -- the refs of all stores are listed if the fetch has to negotiate, and otherwise aren't touched
   abbrev pub ListsIn : Listings R → ActionValue → NegotiateContext O R N G E → NegotiateContext O R N G E → Type 0
   ListsIn listings action old new = ListsBy listings action old.refs.now (lent_value old.alternates) new.refs.now
       (lent_value new.alternates)
 
-  -- it keeps what all objects mean, the refs and what they lead to; failures are only counted up
+  -- no objects and no refs change, and counts of failures only rise
   abbrev pub KeepsStores : NegotiatorCalls N → (R → LocalRefs) → (R → List ObjectId) → (R → ℕ) → NegotiateContext O R N G E
       → NegotiateContext O R N G E → Type 0
   KeepsStores calls refs targets failures old new =
@@ -61,13 +61,13 @@ module _ {O R N G E : Type 0} where
       × (refs new.refs.now ≡ refs old.refs.now) × (targets new.refs.now ≡ targets old.refs.now)
       × (failures old.refs.now ≤ failures new.refs.now)
 
-  -- the negotiator or the graph's objects refused a call, or the refs can't be listed, or those of the lending repositories
+  -- a call of the negotiator or of the graph's objects failed; or the refs, or the alternates' refs, can't be listed
   abbrev pub IsStepRefusal : NegotiatorCalls N → (R → ℕ) → NegotiateContext O R N G E → NegotiateContext O R N G E → Error E → Type 0
   IsStepRefusal calls failures old new e =
       IsRoundRefusal calls old.negotiator.now old.graph.now new.negotiator.now new.graph.now e
       ⊎ (IsRefsRefusal (failures old.refs.now) (failures new.refs.now) e ⊎ IsAlternatesRefusal failures old.alternates new.alternates e)
 
-  -- what the refs call for where nothing is plain before, and what they call for at all
+  -- the decision after the look-ups (`settled_by`), and the whole decision (`decided_by`)
   abbrev pub settled_by : (O → Objects) → (R → LocalRefs) → (Mapping → Bool) → Bool → List Mapping → NegotiateContext O R N G E
       → ActionValue
   settled_by contents refs ignores stays ms c =
@@ -79,10 +79,10 @@ module _ {O R N G E : Type 0} where
   decided_by contents refs ignores shallow ms c =
       decision ignores c.graph.now.graph.objects (contents c.objects.now) (refs c.refs.now) shallow ms
 
-  -- what a negotiation was made with beside its context stays
+  -- the options of a negotiation stay the same
   abbrev pub KeepsOptions : Negotiation O R N G E → Negotiation O R N G E → Type 0
   KeepsOptions n m = (m.ref_map.now ≡ n.ref_map.now) × (m.shallow.now ≡ n.shallow.now) × (m.tags ≡ n.tags)
 
-  -- what a negotiation worked with, with the alternates that its first step was handed
+  -- the context of a negotiation, with the alternates as its first step got them
   abbrev pub handing : Negotiation O R N G E → NegotiateContext O R N G E
   handing n = record n.context { alternates = n.handed }

@@ -8,17 +8,18 @@ use Rattle.gixp_graph.specs.Run.{Call}
 use Rattle.gixp_graph.specs.Negotiation.{NegotiatorCalls}
 use Rattle.gixp_negotiate.specs.Marking.{cutoff_of, Marks}
 
--- a call that leaves the mark COMPLETE of each commit alone
+-- a call that doesn't change which commits have the mark COMPLETE
 abbrev pub LeavesMarks : {N : Type 0} → Call N → Type 0
 LeavesMarks {N} call = (n : N) (g : GraphData) (id : ObjectId) (m : N) (h : GraphData) → call n g id m h → (q : ObjectId)
     → is_marked h.held q ≡ is_marked g.held q
 
--- just the complete commits are marked, beside those that were
+-- exactly the complete commits are marked, and those that were marked before
 abbrev pub MarksComplete : GraphData → List ObjectId → List ObjectId → GraphData → Type 0
 MarksComplete g ids tips h = (id : ObjectId) → IsTrue (is_marked h.held id)
     ↔ (IsTrue (is_marked g.held id) ⊎ IsComplete (commit_at g.objects) tips (cutoff_of g.objects ids) id)
 
--- from a graph without marks on, the marks after a negotiator that leaves them alone are the complete commits
+-- with a graph without marks, and a negotiator that leaves the mark COMPLETE alone, exactly the complete commits are
+-- marked afterwards
 abbrev pub CompleteMarksAreExact : {N : Type 0} → NegotiatorCalls N → Type 0
 CompleteMarksAreExact {N} calls =
     (n : N) (g : GraphData) (ids tips : List ObjectId) (m : N) (h : GraphData) → LeavesMarks calls.knows → LeavesMarks calls.adds

@@ -1,4 +1,4 @@
--- How far a first step came that was refused: what was looked up, marked and told stays.
+-- How far a failed first step went: what was looked up, marked and reported stays.
 use Rattle.std.specs.Prelude.{◌≡◌, ◌⊎◌, ⊤, List, ◌++◌, filter, IsTrue, IsSome, Option, ℤ}
 use Rattle.std.specs.FinMap as finite
 use Rattle.gixp_hash.specs.declared.object_id.ObjectId.{ObjectId}
@@ -19,14 +19,14 @@ use Rattle.gixp_negotiate.specs.Marking.{look_each, cutoff_of, tips_in, Walks}
 use Rattle.gixp_negotiate.specs.Refused.{CallsSome}
 use Rattle.gixp_negotiate.specs.Stores.{Listings, HasListed, RefusesToList, Lent, ListsLent, RefusesLent}
 
--- the first of these ids were looked up, and nothing else was done
+-- a first part of these ids were looked up, and nothing else was done
 pub record LooksAtSome (ids : List ObjectId) (g h : GraphData) : Type 0 where
   pub looked : List ObjectId
   pub left : List ObjectId
   pub split : ids ≡ looked ++ left
   pub graph : h ≡ look_each looked g
 
--- a walk was under way, or at its end: each commit is as before, or is complete and was given the mark
+-- a walk was under way, or at its end: each commit is as before, or is complete and got the mark
 pub record WalksSome (g : GraphData) (ids : List ObjectId) (cutoff : Option ℤ) (h : GraphData) : Type 0 where
   pub objects : h.objects ≡ g.objects
   pub only_marks : OnlyMarks g h.held
@@ -34,13 +34,13 @@ pub record WalksSome (g : GraphData) (ids : List ObjectId) (cutoff : Option ℤ)
   pub held : (id : ObjectId) → IsSome (finite.get h.held id) → IsSome (finite.get g.held id)
       ⊎ IsComplete (commit_at g.objects) ids cutoff id
 
--- an error of look-ups
+-- the error of a look-up
 abbrev pub object_error : NegotiatorError → ObjectError
 object_error (Lookup x) = x
 object_error no_memory = Memory
 
--- how far the walk and the calls after it came, over ids and tips that were looked up, and why; the lists are what the objects' refused
--- calls told before and after it
+-- how far the walk and the calls after it went, after ids and tips were looked up, and why; with the recorded errors
+-- of the objects before and after it
 pub data StopsTelling {N : Type 0} (calls : NegotiatorCalls N) (n : N) (g : GraphData) (refusals : Written ObjectError)
     (ids tips : List ObjectId) (cutoff : Option ℤ) (x : NegotiatorError) (m : N) (h : GraphData)
     (refusals' : Written ObjectError) : Type 0 where
@@ -55,14 +55,14 @@ pub data StopsTelling {N : Type 0} (calls : NegotiatorCalls N) (n : N) (g : Grap
       → CallsSome calls.adds calls.adding_fails (tips_in g.objects tips) told told_graph x m h
       → StopsTelling calls n g refusals ids tips cutoff x m h refusals'
 
--- something is to be negotiated
+-- the decision is to negotiate
 abbrev pub IsNegotiate : ActionValue → Type 0
 IsNegotiate (negotiate known) = ⊤
 IsNegotiate no_change = ⊥
 IsNegotiate skip = ⊥
 
--- what a first step is over: the negotiator, the graph, what its objects' refused calls told, the refs of the repository, and those of
--- the repositories that lend to it
+-- the state of a first step: the negotiator, the graph, the recorded errors of its objects, the refs of the
+-- repository, and its alternates' refs
 pub record Step (N R A : Type 0) : Type 0 where
   pub negotiator : N
   pub graph : GraphData
@@ -70,8 +70,9 @@ pub record Step (N R A : Type 0) : Type 0 where
   pub refs : R
   pub lent : Lent R A
 
--- how far the whole came, and why it was refused: some of the mappings' commits were looked up; or all of them, something is to be
--- negotiated, and the refs weren't listed; or those of the lending repositories, after them; or it came so far from there
+-- how far a first step went, and why it failed. A first part of the mappings' commits were looked up; or all of
+-- them, the fetch has to negotiate, and the refs can't be listed; or the alternates' can't, after the refs; or a later
+-- step failed
 pub data Stops {N R A : Type 0} (calls : NegotiatorCalls N) (listings : Listings R) (Negotiates : Type 0) (ids tips : List ObjectId)
     (old : Step N R A) (e : Error A) (new : Step N R A) : Type 0 where
   at_mappings : (x : ObjectError) → e ≡ from_object x → TellsRefusal x old.refusals new.refusals → new.negotiator ≡ old.negotiator
@@ -86,7 +87,7 @@ pub data Stops {N R A : Type 0} (calls : NegotiatorCalls N) (listings : Listings
       → StopsTelling calls old.negotiator (look_each ids old.graph) old.refusals ids tips
       (cutoff_of old.graph.objects ids) x new.negotiator new.graph new.refusals → Stops calls listings Negotiates ids tips old e new
 
--- the same once the ids were looked up
+-- the same after the ids were looked up
 pub data StopsAfterLookups {N R A : Type 0} (calls : NegotiatorCalls N) (listings : Listings R) (ids tips : List ObjectId)
     (cutoff : Option ℤ) (old : Step N R A) (e : Error A) (new : Step N R A) : Type 0 where
   refs_refused : RefusesToList listings old.refs new.refs e → new.negotiator ≡ old.negotiator → new.graph ≡ old.graph

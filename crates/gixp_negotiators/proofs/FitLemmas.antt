@@ -1,4 +1,4 @@
--- A queue and its count fit a graph.
+-- The invariant of a queue and its count.
 use Rattle.std.proofs.Common.{◌≡◌, ℕ, ℤ, ◌+◌, ◌-◌, ◌≤◌, ◌∙◌, ◌&&◌, not, ◌⊎◌, inl, inr, ⊎_elim, Bool, true, false, cond, List, [], ◌∷◌, Option, Some, None, refl, sym, ap, subst, arith, true≢false}
 use Rattle.std.specs.Prelude.{◌≤ℤ◌, pos, is_some, option_map, Contains}
 use Rattle.std.specs.FinMap as finite
@@ -20,39 +20,37 @@ use Rattle.gixp_negotiators.specs.Marks.{COMMON, SEEN, POPPED, has_all, has_mark
 use Rattle.gixp_negotiators.specs.Waiting.{waits_of, queued_one, open_one, open_in, Fits, FitsSeen, KeepsCount, KeepsQueue, KeepsTimed, AllTimed, NoneNewer, AllCommon, IsNewest, IsNewestAt, IsNewestIn, IsDated, QueuesNew}
 use Rattle.gixp_negotiators.proofs.GrowLemmas.{same_id, grows_on}
 
--- what lacks a mark after lacked it before
+-- a commit that lacks a mark after a step lacked it before
 pub lacked : (a b : Bool) → (a ≡ true → b ≡ true) → b ≡ false → a ≡ false
 lacked true b k e = absurd (true≢false (sym (k refl) ∙ e))
 lacked false b k e = refl
 
--- two tests that pass alike
 pub same_mark : (a b : Bool) → (a ≡ true → b ≡ true) → (b ≡ true → a ≡ true) → a ≡ b
 same_mark true b k l = sym (k refl)
 same_mark false true k l = l refl
 same_mark false false k l = refl
 
--- a mark that no commit gets is where it was
+-- a mark that no commit gets stays where it was
 pub same_none : (b : ℕ) (g h : GraphData) → Grows g h → AddsNone b g h → (q : ObjectId) → has_mark b h.held q ≡ has_mark b g.held q
 same_none b g h w s q = same_mark (has_mark b h.held q) (has_mark b g.held q) (s q) (w.marks b q)
 
--- two ids are compared alike from both sides
 flip : (q id : ObjectId) → eq_by_cmp id_cmp q id ≡ true → eq_by_cmp id_cmp id q ≡ true
 flip q id e = subst (λ k. eq_by_cmp id_cmp id k ≡ true) (sym (same_from q id e)) (same_id id)
 
--- and one that one commit gets, elsewhere
+-- a mark that only one commit gets stays where it was elsewhere
 pub same_only : (b : ℕ) (one : ObjectId) (g h : GraphData) → Grows g h → AddsOnly b one g h → (q : ObjectId)
     → eq_by_cmp id_cmp q one ≡ false → has_mark b h.held q ≡ has_mark b g.held q
 same_only b one g h w s q other = same_mark (has_mark b h.held q) (has_mark b g.held q)
     (λ m. ⊎_elim (λ e. e) (λ e. absurd (true≢false (sym e ∙ other))) (or_cases (has_mark b g.held q) (eq_by_cmp id_cmp q one) (s q m)))
     (w.marks b q)
 
--- ---- how many wait that aren't common
+-- ---- how many queued commits aren't common
 
 pub at_most_one : (b : Bool) → cond {A = ℕ} b 0 1 ≤ 1
 at_most_one true = omega arith
 at_most_one false = omega arith
 
--- by recursion
+-- its equation
 open_cons : (m : Commits) (w : Waiting) (ws : List Waiting) → open_in m (w ∷ ws) ≡ open_one m w.id + open_in m ws
 unfolding open_in
 open_cons m w ws = grind (arith, common_steps)
@@ -61,7 +59,7 @@ open_nil : (m : Commits) → open_in m [] ≡ 0
 unfolding open_in
 open_nil m = refl
 
--- whether one that waits is this commit
+-- whether a queue entry is of this commit
 abbrev waits_one : Waiting → ObjectId → ℕ
 waits_one w id = cond {A = ℕ} (eq_by_cmp id_cmp id w.id) 1 0
 
@@ -73,7 +71,7 @@ waits_nil : (id : ObjectId) → waits_of [] id ≡ 0
 unfolding waits_of
 waits_nil id = refl
 
--- as many are open where none becomes common
+-- their number stays the same where none becomes common
 pub open_kept : (g h : GraphData) → ((q : ObjectId) → has_mark COMMON h.held q ≡ has_mark COMMON g.held q) → (ws : List Waiting)
     → open_in h.held ws ≡ open_in g.held ws
 open_kept g h same [] = omega (arith, open_nil h.held, open_nil g.held)
@@ -81,7 +79,7 @@ open_kept g h same (x ∷ xs) =
     let one : ◌≡◌ {A = ℕ} (open_one h.held x.id) (open_one g.held x.id) = ap (λ c. cond {A = ℕ} c 0 1) (same x.id) in
     omega (arith, open_cons h.held x xs, open_cons g.held x xs, open_kept g h same xs)
 
--- one that becomes common is one less, as often as it waits
+-- a commit that becomes common lowers their number, as often as it is queued
 pub open_settled : (g h : GraphData) → Grows g h → (id : ObjectId) → SettlesOnly id g h → has_mark COMMON g.held id ≡ false
     → has_mark COMMON h.held id ≡ true → (ws : List Waiting) → open_in h.held ws + waits_of ws id ≡ open_in g.held ws
 open_settled g h w id only a b [] = omega (arith, open_nil h.held, open_nil g.held, waits_nil id)
@@ -104,7 +102,7 @@ open_settled g h w id only a b (x ∷ xs) = at (eq_by_cmp id_cmp id x.id) refl (
         let here : ◌≡◌ {A = ℕ} (waits_one x id) 0 = ap (λ c. cond {A = ℕ} c 1 0) e in
         omega (arith, open_cons h.held x xs, open_cons g.held x xs, waits_cons x xs id, rest)
 
--- what doesn't wait may become common
+-- a commit that isn't queued may become common
 pub open_apart : (g h : GraphData) → Grows g h → (id : ObjectId) → SettlesOnly id g h → (ws : List Waiting) → waits_of ws id ≡ 0
     → open_in h.held ws ≡ open_in g.held ws
 open_apart g h w id only [] none = omega (arith, open_nil h.held, open_nil g.held)
@@ -122,7 +120,7 @@ open_apart g h w id only (x ∷ xs) none = at (eq_by_cmp id_cmp id x.id) refl (o
         let rest : waits_of xs id ≡ 0 = omega (arith, waits_cons x xs id, none) in
         omega (arith, open_cons h.held x xs, open_cons g.held x xs, more rest)
 
--- in another order
+-- their number doesn't depend on the order
 pub open_moved : (m : Commits) (ws xs : List Waiting) → IsPermutation ws xs → open_in m xs ≡ open_in m ws
 unfolding open_in
 open_moved m ws xs p = sum_by-IsPermutation (λ (w : Waiting). open_one m w.id) ws xs p
@@ -131,9 +129,9 @@ pub waits_moved : (id : ObjectId) (ws xs : List Waiting) → IsPermutation ws xs
 unfolding waits_of
 waits_moved id ws xs p = sum_by-IsPermutation (λ (w : Waiting). waits_one w id) ws xs p
 
--- ---- a step keeps what fits
+-- ---- steps keep the invariant
 
--- how often a commit is to wait follows from two marks
+-- how often a commit has to be queued follows from two marks
 pub same_queued : (g h : GraphData) (q : ObjectId) → has_mark SEEN h.held q ≡ has_mark SEEN g.held q
     → has_mark POPPED h.held q ≡ has_mark POPPED g.held q
     → queued_one g.held q ≡ queued_one h.held q
@@ -164,18 +162,18 @@ once_at true true = omega arith
 once_at true false = omega arith
 once_at false b = omega arith
 
--- a commit that was seen and not taken waits once
+-- a commit that was seen and not taken is queued once
 pub queued : (m : Commits) (id : ObjectId) → has_mark SEEN m id ≡ true → has_mark POPPED m id ≡ false → queued_one m id ≡ 1
 queued m id a b = queued_at (has_mark SEEN m id) (has_mark POPPED m id) a b
 
--- and no other
+-- a commit that wasn't seen isn't queued
 pub unqueued : (m : Commits) (id : ObjectId) → has_mark SEEN m id ≡ false → queued_one m id ≡ 0
 unqueued m id a = unseen_at (has_mark SEEN m id) (has_mark POPPED m id) a
 
 pub spent : (m : Commits) (id : ObjectId) → has_mark POPPED m id ≡ true → queued_one m id ≡ 0
 spent m id b = spent_at (has_mark SEEN m id) (has_mark POPPED m id) b
 
--- what waits was seen and not taken
+-- a queued commit was seen and not taken
 first_waits : (ws : List Waiting) (g : GraphData) (first : Waiting) → ((id : ObjectId) → waits_of (first ∷ ws) id ≡ queued_one g.held id)
     → 1 ≤ queued_one g.held first.id
 first_waits ws g first waiting =
@@ -190,7 +188,7 @@ pub first_left : (ws : List Waiting) (g : GraphData) (first : Waiting)
     → ((id : ObjectId) → waits_of (first ∷ ws) id ≡ queued_one g.held id) → has_mark POPPED g.held first.id ≡ false
 first_left ws g first waiting = left_at (has_mark SEEN g.held first.id) (has_mark POPPED g.held first.id) (first_waits ws g first waiting)
 
--- marks are added, but for those that count
+-- marks are added that don't count
 pub fits_grown : (lost u : ℕ) (ws : List Waiting) (g h : GraphData) → Grows g h → SeesNone g h → SettlesNone g h → PopsNone g h
     → Fits lost u ws g → Fits lost u ws h
 fits_grown lost u ws g h w s c p f = record {
@@ -199,7 +197,7 @@ fits_grown lost u ws g h w s c p f = record {
   counted = omega (arith, f.counted, open_kept g h (same_none COMMON g h w c) ws);
 }
 
--- one becomes common, and isn't counted any more where it waits
+-- a commit becomes common, and isn't counted any more where it is queued
 pub fits_common : (lost u v : ℕ) (ws : List Waiting) (g h : GraphData) (id : ObjectId) → Grows g h → SeesNone g h → PopsNone g h
     → SettlesOnly id g h → has_mark COMMON g.held id ≡ false → has_mark COMMON h.held id ≡ true → v ≡ u - queued_one g.held id
     → Fits lost u ws g → Fits lost v ws h
@@ -209,7 +207,7 @@ fits_common lost u v ws g h id w s p only before after is f = record {
   counted = omega (arith, f.counted, is, open_settled g h w id only before after ws, f.waiting id);
 }
 
--- one comes to wait
+-- a commit is queued
 pub fits_pushed : (lost u v : ℕ) (ws xs : List Waiting) (g h : GraphData) (new : Waiting) → Grows g h → SeesOnly new.id g h
     → PopsNone g h → SettlesOnly new.id g h → has_mark SEEN g.held new.id ≡ false → has_mark SEEN h.held new.id ≡ true
     → IsPermutation (new ∷ ws) xs → v ≡ u + open_one h.held new.id → Fits lost u ws g → Fits lost v xs h
@@ -240,7 +238,7 @@ fits_pushed lost u v ws xs g h new w s p only before after m is f = record {
           same_queued g h id (same_only SEEN new.id g h w s id e) (same_none POPPED g h w p id),
         )
 
--- the first is taken
+-- the first commit is taken
 pub fits_taken : (lost u v : ℕ) (ws : List Waiting) (g h : GraphData) (first : Waiting) → Grows g h → SeesNone g h → SettlesNone g h
     → PopsOnly first.id g h → has_mark POPPED h.held first.id ≡ true → v ≡ u - open_one g.held first.id
     → Fits lost u (first ∷ ws) g → Fits lost v ws h
@@ -274,13 +272,13 @@ fits_taken lost u v ws g h first w s c p after is f = record {
           same_queued g h id (same_none SEEN g h w s id) (same_only POPPED first.id g h w p id e),
         )
 
--- one that had been taken doesn't wait
+-- a commit that had been taken isn't queued
 pub fits_spent : (lost u v : ℕ) (ws : List Waiting) (g h : GraphData) (first : Waiting) → Grows g h → PopsNone g h
     → (has_mark SEEN h.held first.id ≡ true → has_mark POPPED h.held first.id ≡ true) → Fits lost u (first ∷ ws) g → Fits lost v ws h
 fits_spent lost u v ws g h first w p taken f = absurd (true≢false
     (sym (p first.id (taken (w.marks SEEN first.id (first_seen ws g first f.waiting)))) ∙ first_left ws g first f.waiting))
 
--- ---- what a step adds wasn't seen
+-- ---- a step queues only commits that weren't seen
 
 pub order_pushed : (ws xs : List Waiting) (g : GraphData) (new : Waiting) → has_mark SEEN g.held new.id ≡ false
     → IsPermutation (new ∷ ws) xs → (f : GraphData) (time : ℤ) → Grows f g → NoneNewer time f ws → NoneNewer time f xs
@@ -307,7 +305,7 @@ keeps_on u v r ws xs ys g h k w a b = record {
   order = λ f time z all. b.order f time (grows_on f g h z w) (a.order f time z all);
 }
 
--- the first is set apart
+-- the first commit is separated from the others
 pub fits_popped : (lost u : ℕ) (ws xs : List Waiting) (g : GraphData) (first : Waiting) → IsPermutation ws (first ∷ xs)
     → Fits lost u ws g → Fits lost u (first ∷ xs) g
 fits_popped lost u ws xs g first p f = record {
@@ -325,7 +323,7 @@ keeps_popped u ws xs g first p = record {
 
 -- ---- an end
 
--- where none is counted, all are common
+-- where no commit is counted, all are common
 common_at : (m : Commits) (ws : List Waiting) → open_in m ws ≤ 0 → (id : ObjectId) → 1 ≤ waits_of ws id → has_mark COMMON m id ≡ true
 common_at m [] le id e = absurd (omega (arith, e, waits_nil id))
 common_at m (x ∷ xs) le id e = at (eq_by_cmp id_cmp id x.id) refl (common_at m xs)
@@ -368,7 +366,7 @@ none_counted u ws g f all =
     (has_mark POPPED g.held id) much)) in
     omega (arith, f.counted)
 
--- ---- steps of one that has each wait under its own time
+-- ---- steps that queue each commit under its own time
 
 pub timed_none : (u : ℕ) (ws : List Waiting) (g : GraphData) → KeepsTimed u ws g u ws g
 timed_none u ws g = record { keeps = keeps_none u ws g; timed = λ all. all }
@@ -378,7 +376,7 @@ pub timed_on : (u v r : ℕ) (ws xs ys : List Waiting) (g h k : GraphData) → G
 timed_on u v r ws xs ys g h k w a b =
     record { keeps = keeps_on u v r ws xs ys g h k w a.keeps b.keeps; timed = λ all. b.timed (a.timed all) }
 
--- only the count changes, and the marks
+-- only the count and the marks change
 pub timed_fits : (u v : ℕ) (ws : List Waiting) (g h : GraphData) → Grows g h → (Fits 0 u ws g → Fits 0 v ws h) → KeepsTimed u ws g v ws h
 timed_fits u v ws g h w fits = record {
   keeps = record { fits = fits; order = λ f time z all. all };
@@ -389,7 +387,7 @@ pub timed_grown : (u : ℕ) (ws : List Waiting) (g h : GraphData) → Grows g h 
     → KeepsTimed u ws g u ws h
 timed_grown u ws g h w s c p = timed_fits u u ws g h w (fits_grown 0 u ws g h w s c p)
 
--- one comes to wait that wasn't seen
+-- a commit is queued that wasn't seen
 pub timed_pushed : (u v : ℕ) (ws xs : List Waiting) (g h : GraphData) (new : Waiting) → Grows g h → SeesOnly new.id g h
     → PopsNone g h → SettlesOnly new.id g h → has_mark SEEN g.held new.id ≡ false → has_mark SEEN h.held new.id ≡ true
     → IsPermutation (new ∷ ws) xs → v ≡ u + open_one h.held new.id → time_at g.objects new.id ≡ Some new.time → KeepsTimed u ws g v xs h
@@ -401,7 +399,7 @@ timed_pushed u v ws xs g h new w s pops only unseen seen p is time = record {
   timed = subst (λ o. AllTimed g.objects ws → AllTimed o xs) (sym w.objects) (times_pushed ws xs g.objects new time p);
 }
 
--- the first is set apart
+-- the first commit is separated from the others
 pub timed_popped : (u : ℕ) (ws xs : List Waiting) (g : GraphData) (first : Waiting) → IsPermutation ws (first ∷ xs)
     → KeepsTimed u ws g u (first ∷ xs) g
 timed_popped u ws xs g first p = record {
@@ -409,7 +407,7 @@ timed_popped u ws xs g first p = record {
   timed = All-permutation (λ (x : Waiting). time_at g.objects x.id ≡ Some x.time) ws (first ∷ xs) p;
 }
 
--- and taken
+-- the first commit is taken
 pub timed_taken : (u v : ℕ) (ws : List Waiting) (g h : GraphData) (first : Waiting) → Grows g h
     → (Fits 0 u (first ∷ ws) g → Fits 0 v ws h) → KeepsTimed u (first ∷ ws) g v ws h
 timed_taken u v ws g h first w fits = record {
@@ -422,7 +420,7 @@ timed_taken u v ws g h first w fits = record {
 
 -- ---- the count of a step
 
--- a commit became common: it isn't counted any more, where it waits
+-- a commit became common: it isn't counted any more where it is queued
 settled_at : (u v : ℕ) (g h : GraphData) (id : ObjectId) (flags : Flags) (seen taken : Bool)
     → has_all SEEN flags.0 ≡ seen → has_all POPPED flags.0 ≡ taken → Claims COMMON g h id flags
     → (has_all SEEN flags.0 ≡ true → has_all POPPED flags.0 ≡ false → v ≡ u - 1) → (has_all SEEN flags.0 ≡ false → v ≡ u)
@@ -439,19 +437,19 @@ pub settled : (u v : ℕ) (ws : List Waiting) (g h : GraphData) (id : ObjectId) 
 settled u v ws g h id flags k w s p only waits unseen taken = fits_common 0 u v ws g h id w s p only k.before k.after
     (settled_at u v g h id flags (has_all SEEN flags.0) (has_all POPPED flags.0) refl refl k waits unseen taken)
 
--- one that comes to wait is counted, unless it is common
+-- a newly queued commit is counted, unless it is common
 pub admitted : (u v : ℕ) (m : Commits) (id : ObjectId) (common : Bool) → has_mark COMMON m id ≡ common
     → (common ≡ true → v ≡ u) → (common ≡ false → v ≡ u + 1) → v ≡ u + open_one m id
 admitted u v m id true is none one = let e : ◌≡◌ {A = ℕ} (open_one m id) 0 = ap (λ c. cond {A = ℕ} c 0 1) is in omega (arith, none refl)
 admitted u v m id false is none one = let e : ◌≡◌ {A = ℕ} (open_one m id) 1 = ap (λ c. cond {A = ℕ} c 0 1) is in omega (arith, one refl)
 
--- one that is taken isn't counted any more, unless it is common
+-- a commit that is taken isn't counted any more, unless it is common
 pub released : (u v : ℕ) (m : Commits) (id : ObjectId) (common : Bool) → has_mark COMMON m id ≡ common
     → (common ≡ true → v ≡ u) → (common ≡ false → v ≡ u - 1) → v ≡ u - open_one m id
 released u v m id true is none one = let e : ◌≡◌ {A = ℕ} (open_one m id) 0 = ap (λ c. cond {A = ℕ} c 0 1) is in omega (arith, none refl)
 released u v m id false is none one = let e : ◌≡◌ {A = ℕ} (open_one m id) 1 = ap (λ c. cond {A = ℕ} c 0 1) is in omega (arith, one refl)
 
--- the marks of a commit that got another one are those that it had
+-- the marks of a commit before a step that added one
 pub was_mark : (mark b : ℕ) (g h : GraphData) (id : ObjectId) (flags : Flags) → Claims mark g h id flags → has_all b 0 ≡ false
     → has_mark b g.held id ≡ has_all b flags.0
 was_mark mark b g h id flags k z = at (has_all b flags.0) refl
@@ -481,9 +479,9 @@ newest_at g l ws xs ys first w timed p n order time is =
     (All-weaker (λ (x : Waiting). x.time ≤ℤ first.time) (λ (x : Waiting). has_mark SEEN g.held x.id ≡ true → x.time ≤ℤ time)
     (λ x le s. subst (λ (z : ℤ). x.time ≤ℤ z) same le) xs n.newest))
 
--- ---- steps of one that counts all that wait
+-- ---- steps of a negotiator that counts all queued commits
 
--- one comes to wait, and is counted
+-- a commit is queued and counted
 pub fits_admitted : (u v : ℕ) (ws xs : List Waiting) (g h : GraphData) (new : Waiting) → IsPermutation (new ∷ ws) xs → (id : ObjectId)
     → new.id ≡ id → Grows g h → SeesOnly id g h → PopsNone g h → SettlesNone g h → has_mark SEEN g.held id ≡ false
     → has_mark SEEN h.held id ≡ true → v ≡ u + 1 → (lost : ℕ) → FitsSeen lost u ws g → FitsSeen lost v xs h
@@ -522,7 +520,7 @@ pub seen_popped : (lost u : ℕ) (ws xs : List Waiting) (g : GraphData) (first :
     → FitsSeen lost u ws g → FitsSeen lost u (first ∷ xs) g
 seen_popped lost u ws xs g first p f = record { fits = fits_popped lost u ws xs g first p f.fits; seen = f.seen }
 
--- nothing is lost
+-- no further common commit is counted
 pub counts_all : (R : Type 0) (u v : ℕ) (ws xs : List Waiting) (g h : GraphData)
     → ((lost : ℕ) → FitsSeen lost u ws g → FitsSeen lost v xs h) → KeepsCount R u ws g v xs h
 counts_all R u v ws xs g h k lost f = (0, ((λ r. refl), subst (λ n. FitsSeen n v xs h) (plus_none lost) (k lost f)))
@@ -546,9 +544,9 @@ counts_on R P Q u v r ws xs ys g h k p q a b lost f =
     three : (a b c : ℕ) → a + b + c ≡ a + (b + c)
     three a b c = omega arith
 
--- ---- what comes to wait
+-- ---- newly queued commits
 
--- it is dated from before earlier steps
+-- their times are right from before earlier steps
 none_before : (a b : Bool) → (a ≡ true → b ≡ true) → b ≡ false → a ≡ false
 none_before true b k e = absurd (true≢false (sym (k refl) ∙ e))
 none_before false b k e = refl
@@ -567,7 +565,7 @@ dated_since g h w v d = ⊎_elim
     ))
     d
 
--- none comes
+-- no commit is queued
 pub queues_same : (ws xs : List Waiting) (g : GraphData) → xs ≡ ws → QueuesNew ws g xs
 queues_same ws xs g e = subst (QueuesNew ws g) (sym e) (record {
   order = λ f time v all. all;
@@ -582,7 +580,7 @@ queues_on ws ys xs g h v a b = record {
       (λ d. inr (dated_since g h w v d)) e) xs b.dated;
 }
 
--- one comes that wasn't seen
+-- a commit is queued that wasn't seen
 pub queues_pushed : (ws xs : List Waiting) (g : GraphData) (new : Waiting) → has_mark SEEN g.held new.id ≡ false
     → IsPermutation (new ∷ ws) xs → IsDated g new → QueuesNew ws g xs
 queues_pushed ws xs g new unseen p d = record {
@@ -592,7 +590,7 @@ queues_pushed ws xs g new unseen p d = record {
       (All-weaker (Contains ws) (λ (w : Waiting). Contains ws w ⊎ IsDated g w) (λ w c. inl c) ws (All-contains_itself ws)));
 }
 
--- its time is 0 where it isn't held
+-- the time of a commit that isn't held is 0
 dated_at : (g : GraphData) (w : Waiting) (o : Option HeldCommit) (time : ℤ) → finite.get g.held w.id ≡ o
     → time_at g.objects w.id ≡ Some time → (is_some o ≡ true → w.time ≡ time) → (is_some o ≡ false → w.time ≡ pos 0) → IsDated g w
 dated_at g w None time e t read unread = inr (unread refl, e)
@@ -602,12 +600,12 @@ pub dated_new : (g : GraphData) (w : Waiting) (time : ℤ) → time_at g.objects
     → w.time ≡ time) → (is_some (finite.get g.held w.id) ≡ false → w.time ≡ pos 0) → IsDated g w
 dated_new g w time = dated_at g w (finite.get g.held w.id) time refl
 
--- what is shown is held
+-- a commit is shown exactly where it is held
 pub shown_some : (o : Option HeldCommit) → is_some (option_map shown o) ≡ is_some o
 shown_some None = refl
 shown_some (Some h) = refl
 
--- the first is taken
+-- the first commit is taken
 pub queues_taken : (ws xs : List Waiting) (g : GraphData) (first : Waiting) → IsPermutation ws (first ∷ xs) → QueuesNew ws g xs
 queues_taken ws xs g first p = record {
   order = λ f time v all. All-tail (λ (w : Waiting). has_mark SEEN f.held w.id ≡ true → w.time ≤ℤ time) first xs
@@ -617,7 +615,7 @@ queues_taken ws xs g first p = record {
       (All-weaker (Contains ws) (λ (w : Waiting). Contains ws w ⊎ IsDated g w) (λ w c. inl c) ws (All-contains_itself ws)));
 }
 
--- and is the newest
+-- the first commit is the newest
 pub newest_in : (us ws xs ys : List Waiting) (g l : GraphData) (first : Waiting) → Grows g l → QueuesNew us g ws
     → IsPermutation ws (first ∷ xs) → IsNewest xs first → QueuesNew xs l ys → IsNewestIn us g first.id ys
 newest_in us ws xs ys g l first v q p n step = (

@@ -1,4 +1,4 @@
--- What becomes common is an ancestor.
+-- Only ancestors become common.
 use Rattle.std.proofs.Common.{◌≡◌, ◌∙◌, ◌<◌, ℕ, ◌⊎◌, inl, inr, ⊎_elim, Bool, true, false, List, [], ◌∷◌, ◌++◌, length, get_or, Option, Some, None, refl, sym, subst, arith, true≢false}
 use Rattle.std.specs.Prelude.{All, Contains, IsSome, option_map, unwrap_or}
 use Rattle.std.specs.FinMap as finite
@@ -19,7 +19,7 @@ no_element q c = absurd (omega (arith, c.1))
 only_element : (one q : ObjectId) → Contains (one ∷ []) q → one ≡ q
 only_element one q c = ⊎_elim (λ none. absurd (no_element q none)) (λ same. same) (Contains-push_cases [] one q c)
 
--- ---- ancestors stay so
+-- ---- ancestors stay ancestors
 
 parent_held : (o : Option HeldCommit) (p : ObjectId) → Contains (unwrap_or (option_map (λ (h : HeldCommit). h.parents) o) []) p → IsSome o
 parent_held None p c = absurd (no_element p c)
@@ -44,7 +44,7 @@ within_step ids i d g h k lt a only q m = ⊎_elim (λ was. a q was)
     (λ e. inr (subst (Contains ids) (sym (same_from q (get_or ids i d) e)) (Contains-get_or ids i d lt)))
     (or_cases (has_mark COMMON h.held q) (eq_by_cmp id_cmp q (get_or ids i d)) (only q m))
 
--- ---- which are due
+-- ---- which commits are due
 
 pub owes_same : (ids due : List ObjectId) → OwesAmong ids due due
 owes_same ids due = All-weaker (Contains due) (λ q. Contains due q ⊎ Contains ids q) (λ q c. inl c) due (All-contains_itself due)
@@ -60,7 +60,7 @@ owes_step ids i d before due more lt a b =
     (λ q e. ⊎_elim (λ c. All-contains (λ q. Contains before q ⊎ Contains ids q) due q a c)
     (λ c. inr (subst (Contains ids) (only_element (get_or ids i d) q c) (Contains-get_or ids i d lt))) e) more b
 
--- ---- from a commit
+-- ---- spreading from a commit
 
 pub rises_none : (id : ObjectId) (g h : GraphData) → SettlesNone g h → SettlesFrom id g h
 rises_none id g h none q n = absurd (true≢false (sym (none q n.1) ∙ n.0))
@@ -77,7 +77,7 @@ rises_settled id g h k only f q n = at (has_mark COMMON h.held q) refl
         (or_cases (has_mark COMMON g.held q) (eq_by_cmp id_cmp q id) (only q e))
     at false e = f q (e, n.1)
 
--- its parents, and those that are due then
+-- a step to its parents, which may become due
 pub rises_first : (id : ObjectId) (g h : GraphData) → SettlesWithin (parents_in h.held id) g h → SettlesFrom id g h
 rises_first id g h within q n = ⊎_elim (λ was. absurd (true≢false (sym was ∙ n.0))) (λ c. IsFrom.parent IsFrom.itself c) (within q n.1)
 
@@ -86,7 +86,7 @@ pub due_first : (id : ObjectId) (h : GraphData) (before due : List ObjectId) →
 due_first id h before due is owes = All-weaker (λ q. Contains before q ⊎ Contains (parents_in h.held id) q) (IsFrom h id)
     (λ q e. ⊎_elim (λ c. absurd (no_element q (subst (λ xs. Contains xs q) is c))) (λ c. IsFrom.parent IsFrom.itself c) e) due owes
 
--- and the parents of one that was due
+-- a step to the parents of a commit that was due
 pub rises_next : (id next : ObjectId) (g h k : GraphData) → Grows h k → IsFrom h id next → SettlesFrom id g h
     → SettlesWithin (parents_in k.held next) h k → SettlesFrom id g k
 rises_next id next g h k w i f within q n = ⊎_elim (λ was. rises_grown h k id q w (f q (n.0, was)))

@@ -18,7 +18,7 @@ use Rattle.gixp_graph.specs.GraphLaws.{same_from}
 use Rattle.gixp_hash.specs.IdLaws.{ids_total}
 use Rattle.gixp_negotiators.specs.Marks.{has_all, has_mark, Grows, AddsNone, AddsOnly}
 
--- bits that are there stay
+-- bits that are set stay set
 at_bits : (x y z : ℕ) → min x z ≡ z → min (max x y) z ≡ z
 at_bits x y z e = grind arith
 
@@ -27,19 +27,17 @@ keeps_bits a m b e = same_from_bits (bit_and (bit_or a m) b) b (λ i.
     let old : min (bit_at a i) (bit_at b i) ≡ bit_at b i = sym (bit_at_and a b i) ∙ ap (λ n. bit_at n i) e in
     bit_at_and (bit_or a m) b i ∙ ap (λ n. min n (bit_at b i)) (bit_at_or a m i) ∙ at_bits (bit_at a i) (bit_at m i) (bit_at b i) old)
 
--- an id is itself
 pub same_id : (id : ObjectId) → eq_by_cmp id_cmp id id ≡ true
 same_id id = ap is_eq (tied_itself ids_total id)
 
--- what was put under an id is there
+-- an inserted commit is found
 pub get_insert_same : (m : Commits) (id : ObjectId) (h : HeldCommit) → finite.get (finite.insert m id h) id ≡ Some h
 get_insert_same m id h = get-insert ids_total m id h id ∙ ap (λ b. cond b (Some h) (finite.get m id)) (same_id id)
 
--- no change
 pub grows_none : (g : GraphData) → Grows g g
 grows_none g = record { objects = refl; held = λ id s. s; marks = λ b id e. e; complete = λ id. refl; parents = λ id s. refl }
 
--- one change after another
+-- two changes in a row
 pub grows_on : (g h k : GraphData) → Grows g h → Grows h k → Grows g k
 grows_on g h k v w = record {
   objects = w.objects ∙ v.objects;
@@ -49,7 +47,6 @@ grows_on g h k v w = record {
   parents = λ id s. w.parents id (v.held id s) ∙ v.parents id s;
 }
 
--- a commit is written
 module _ (g : GraphData) (id : ObjectId) (k : HeldCommit) (keeps : (b : ℕ) → has_mark b g.held id ≡ true → has_all b k.flags.0 ≡ true)
     (same : is_complete k ≡ is_marked g.held id) (same_parents : IsSome (finite.get g.held id) → k.parents ≡ parents_in g.held id) where
   held_at : (b : Bool) (o : Option HeldCommit) → is_some o ≡ true → is_some (cond b (Some k) o) ≡ true
@@ -84,14 +81,13 @@ module _ (g : GraphData) (id : ObjectId) (k : HeldCommit) (keeps : (b : ℕ) →
         (get-insert ids_total g.held id k q) ∙ parents_at q (eq_by_cmp id_cmp q id) refl s;
   }
 
--- what equals itself passes
 eq_itself : (a b : ℕ) → a ≡ b → (a == b) ≡ true
 eq_itself a b e = grind (arith, e)
 
 pub from_eq : (a b : ℕ) → (a == b) ≡ true → a ≡ b
 from_eq a b e = grind (arith, e)
 
--- marks are added to a commit, where it is held
+-- marks are added to a held commit
 flagged_at : (g : GraphData) (id : ObjectId) (flags : Flags) → bit_and flags.0 1 ≡ 0 → (o : Option HeldCommit)
     → finite.get g.held id ≡ o → Grows g (graph_of g.objects (put g.held id (option_map (with_flags flags) o)))
 flagged_at g id flags apart None e = grows_none g
@@ -107,7 +103,7 @@ pub grows_flagged : (g : GraphData) (id : ObjectId) (flags : Flags) → bit_and 
     → Grows g (graph_of g.objects (flagged g.held id flags))
 grows_flagged g id flags apart = flagged_at g id flags apart (finite.get g.held id) refl
 
--- and has them then
+-- the commit then has the marks
 has_at : (m : Commits) (id : ObjectId) (flags : Flags) (o : Option HeldCommit) → finite.get m id ≡ o → IsSome o
     → has_mark flags.0 (put m id (option_map (with_flags flags) o)) id ≡ true
 has_at m id flags None e s = cc
@@ -127,7 +123,6 @@ or_right : (a b : Bool) → b ≡ true → (a || b) ≡ true
 or_right true b e = refl
 or_right false b e = e
 
--- a commit is written
 module _ (b : ℕ) (g : GraphData) (id : ObjectId) (k : HeldCommit) where
   only_at : (q : ObjectId) (c : Bool) → eq_by_cmp id_cmp q id ≡ c → option_map_or (λ (h : HeldCommit). has_all b h.flags.0)
       (cond c (Some k) (finite.get g.held q)) false ≡ true → (has_mark b g.held q || eq_by_cmp id_cmp q id) ≡ true
@@ -152,7 +147,6 @@ module _ (b : ℕ) (g : GraphData) (id : ObjectId) (k : HeldCommit) where
       → AddsNone b g (graph_of g.objects (finite.insert g.held id k))
   none_insert had q m = none_at had q (eq_by_cmp id_cmp q id) refl (sym (is_written q) ∙ m)
 
--- marks are added
 only_flagged_at : (b : ℕ) (g : GraphData) (id : ObjectId) (flags : Flags) (o : Option HeldCommit)
     → AddsOnly b id g (graph_of g.objects (put g.held id (option_map (with_flags flags) o)))
 only_flagged_at b g id flags None = λ q m. or_left (has_mark b g.held q) (eq_by_cmp id_cmp q id) m
@@ -172,7 +166,7 @@ pub none_flagged : (b : ℕ) (g : GraphData) (id : ObjectId) (flags : Flags) →
     → AddsNone b g (graph_of g.objects (flagged g.held id flags))
 none_flagged b g id flags apart = none_flagged_at b g id flags apart (finite.get g.held id) refl
 
--- ---- some of some marks
+-- ---- parts of a set of marks
 
 part_bit : (x y z : ℕ) → min x y ≡ y → min y z ≡ z → min x z ≡ z
 part_bit x y z a b = grind arith
@@ -188,11 +182,11 @@ part_at : (m b : ℕ) (o : Option HeldCommit) → bit_and m b ≡ b → option_m
 part_at m b None v e = e
 part_at m b (Some k) v e = eq_itself _ _ (part_bits k.flags.0 m b (from_eq _ _ e) v)
 
--- a commit that has some marks has each part of them
+-- a commit with a set of marks has each part of it
 pub has_part : (m b : ℕ) (held : Commits) (id : ObjectId) → bit_and m b ≡ b → has_mark m held id ≡ true → has_mark b held id ≡ true
 has_part m b held id v e = part_at m b (finite.get held id) v e
 
--- ---- which commits get a mark, one step after another
+-- ---- which commits get a mark in two steps
 
 pub none_on : (b : ℕ) (g h k : GraphData) → AddsNone b g h → AddsNone b h k → AddsNone b g k
 none_on b g h k a c q m = a q (c q m)

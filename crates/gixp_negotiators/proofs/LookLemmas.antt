@@ -1,4 +1,4 @@
--- What a look leaves.
+-- A look-up.
 use Rattle.std.proofs.Common.{◌≡◌, ℕ, ℤ, ◌∙◌, true, false, Option, Some, None, refl, sym, ap, subst, true≢false}
 use Rattle.std.specs.Prelude.{option_map, IsSome, is_some, IfSome, IfNone}
 use Rattle.std.specs.Option.{option_map_or, option_or}
@@ -11,7 +11,6 @@ use Rattle.gixp_graph.specs.GraphLaws.{put_same}
 use Rattle.gixp_negotiators.specs.Marks.{SEEN, has_all, has_mark, Grows, IsFoundWith, AddsNone}
 use Rattle.gixp_negotiators.proofs.GrowLemmas.{grows_none, grows_insert, get_insert_same, none_insert}
 
--- by what is held and what is read
 looked_at : (g : GraphData) (id : ObjectId) (o : Option HeldCommit) (p : Option Commit) → finite.get g.held id ≡ o
     → Grows g (graph_of g.objects (put g.held id (option_or o (option_map unmarked p))))
 looked_at g id (Some k) p e = subst (λ m. Grows g (graph_of g.objects m)) (sym (put_same g.held id k e)) (grows_none g)
@@ -21,11 +20,11 @@ looked_at g id None (Some c) e = grows_insert g id (unmarked c)
     (sym (ap (λ (o : Option HeldCommit). option_map_or is_complete o false) e))
     (λ s. absurd (true≢false (sym s ∙ ap is_some e)))
 
--- a look only adds
+-- a look-up only adds
 pub grows_looked : (g h : GraphData) (id : ObjectId) → h ≡ graph_of g.objects (looked_up g id) → Grows g h
 grows_looked g h id is = subst (Grows g) (sym is) (looked_at g id (finite.get g.held id) (commit_at g.objects id) refl)
 
--- nor does it change a graph that holds the commit
+-- a look-up doesn't change a graph that holds the commit
 held_at : (g : GraphData) (id : ObjectId) (o : Option HeldCommit) (p : Option Commit) → finite.get g.held id ≡ o → IsSome o
     → graph_of g.objects (put g.held id (option_or o (option_map unmarked p))) ≡ g
 held_at g id None p e s = absurd (true≢false (sym s))
@@ -34,7 +33,7 @@ held_at g id (Some k) p e s = ap (graph_of g.objects) (put_same g.held id k e)
 pub held_looked : (g h : GraphData) (id : ObjectId) → h ≡ graph_of g.objects (looked_up g id) → IsSome (finite.get g.held id) → h ≡ g
 held_looked g h id is s = is ∙ held_at g id (finite.get g.held id) (commit_at g.objects id) refl s
 
--- a look adds no mark
+-- a look-up adds no mark
 adds_at : (b : ℕ) → has_all b 0 ≡ false → (g : GraphData) (id : ObjectId) (o : Option HeldCommit) (p : Option Commit)
     → finite.get g.held id ≡ o → AddsNone b g (graph_of g.objects (put g.held id (option_or o (option_map unmarked p))))
 adds_at b z g id (Some k) p e = subst (λ m. AddsNone b g (graph_of g.objects m)) (sym (put_same g.held id k e)) (λ q m. m)
@@ -45,7 +44,7 @@ pub none_looked : (b : ℕ) → has_all b 0 ≡ false → (g h : GraphData) (id 
     → AddsNone b g h
 none_looked b z g h id is = subst (AddsNone b g) (sym is) (adds_at b z g id (finite.get g.held id) (commit_at g.objects id) refl)
 
--- what isn't found isn't held
+-- a commit that isn't found isn't held
 absent_at : (g : GraphData) (id : ObjectId) (o : Option HeldCommit) (p : Option Commit) → finite.get g.held id ≡ o
     → ◌≡◌ {A = Option (ℤ × Flags)} None (option_map shown (option_or o (option_map unmarked p)))
     → has_mark SEEN (put g.held id (option_or o (option_map unmarked p))) id ≡ false
@@ -59,18 +58,18 @@ absent_looked g h id None e is = subst (λ (k : GraphData). has_mark SEEN k.held
     (absent_at g id (finite.get g.held id) (commit_at g.objects id) refl e)
 absent_looked g h id (Some x) e is = tt
 
--- its time is shown
+-- the time of the commit is shown
 pub timed_looked : (g : GraphData) (id : ObjectId) (found : Option (ℤ × Flags)) → shown_time found ≡ time_at g.objects id
     → IfSome found (λ x. time_at g.objects id ≡ Some x.0)
 timed_looked g id None t = tt
 timed_looked g id (Some x) t = sym t
 
--- what is shown is there
+-- a commit with a time is in the objects
 some_time : (t : ℤ) (o : Option Commit) → ◌≡◌ {A = Option ℤ} (Some t) (option_map (λ (c : Commit). c.time) o) → IsSome o
 some_time t None e = cc
 some_time t (Some c) e = refl
 
--- and held
+-- a commit that is shown is held
 shown_at : (g : GraphData) (id : ObjectId) (x : ℤ × Flags) (o : Option HeldCommit) → ◌≡◌ {A = Option (ℤ × Flags)} (Some x)
     (option_map shown o) → IsSome (commit_at g.objects id) → IsFoundWith (graph_of g.objects (put g.held id o)) id x.1
 shown_at g id x None e s = cc
@@ -84,14 +83,14 @@ shown_at g id x (Some k) e s =
           (get_insert_same g.held id k) ∙ ap (λ (f : Flags). has_all b f.0) (sym same);
     }
 
--- a look that finds
+-- a look-up that finds the commit
 pub found_looked : (g h : GraphData) (id : ObjectId) (found : Option (ℤ × Flags)) → found ≡ option_map shown (found_in g id)
     → shown_time found ≡ time_at g.objects id → h ≡ graph_of g.objects (looked_up g id) → IfSome found (λ x. IsFoundWith h id x.1)
 found_looked g h id None e t is = tt
 found_looked g h id (Some x) e t is =
     subst (λ k. IsFoundWith k id x.1) (sym is) (shown_at g id x (found_in g id) e (some_time x.0 (commit_at g.objects id) t))
 
--- and one that doesn't
+-- a look-up that doesn't find it
 none_time : (o : Option Commit) → ◌≡◌ {A = Option ℤ} None (option_map (λ (c : Commit). c.time) o) → o ≡ None
 none_time None e = refl
 none_time (Some c) e = cc
@@ -101,7 +100,7 @@ pub missing_looked : (g : GraphData) (id : ObjectId) (found : Option (ℤ × Fla
 missing_looked g id None t = none_time (commit_at g.objects id) t
 missing_looked g id (Some x) t = tt
 
--- what has marks is there
+-- a commit with marks is in the objects
 there_at : (g : GraphData) (id : ObjectId) (marks : ℕ) (o : Option HeldCommit) → finite.get g.held id ≡ o → IsFaithful g
     → option_map_or (λ (h : HeldCommit). has_all marks h.flags.0) o false ≡ true → IsSome (commit_at g.objects id)
 there_at g id marks None e f m = absurd (true≢false (sym m))
@@ -111,6 +110,5 @@ pub marked_there : (g : GraphData) (id : ObjectId) (marks : ℕ) → IsFaithful 
     → IsSome (commit_at g.objects id)
 marked_there g id marks f m = there_at g id marks (finite.get g.held id) refl f m
 
--- none and some
 pub none_some : (g : GraphData) (id : ObjectId) → commit_at g.objects id ≡ None → IsSome (commit_at g.objects id) → ⊥
 none_some g id e s = true≢false (sym s ∙ ap is_some e)

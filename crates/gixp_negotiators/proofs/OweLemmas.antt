@@ -12,7 +12,7 @@ use Rattle.gixp_negotiators.specs.Marks.{COMMON, SEEN, POPPED, has_mark, Grows, 
 use Rattle.gixp_negotiators.specs.Waiting.{queued_one, open_in, owed_by, FitsSeen, FitsOwing}
 use Rattle.gixp_negotiators.proofs.FitLemmas.{same_none, same_queued, queued, spent, open_kept, open_settled}
 
--- one of these
+-- 1 for a commit that wasn't taken, else 0
 abbrev owed_one : Commits → ObjectId → ℕ
 owed_one m id = cond {A = ℕ} (has_mark POPPED m id) 0 1
 
@@ -35,7 +35,7 @@ owed_kept g h same (x ∷ xs) =
     let one : ◌≡◌ {A = ℕ} (owed_one h.held x) (owed_one g.held x) = ap (λ c. cond {A = ℕ} c 0 1) (same x) in
     omega (arith, owed_cons h.held x xs, owed_cons g.held x xs, owed_kept g h same xs)
 
--- at first, and at the end
+-- with no due commit it is the plain invariant
 pub owing_none : (lost u : ℕ) (ws : List Waiting) (g : GraphData) (due : List ObjectId) → due ≡ [] → FitsSeen lost u ws g
     → FitsOwing lost u ws g due
 owing_none lost u ws g due e f = record {
@@ -58,7 +58,7 @@ owing_end R lost u ws g due none f = (
   ),
 )
 
--- marks are added, but for those that count
+-- marks are added that don't count
 pub owing_grown : (lost u : ℕ) (ws : List Waiting) (g h : GraphData) (due : List ObjectId) → Grows g h → SeesNone g h → SettlesNone g h
     → PopsNone g h → FitsOwing lost u ws g due → FitsOwing lost u ws h due
 owing_grown lost u ws g h due w s c p f = record {
@@ -68,7 +68,7 @@ owing_grown lost u ws g h due w s c p f = record {
   counted = omega (arith, f.counted, open_kept g h (same_none COMMON g h w c) ws, owed_kept g h (same_none POPPED g h w p) due);
 }
 
--- one that was seen becomes common, and its parents are to be so
+-- a commit that was seen becomes common and due
 pub owing_reached : (lost u : ℕ) (ws : List Waiting) (g h : GraphData) (due more : List ObjectId) (id : ObjectId) → Grows g h
     → SeesNone g h → PopsNone g h → SettlesOnly id g h → has_mark SEEN g.held id ≡ true → has_mark COMMON g.held id ≡ false
     → has_mark COMMON h.held id ≡ true → more ≡ due ++ id ∷ [] → FitsOwing lost u ws g due → FitsOwing lost u ws h more
@@ -99,7 +99,7 @@ owing_reached lost u ws g h due more id w s p only seen before after is f = reco
         let one : ◌≡◌ {A = ℕ} (owed_one h.held id) 1 = ap (λ c. cond {A = ℕ} c 0 1) (same_none POPPED g h w p id ∙ e) in
         omega (arith, queued g.held id seen e)
 
--- one that is no longer owed isn't counted any more, unless it was taken
+-- a commit that is no longer due isn't counted any more, unless it was taken
 pub owing_paid : (lost u v : ℕ) (ws : List Waiting) (g : GraphData) (due rest : List ObjectId) (id : ObjectId) → due ≡ rest ++ id ∷ []
     → (has_mark POPPED g.held id ≡ true → v ≡ u) → (has_mark POPPED g.held id ≡ false → v ≡ u - 1) → FitsOwing lost u ws g due
     → FitsOwing lost v ws g rest

@@ -1,4 +1,4 @@
--- Distances that are handed on.
+-- Distances that are passed on.
 use Rattle.std.proofs.Common.{◌≡◌, ℕ, ◌<◌, ◌≤◌, ◌+◌, ◌-◌, ◌||◌, Bool, true, false, cond, List, [], ◌∷◌, ◌++◌, length, take, get_or, Option, Some, refl, sym, ap, subst, ◌∙◌, ◌⊎◌, inl, inr, true≢false, arith}
 use Rattle.std.specs.Prelude.{nat_lt, unwrap_or, IsSome, ◌≢◌}
 use Rattle.std.specs.Map.{lookup}
@@ -21,28 +21,26 @@ use Rattle.gixp_negotiators.specs.Distance.{distance_after, skip_of}
 use Rattle.gixp_negotiators.specs.Marks.{COMMON, COMMON_REF, POPPED, has_all, has_mark, AddsNone, SettlesNone, Grows, Claims}
 use Rattle.gixp_negotiators.specs.Passing.{Skipped, skip_in, longer, handed_on, is_among, HandsOne, Hands, AllTaken, Takes}
 
--- a test that fails where another does
 not_true : (a b : Bool) → (a ≡ true → b ≡ true) → b ≡ false → a ≡ false
 not_true true b h f = absurd (true≢false (sym (h refl) ∙ f))
 not_true false b h f = refl
 
--- a commit that lacked a mark still does, where none got it
+-- a commit that lacked a mark still does, where no commit got it
 pub still_lacks : (mark : ℕ) (g h : GraphData) (id : ObjectId) → AddsNone mark g h → has_mark mark g.held id ≡ false
     → has_mark mark h.held id ≡ false
 still_lacks mark g h id adds lacks = not_true (has_mark mark h.held id) (has_mark mark g.held id) (adds id) lacks
 
--- two ids are compared alike from both sides
 pub same_sides : (q id : ObjectId) (b : Bool) → eq_by_cmp id_cmp q id ≡ b → is_at (id_cmp id) q ≡ b
 same_sides q id true e = subst (λ k. eq_by_cmp id_cmp id k ≡ true) (sym (same_from q id e)) (same_id id)
 same_sides q id false e = not_true (eq_by_cmp id_cmp id q) (eq_by_cmp id_cmp q id)
     (λ t. subst (λ k. eq_by_cmp id_cmp q k ≡ true) (sym (same_from id q t)) (same_id q)) e
 
--- a longer distance is kept
+-- a distance stays where it is the longer one
 pub raise_kept : (skips : Skipped) (id : ObjectId) (s : Skip) → nat_lt (skip_in skips id).whole s.whole ≡ false
     → HandsOne (Skips s) id skips skips
 raise_kept skips id s e = (sym (ap (λ b. cond b s (skip_in skips id)) e), λ q n. refl)
 
--- and a shorter one isn't
+-- a shorter distance is replaced
 pub raise_put : (old new : Skipped) (id : ObjectId) (s : Skip) → nat_lt (skip_in old id).whole s.whole ≡ true → ((q : ObjectId) → lookup
     (is_at (id_cmp q)) new ≡ cond (is_at (id_cmp id) q) (Some s) (lookup (is_at (id_cmp q)) old)) → HandsOne (Skips s) id old new
 raise_put old new id s e h = (
@@ -69,7 +67,7 @@ common_hands : (ids : List ObjectId) (h : GraphData) (old new : Skipped) → new
 common_hands ids h old new e =
     record { handed = λ s q is. absurd (let clash : Common ≡ Skips s = is in cc); others = λ q n. ap (λ skips. skip_in skips q) e }
 
--- a commit that wasn't taken
+-- one commit more that wasn't taken
 pub hands_one : (legacy : Legacy) (p : ObjectId) (h : GraphData) (old new : Skipped) → HandsOne legacy p old new
     → Hands legacy (p ∷ []) h old new
 hands_one Common p h old new e = common_hands (p ∷ []) h old new e
@@ -79,7 +77,7 @@ hands_one (Skips t) p h old new e = record {
   others = λ q n. e.1 q (sym (one_among p q) ∙ n);
 }
 
--- and one that was
+-- one commit more that was taken
 pub hands_taken : (legacy : Legacy) (p : ObjectId) (h : GraphData) (old new : Skipped) → has_mark POPPED h.held p ≡ true → new ≡ old
     → Hands legacy (p ∷ []) h old new
 hands_taken legacy p h old new taken e = record {
@@ -88,7 +86,6 @@ hands_taken legacy p h old new taken e = record {
   others = λ q n. ap (λ skips. skip_in skips q) e;
 }
 
--- none
 pub hands_none : (legacy : Legacy) (h : GraphData) (old : Skipped) → Hands legacy [] h old old
 hands_none legacy h old = record { handed = λ s q is among. absurd (true≢false (sym among)); others = λ q n. refl }
 
@@ -101,7 +98,6 @@ among_append (x ∷ xs) p q = at (eq_by_cmp id_cmp q x) (among_append xs p q)
     at true h = refl
     at false h = h
 
--- the longer of two is no shorter than the second
 twice : (s t : Skip) → longer (longer s t) t ≡ longer s t
 twice s t = at (nat_lt s.whole t.whole) refl
   where
@@ -145,7 +141,7 @@ pub hands_all : (legacy : Legacy) (ids : List ObjectId) (k : ℕ) (h : GraphData
     → Hands legacy (take k ids) h old new → Hands legacy ids h old new
 hands_all legacy ids k h old new l a = subst (λ xs. Hands legacy xs h old new) (take_all k ids l) a
 
--- ---- a commit that is taken
+-- ---- a commit is taken
 
 pub takes_none : (old : Skipped) (g h : GraphData) (id : ObjectId) → (IsSome (commit_at g.objects id) → has_mark POPPED g.held id ≡ true)
     → SettlesNone g h → Takes old g id false old h
@@ -157,7 +153,7 @@ takes_none old g h id spent none = record {
   settles = λ two four. none;
 }
 
--- what is handed on
+-- the distance that it passes on
 legacy_is : (legacy : Legacy) (s : Skip) → (0 < s.left → legacy ≡ Skips (skip_of s.whole (s.left - 1)))
     → (s.left ≡ 0 → legacy ≡ Skips (skip_of (distance_after s.whole) (distance_after s.whole))) → legacy ≡ Skips (handed_on s)
 legacy_is legacy s p r = at (nat_lt 0 s.left) refl
@@ -222,7 +218,6 @@ takes_some old new g i h id flags legacy parents s is_common offered k w ps ss h
     some : (n : ℕ) → (n ≡ 0 → ⊥) → 0 < n
     some n f = omega (arith, f)
 
--- a commit that was first
 pub taken_popped : (old before new : Skipped) (g h : GraphData) (id : ObjectId) (offered : Bool) {is : Bool} → before ≡ old
     → offered ≡ is → Takes before g id offered new h → Takes old g id is new h
 taken_popped old before new g h id offered {is} e f t = subst (λ b. Takes old g id b new h) f (subst (λ s. Takes s g id offered new h) e t)
@@ -237,7 +232,7 @@ pub neither_right : (a b : Bool) → (a || b) ≡ false → b ≡ false
 neither_right true b e = absurd (true≢false e)
 neither_right false b e = e
 
--- one more that was taken
+-- one more commit that was taken
 pub taken_more : (ids : List ObjectId) (k : ℕ) (d : ObjectId) (i h : GraphData) → k < length ids → Grows i h → AllTaken i (take k ids)
     → has_mark POPPED h.held (get_or ids k d) ≡ true → AllTaken h (take (k + 1) ids)
 taken_more ids k d i h l w all one = All-more (λ p. has_mark POPPED h.held p ≡ true) ids k d l
@@ -247,7 +242,7 @@ taken_more ids k d i h l w all one = All-more (λ p. has_mark POPPED h.held p �
 pub taken_all : (ids : List ObjectId) (k : ℕ) (h : GraphData) → length ids ≤ k → AllTaken h (take k ids) → AllTaken h ids
 taken_all ids k h l a = subst (AllTaken h) (take_all k ids l) a
 
--- a line that goes on: one of some commits wasn't taken
+-- one of some commits wasn't taken, so the line goes on
 pub left_more : (ids : List ObjectId) (k : ℕ) (d : ObjectId) (i h : GraphData) (any waits : Bool) → k < length ids → AddsNone POPPED i h
     → (any ≡ true → AllTaken i (take k ids) → ⊥) → (waits ≡ true → has_mark POPPED h.held (get_or ids k d) ≡ false) → (any || waits) ≡ true
     → AllTaken h (take (k + 1) ids) → ⊥

@@ -1,4 +1,4 @@
--- Which commits come to be seen.
+-- Which commits are newly seen.
 use Rattle.std.proofs.Common.{◌≡◌, ◌∙◌, inl, inr, ⊎_elim, ℕ, ◌<◌, Bool, true, false, List, [], ◌∷◌, ◌++◌, length, get_or, refl, sym, subst, true≢false}
 use Rattle.std.specs.Prelude.{◌||◌, All, Contains, not}
 use Rattle.std.specs.Ordering.{eq_by_cmp}
@@ -23,7 +23,7 @@ sees_on g h k w a b id seen = ⊎_elim
     (λ c. or_right (has_mark SEEN g.held id) (has_mark COMMON k.held id) c)
     (or_cases (has_mark SEEN h.held id) (has_mark COMMON k.held id) (b id seen))
 
--- one that is common
+-- a newly seen commit is common
 pub sees_one : (g h : GraphData) (one : ObjectId) → SeesOnly one g h → (has_mark SEEN g.held one || has_mark COMMON h.held one) ≡ true
     → SeesCommon g h
 unfolding SeesCommon
@@ -32,20 +32,20 @@ sees_one g h one only c id seen = ⊎_elim
     (λ e. subst (λ i. (has_mark SEEN g.held i || has_mark COMMON h.held i) ≡ true) (sym (same_from id one e)) c)
     (or_cases (has_mark SEEN g.held id) (eq_by_cmp id_cmp id one) (only id seen))
 
--- one that was seen or common is so after a step
+-- a commit that was seen or common still is after a step
 pub near_on : (g h : GraphData) (one : ObjectId) → Grows g h → (has_mark SEEN g.held one || has_mark COMMON g.held one) ≡ true
     → (has_mark SEEN h.held one || has_mark COMMON h.held one) ≡ true
 near_on g h one w c = ⊎_elim (λ s. or_left (has_mark SEEN h.held one) (has_mark COMMON h.held one) (w.marks SEEN one s)) (λ s. or_right
     (has_mark SEEN h.held one) (has_mark COMMON h.held one) (w.marks COMMON one s)) (or_cases (has_mark SEEN g.held one)
     (has_mark COMMON g.held one) c)
 
--- and one that wasn't seen then is common
+-- a commit that wasn't seen after a step, but was seen or common before, is common
 pub near_unseen : (g h : GraphData) (one : ObjectId) → Grows g h → has_mark SEEN h.held one ≡ false
     → (has_mark SEEN g.held one || has_mark COMMON g.held one) ≡ true → has_mark COMMON h.held one ≡ true
 near_unseen g h one w unseen c = ⊎_elim (λ s. absurd (true≢false (sym (w.marks SEEN one s) ∙ unseen))) (λ s. w.marks COMMON one s)
     (or_cases (has_mark SEEN g.held one) (has_mark COMMON g.held one) c)
 
--- ---- among some
+-- ---- newly seen commits are among some
 
 pub among_none : (ids : List ObjectId) (g h : GraphData) → SeesCommon g h → SeesAmong ids g h
 unfolding SeesCommon SeesAmong
@@ -73,7 +73,7 @@ among_on ids g h k w a b id seen = ⊎_elim
 
 -- ---- an offer
 
--- a commit was taken, and what comes to be seen is common or one of its parents
+-- a commit was taken, and each newly seen commit is common or one of its parents
 pub opens_taken : (g h k : GraphData) (one : ObjectId) (parents : List ObjectId) (shared : Bool) → Grows h k → SeesNone g h
     → SettlesNone g h → has_mark COMMON_REF g.held one ≡ shared → parents ≡ parents_in k.held one → (shared ≡ true → SeesCommon h k)
     → (shared ≡ false → SettlesNone h k) → (shared ≡ false → SeesAmong parents h k) → OpensParents g one k
@@ -99,12 +99,12 @@ pub common_pushed : (g h : GraphData) (ids more : List ObjectId) (one : ObjectId
 common_pushed g h ids more one w e is all = subst (All (λ q. has_mark COMMON h.held q ≡ true)) (sym is)
     (All-push (λ q. has_mark COMMON h.held q ≡ true) ids one (common_grown g h ids w all) e)
 
--- a commit that isn't passed over is shared
+-- a commit that isn't offered is common or a ref of the server
 pub shared_common : (common two four : Bool) → common ≡ two → not common ≡ false → (two || four) ≡ true
 shared_common true two four e f = subst (λ b. (b || four) ≡ true) e refl
 shared_common false two four e f = absurd (true≢false f)
 
--- the last of them, and the others
+-- the last due commit and the others are common
 pub common_popped : (g : GraphData) (due rest : List ObjectId) (one : ObjectId) → due ≡ rest ++ one ∷ []
     → All (λ q. has_mark COMMON g.held q ≡ true) due → (has_mark COMMON g.held one ≡ true) × All (λ q. has_mark COMMON g.held q ≡ true) rest
 common_popped g due rest one is all = (

@@ -1,4 +1,4 @@
--- What is common spreads, step by step.
+-- The mark of a common commit spreads, step by step.
 use Rattle.std.proofs.Common.{◌≡◌, ◌∙◌, inl, inr, ⊎_elim, ℕ, ◌+◌, ◌<◌, Bool, true, false, length, take, get_or, List, [], ◌∷◌, ◌++◌, refl, sym, ap, subst, arith, true≢false}
 use Rattle.std.specs.Prelude.{All, Contains, IsSome, is_some}
 use Rattle.std.specs.FinMap as finite
@@ -16,29 +16,28 @@ use Rattle.gixp_negotiators.specs.MarkLaws.{held_marked}
 use Rattle.gixp_negotiators.specs.Spread.{is_there, was_seen, BecomesCommon, HasCommonParents, Spreads, SpreadsBut, KeepsSpread, StaysSpread, SpreadsFrom, SpreadsAllFrom, IsNewlyCommon}
 use Rattle.gixp_negotiators.proofs.GrowLemmas.{grows_none, grows_on}
 
--- none is due
 none_due : (id : ObjectId) → Contains [] id → ⊥
 none_due id c = absurd (omega (arith, c.1))
 
 module _ (kind : GraphData → ObjectId → Bool) (stays : (g h : GraphData) → Grows g h → (id : ObjectId) → kind g id ≡ true
     → kind h id ≡ true) where
-  -- parents that are common stay so
+  -- parents that are common stay common
   pub common_on : (f g h : GraphData) (id : ObjectId) → Grows g h → IsSome (finite.get g.held id) → HasCommonParents kind f g id
       → HasCommonParents kind f h id
   common_on f g h id w held all = subst (All (BecomesCommon kind f h)) (sym (w.parents id held))
       (All-weaker (BecomesCommon kind f g) (BecomesCommon kind f h) (λ p c k. w.marks COMMON p (c k)) (parents_in g.held id) all)
 
-  -- they are so from before earlier steps
+  -- parents that are common since one graph are common since an earlier one
   pub common_since : (f g h : GraphData) (id : ObjectId) → Grows f g → HasCommonParents kind g h id → HasCommonParents kind f h id
   common_since f g h id v all = All-weaker (BecomesCommon kind g h) (BecomesCommon kind f h) (λ p c k. c (stays f g v p k))
       (parents_in h.held id) all
 
-  -- parents that became common
+  -- the parents of a commit that became common
   pub parents_common : (g h : GraphData) (id : ObjectId) (xs : List ObjectId) → Grows g h → has_mark SEEN g.held id ≡ true
       → xs ≡ parents_in g.held id → All (BecomesCommon kind g h) xs → HasCommonParents kind g h id
   parents_common g h id xs w seen is all = subst (All (BecomesCommon kind g h)) (is ∙ sym (w.parents id (held_marked g id SEEN seen))) all
 
-  -- one more of some that became common
+  -- one more commit that became common
   pub common_more : (g h k : GraphData) (xs : List ObjectId) (i : ℕ) (d : ObjectId) → i < length xs → Grows g h → Grows h k → All
       (BecomesCommon kind g h) (take i xs) → BecomesCommon kind h k (get_or xs i d) → All (BecomesCommon kind g k) (take (i + 1) xs)
   common_more g h k xs i d lt v w all one = All-more (BecomesCommon kind g k) xs i d lt
@@ -50,18 +49,18 @@ module _ (kind : GraphData → ObjectId → Bool) (stays : (g h : GraphData) →
   pub spread_none : (due : List ObjectId) (g : GraphData) → SpreadsBut kind due g g
   spread_none due g id seen lacks common = absurd (true≢false (sym common ∙ lacks))
 
-  -- others are due
+  -- the list of due commits may grow
   pub spread_moved : (xs ys : List ObjectId) (g h : GraphData) → ((id : ObjectId) → Contains xs id → Contains ys id)
       → SpreadsBut kind xs g h → SpreadsBut kind ys g h
   spread_moved xs ys g h in' s id seen lacks common = ⊎_elim (λ c. inl (in' id c)) inr (s id seen lacks common)
 
-  -- nothing becomes common
+  -- no commit becomes common
   pub spread_grown : (due : List ObjectId) (f g h : GraphData) → Grows g h → SettlesNone g h → SpreadsBut kind due f g
       → SpreadsBut kind due f h
   spread_grown due f g h w none s id seen lacks common =
       ⊎_elim inl (λ p. inr (common_on f g h id w (held_marked g id COMMON (none id common)) p)) (s id seen lacks (none id common))
 
-  -- one becomes common, and is due
+  -- a commit becomes common and due
   pub spread_settled : (due : List ObjectId) (one : ObjectId) (f g h : GraphData) → Grows g h → SettlesOnly one g h
       → SpreadsBut kind due f g → SpreadsBut kind (due ++ one ∷ []) f h
   spread_settled due one f g h w only s id seen lacks common = ⊎_elim
@@ -70,7 +69,7 @@ module _ (kind : GraphData → ObjectId → Bool) (stays : (g h : GraphData) →
       (λ e. inl (subst (Contains (due ++ one ∷ [])) (sym (same_from id one e)) (Contains-push due one)))
       (or_cases (has_mark COMMON g.held id) (eq_by_cmp id_cmp id one) (only id common))
 
-  -- one comes to wait that wasn't seen
+  -- a commit is queued that wasn't seen
   pub spread_pushed : (due : List ObjectId) (one : ObjectId) (f g h : GraphData) → Grows f g → Grows g h → SettlesOnly one g h
       → has_mark SEEN g.held one ≡ false → SpreadsBut kind due f g → SpreadsBut kind due f h
   spread_pushed due one f g h v w only unseen s id seen lacks common = ⊎_elim
@@ -78,7 +77,7 @@ module _ (kind : GraphData → ObjectId → Bool) (stays : (g h : GraphData) →
       (λ e. absurd (true≢false (sym (v.marks SEEN one (subst (λ i. has_mark SEEN f.held i ≡ true) (same_from id one e) seen)) ∙ unseen)))
       (or_cases (has_mark COMMON g.held id) (eq_by_cmp id_cmp id one) (only id common))
 
-  -- one is no longer due, since its parents are common
+  -- a commit whose parents are common is no longer due
   pub spread_paid : (due : List ObjectId) (one : ObjectId) (f g h : GraphData) → Grows f g
       → (has_mark SEEN f.held one ≡ true → HasCommonParents kind g h one) → SpreadsBut kind (one ∷ due) f h → SpreadsBut kind due f h
   spread_paid due one f g h v paid s id seen lacks common = ⊎_elim
@@ -91,13 +90,13 @@ module _ (kind : GraphData → ObjectId → Bool) (stays : (g h : GraphData) →
       inr
       (s id seen lacks common)
 
-  -- or since it wasn't seen
+  -- a commit that wasn't seen is no longer due
   pub spread_unseen : (due : List ObjectId) (one : ObjectId) (f g h : GraphData) → Grows f g → has_mark SEEN g.held one ≡ false
       → SpreadsBut kind (one ∷ due) f h → SpreadsBut kind due f h
   spread_unseen due one f g h v unseen s = spread_paid due one f g h v (λ seen. absurd (true≢false (sym
       (v.marks SEEN one seen) ∙ unseen))) s
 
-  -- the last that is due comes first
+  -- the last due commit may come first
   pub spread_popped : (due rest : List ObjectId) (one : ObjectId) (f g : GraphData) → due ≡ rest ++ one ∷ [] → SpreadsBut kind due f g
       → SpreadsBut kind (one ∷ rest) f g
   spread_popped due rest one f g is s = spread_moved due (one ∷ rest) f g
@@ -105,7 +104,7 @@ module _ (kind : GraphData → ObjectId → Bool) (stays : (g h : GraphData) →
       (λ same. subst (Contains (one ∷ rest)) same (Contains-append_left (one ∷ []) rest one (Contains-push [] one)))
       (Contains-push_cases rest one id (subst (λ xs. Contains xs id) is c))) s
 
-  -- none is due
+  -- with no due commit the marks have spread
   pub spread_all : (due : List ObjectId) (g h : GraphData) → due ≡ [] → SpreadsBut kind due g h → Spreads kind g h
   spread_all due g h is s id seen lacks common = ⊎_elim (λ c. absurd (none_due id (subst (λ xs. Contains xs id) is c))) (λ p. p)
       (s id seen lacks common)
@@ -116,7 +115,7 @@ module _ (kind : GraphData → ObjectId → Bool) (stays : (g h : GraphData) →
   pub spread_but : (due : List ObjectId) (g h : GraphData) → Spreads kind g h → SpreadsBut kind due g h
   spread_but due g h s id seen lacks common = inr (s id seen lacks common)
 
-  -- ---- steps that may leave some due
+  -- ---- steps that may leave commits due
 
   pub kept_none : (due : List ObjectId) (g : GraphData) → KeepsSpread kind due g due g
   unfolding KeepsSpread
@@ -137,7 +136,7 @@ module _ (kind : GraphData → ObjectId → Bool) (stays : (g h : GraphData) →
   kept_settled due more one g h w only is f xs v s = subst (λ ys. SpreadsBut kind ys f h)
       (append_assoc xs due (one ∷ []) ∙ ap (λ ys. xs ++ ys) (sym is)) (spread_settled (xs ++ due) one f g h w only s)
 
-  -- ---- steps that leave none due
+  -- ---- steps that leave no commit due
 
   pub stays_none : (g : GraphData) → StaysSpread kind g g
   unfolding StaysSpread
@@ -156,29 +155,29 @@ module _ (kind : GraphData → ObjectId → Bool) (stays : (g h : GraphData) →
   unfolding StaysSpread
   stays_pushed one g h w only unseen f v s = spread_all [] f h refl (spread_pushed [] one f g h v w only unseen (spread_but [] f g s))
 
-  -- one becomes common, and it spreads from there
+  -- a commit becomes common, and the mark spreads from it
   pub stays_settled : (one : ObjectId) (g h k : GraphData) → Grows g h → SettlesOnly one g h → SpreadsAllFrom kind one h k
       → StaysSpread kind g k
   unfolding StaysSpread SpreadsAllFrom
   stays_settled one g h k w only all f v s = all f (grows_on f g h v w) (spread_settled [] one f g h w only (spread_but [] f g s))
 
-  -- it spreads from one that needn't be common
+  -- the mark spreads from a commit that need not be common
   pub stays_through : (one : ObjectId) (g h k : GraphData) → Grows g h → SettlesNone g h → SpreadsAllFrom kind one h k
       → StaysSpread kind g k
   unfolding StaysSpread SpreadsAllFrom
   stays_through one g h k w none all f v s = all f (grows_on f g h v w)
       (spread_but (one ∷ []) f h (spread_all [] f h refl (spread_grown [] f g h w none (spread_but [] f g s))))
 
-  -- ---- it spreads from one
+  -- ---- spreading from a commit
 
-  -- the commit isn't there, or wasn't seen
+  -- the commit isn't in the objects, or wasn't seen
   pub from_unseen : (one : ObjectId) (due : List ObjectId) (g h : GraphData) → Grows g h → SettlesNone g h
       → has_mark SEEN h.held one ≡ false → SpreadsFrom kind one due g due h
   unfolding SpreadsFrom
   from_unseen one due g h w none unseen f v s =
       spread_unseen due one f h h (grows_on f g h v w) unseen (spread_grown (one ∷ due) f g h w none s)
 
-  -- it comes to wait
+  -- the commit is queued
   pub from_pushed : (one : ObjectId) (due : List ObjectId) (g h k : GraphData) → Grows g h → SettlesNone g h → Grows h k
       → SettlesNone h k → has_mark SEEN h.held one ≡ false → SpreadsFrom kind one due g due k
   unfolding SpreadsFrom
@@ -194,20 +193,20 @@ module _ (kind : GraphData → ObjectId → Bool) (stays : (g h : GraphData) →
       let z : Grows f h = grows_on f g h v w in
       spread_paid more one f h k z (λ seen. common (z.marks SEEN one seen)) (keep f (one ∷ []) z (spread_grown (one ∷ due) f g h w none s))
 
-  -- one step of those that are due
+  -- one step from a due commit
   pub from_next : (first one : ObjectId) (due rest more : List ObjectId) (g h k : GraphData) → Grows g h → due ≡ rest ++ one ∷ []
       → SpreadsFrom kind one rest h more k → SpreadsFrom kind first [] g due h → SpreadsFrom kind first [] g more k
   unfolding SpreadsFrom
   from_next first one due rest more g h k w is step before f v s =
       step f (grows_on f g h v w) (spread_popped due rest one f h is (before f v s))
 
-  -- to the end
+  -- the last step
   pub from_all : (one : ObjectId) (due : List ObjectId) (g h : GraphData) → due ≡ [] → SpreadsFrom kind one [] g due h
       → SpreadsAllFrom kind one g h
   unfolding SpreadsFrom SpreadsAllFrom
   from_all one due g h is before f v s = spread_all due f h is (before f v s)
 
--- what a step of those that are due keeps, where it began with none
+-- the due commits of a step that began with none due
 pub kept_from : (kind : GraphData → ObjectId → Bool) (before due : List ObjectId) (g h : GraphData) → before ≡ []
     → KeepsSpread kind before g due h → SpreadsBut kind due g h
 unfolding KeepsSpread
@@ -218,21 +217,21 @@ pub from_first : (kind : GraphData → ObjectId → Bool) (one : ObjectId) (befo
     → SpreadsFrom kind one before g due h → SpreadsFrom kind one [] g due h
 from_first kind one before due g h is step = subst (λ xs. SpreadsFrom kind one xs g due h) is step
 
--- a further step from a commit that was due
+-- a further step from a due commit
 pub from_step : (kind : GraphData → ObjectId → Bool) (one : ObjectId) (before due : List ObjectId) (f g h : GraphData) → Grows f g
     → SpreadsFrom kind one before g due h → SpreadsBut kind (one ∷ before) f g → SpreadsBut kind due f h
 unfolding SpreadsFrom
 from_step kind one before due f g h v step s = step f v s
 
--- a commit that is there stays there
+-- a commit of the objects stays one
 pub stays_there : (g h : GraphData) → Grows g h → (id : ObjectId) → is_there g id ≡ true → is_there h id ≡ true
 stays_there g h w id e = subst (λ (o : Objects). is_some (commit_at o id) ≡ true) (sym w.objects) e
 
--- and one that was seen stays so
+-- a commit that was seen stays seen
 pub stays_seen : (g h : GraphData) → Grows g h → (id : ObjectId) → was_seen g id ≡ true → was_seen h id ≡ true
 stays_seen g h w id e = w.marks SEEN id e
 
--- what lacks a mark after lacked it before
+-- a commit that lacks a mark after a step lacked it before
 lacked : (a b : Bool) → (a ≡ true → b ≡ true) → b ≡ false → a ≡ false
 lacked true b k e = absurd (true≢false (sym (k refl) ∙ e))
 lacked false b k e = refl

@@ -12,12 +12,12 @@ use Rattle.gixp_negotiators.specs.Marks.{COMMON, COMMON_REF, SEEN, POPPED, has_a
 use Rattle.gixp_negotiators.specs.MarkLaws.{grows_left, claimed_left}
 use Rattle.gixp_negotiators.proofs.GrowLemmas.{grows_on}
 
--- what lacks a mark after lacked it before
+-- a commit that lacks a mark after a step lacked it before
 lacked : (a b : Bool) → (a ≡ true → b ≡ true) → b ≡ false → a ≡ false
 lacked true b k e = absurd (true≢false (sym (k refl) ∙ e))
 lacked false b k e = refl
 
--- a mark that was lacked is added
+-- a commit gets a mark that it lacked
 pub claims : (mark : ℕ) (g h k : GraphData) (id : ObjectId) (flags : Flags) → Grows g h → Grows h k → IsFoundWith h id flags
     → ((b : ℕ) → has_all b 0 ≡ false → AddsNone b g h) → has_all mark flags.0 ≡ false → has_mark mark k.held id ≡ true
     → Claims mark g k id flags
@@ -53,7 +53,7 @@ offered g h k id flags c lacks w none lone parents = record {
   parents = parents;
 }
 
--- it is so from before earlier steps
+-- an offer since one graph is an offer since an earlier one
 pub offered_since : (g h k : GraphData) (id : ObjectId) → Grows g h → IsOffered h k id → IsOffered g k id
 offered_since g h k id v o = record {
   read = subst (λ m. IsSome (commit_at m id)) v.objects o.read;
@@ -66,14 +66,13 @@ offered_since g h k id v o = record {
   parents = subst (λ m. All (λ q. IsSome (commit_at m q) → has_mark SEEN k.held q ≡ true) (parents_in k.held id)) v.objects o.parents;
 }
 
--- what holds anyway holds where it was refused
 pub any_err : {A E : Type 0} {P : Type 0} → (r : Result A E) → P → OnErr r P
 any_err (Ok a) p = tt
 any_err (Err e) p = p
 
 -- ---- parents that were seen
 
--- one more of some that were seen
+-- one more commit that was seen
 pub marked_more : (g h k : GraphData) (xs : List ObjectId) (i : ℕ) (d : ObjectId) → i < length xs → Grows g h → Grows h k
     → All (IsMarkedIfThere SEEN g h) (take i xs) → IsMarkedIfThere SEEN h k (get_or xs i d) → All (IsMarkedIfThere SEEN g k) (take
     (i + 1) xs)
@@ -81,7 +80,7 @@ marked_more g h k xs i d lt v w all one = All-more (IsMarkedIfThere SEEN g k) xs
     (All-weaker (IsMarkedIfThere SEEN g h) (IsMarkedIfThere SEEN g k) (λ q m s. w.marks SEEN q (m s)) (take i xs) all)
     (λ s. one (subst (λ o. IsSome (commit_at o (get_or xs i d))) (sym v.objects) s))
 
--- those of a commit
+-- the parents of a commit
 pub parents_marked : (g h k : GraphData) (id : ObjectId) (xs : List ObjectId) → Grows g h → Grows h k → IsSome (finite.get h.held id)
     → xs ≡ parents_in h.held id → All (IsMarkedIfThere SEEN h k) xs → All (IsMarkedIfThere SEEN g k) (parents_in k.held id)
 parents_marked g h k id xs v w held is all =
@@ -89,10 +88,10 @@ parents_marked g h k id xs v w held is all =
     (All-weaker (IsMarkedIfThere SEEN h k) (IsMarkedIfThere SEEN g k) (λ q m s. m (subst (λ o. IsSome (commit_at o q))
     (sym v.objects) s)) xs all)
 
--- a commit that is there and is seen now was seen before, where none was seen between
+-- a commit that is seen was seen before, where none was newly seen
 pub unseen_marked : (g h : GraphData) (id : ObjectId) → SeesNone g h → has_mark SEEN h.held id ≡ true → has_mark SEEN g.held id ≡ false → ⊥
 unseen_marked g h id sees seen unseen = true≢false (sym (sees id seen) ∙ unseen)
 
--- a commit that wasn't seen isn't, where none was seen between
+-- a commit that wasn't seen isn't, where none was newly seen
 pub none_seen : (g h : GraphData) (id : ObjectId) → SeesNone g h → has_mark SEEN g.held id ≡ false → has_mark SEEN h.held id ≡ false
 none_seen g h id sees unseen = lacked (has_mark SEEN h.held id) (has_mark SEEN g.held id) (sees id) unseen

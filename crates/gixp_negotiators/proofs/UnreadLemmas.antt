@@ -1,4 +1,4 @@
--- Commits that weren't read before they came to wait, and marking from a commit on.
+-- Commits that weren't read before they were queued, and marking from a commit on.
 use Rattle.std.proofs.Common.{◌≡◌, ◌∙◌, ◌<◌, ℕ, length, get_or, inl, inr, ⊎_elim, Bool, true, false, cond, List, [], ◌∷◌, ◌||◌, Option, None, refl, sym, ap, subst, arith, true≢false}
 use Rattle.std.specs.Prelude.{Contains, is_some}
 use Rattle.std.specs.Option.{option_map_or}
@@ -19,7 +19,7 @@ use Rattle.gixp_negotiators.specs.Waiting.{KeepsUnread}
 use Rattle.gixp_negotiators.proofs.GrowLemmas.{same_id}
 use Rattle.gixp_negotiators.proofs.FitLemmas.{lacked, none_held}
 
--- none comes, and none is taken
+-- no commit is queued, and none is taken
 pub unread_same : (us vs : BTreeSet ObjectId) (g h : GraphData) → vs ≡ us → PopsNone g h → KeepsUnread us g vs h
 unread_same us vs g h e p = record {
   stays = λ id c free. subst (λ s. contains id_cmp s id ≡ true) (sym e) c;
@@ -27,7 +27,7 @@ unread_same us vs g h e p = record {
   taken = λ id c free. lacked (has_mark POPPED h.held id) (has_mark POPPED g.held id) (p id) free;
 }
 
--- one step after another
+-- two steps in a row
 before : (g h : GraphData) (id : ObjectId) → Grows g h → finite.get h.held id ≡ None → finite.get g.held id ≡ None
 before g h id v n = none_held (finite.get g.held id)
     (lacked (is_some (finite.get g.held id)) (is_some (finite.get h.held id)) (v.held id) (ap is_some n))
@@ -44,7 +44,7 @@ unread_on us vs ws g h k v w a b = record {
   taken = λ id c free. b.taken id c (⊎_elim (λ was. a.taken id was free) (λ n. unmarked h id n) (b.only id c));
 }
 
--- one comes that isn't in the graph yet
+-- a commit is queued that the graph doesn't hold
 pub unread_pushed : (us vs : BTreeSet ObjectId) (g h : GraphData) (one : ObjectId) → finite.get g.held one ≡ None
     → ((q : ObjectId) → contains id_cmp vs q ≡ (is_at (id_cmp one) q || contains id_cmp us q)) → PopsNone g h → KeepsUnread us g vs h
 unread_pushed us vs g h one new kept p = record {
@@ -54,7 +54,7 @@ unread_pushed us vs g h one new kept p = record {
   taken = λ id c free. lacked (has_mark POPPED h.held id) (has_mark POPPED g.held id) (p id) free;
 }
 
--- one is taken
+-- a commit is taken
 pub unread_taken : (us vs : BTreeSet ObjectId) (g h : GraphData) (one : ObjectId)
     → ((q : ObjectId) → contains id_cmp vs q ≡ cond (is_at (id_cmp one) q) false (contains id_cmp us q)) → PopsOnly one g h
     → has_mark POPPED h.held one ≡ true → KeepsUnread us g vs h
@@ -78,13 +78,13 @@ unread_taken us vs g h one gone p popped = record {
     had id c true e = absurd (true≢false (sym c ∙ gone id ∙ ap (λ b. cond b false (contains id_cmp us id)) e))
     had id c false e = (sym (ap (λ b. cond b false (contains id_cmp us id)) e) ∙ sym (gone id) ∙ c, e)
 
--- ---- what became common was read
+-- ---- each commit that became common was read
 
--- in an earlier step
+-- in the first of two steps
 pub held_first : (us : BTreeSet ObjectId) (g h k : GraphData) → Grows h k → AllHeld us g k → AllHeld us g h
 held_first us g h k w all id n = all id (n.0, w.marks COMMON id n.1)
 
--- and in a later one
+-- in the second of two steps
 pub held_then : (us vs : BTreeSet ObjectId) (g h k : GraphData) → Grows g h → KeepsUnread us g vs h → AllHeld us g k → AllHeld vs h k
 held_then us vs g h k v u all id n =
     let was = all id (lacked (has_mark COMMON g.held id) (has_mark COMMON h.held id) (v.marks COMMON id) n.0, n.1) in (
@@ -98,7 +98,7 @@ read_then us vs g h k v u all id n = (held_then us vs g h k v u all id n).0
 
 -- ---- marking from a commit on
 
--- it begins with the commit
+-- marking begins with the commit
 pub through_first : (us : BTreeSet ObjectId) (g h : GraphData) (one : ObjectId) → SettlesAmong (one ∷ []) g h → MarksThrough us g one h
 through_first us g h one among q n = ⊎_elim (λ was. absurd (true≢false (sym was ∙ n.0)))
     (λ some. ⊎_elim (λ none. absurd (no_element q none)) (λ same. subst (MarksOn us g one) same MarksOn.itself)
@@ -107,12 +107,12 @@ through_first us g h one among q n = ⊎_elim (λ was. absurd (true≢false (sym
     no_element : (q : ObjectId) → Contains [] q → ⊥
     no_element q c = absurd (omega (arith, c.1))
 
--- what became common was seen
+-- a commit that became common was seen
 pub settled_seen : (g h : GraphData) (ids : List ObjectId) → SettlesAmong ids g h → (q : ObjectId) → IsNewlyCommon g h q
     → has_mark SEEN g.held q ≡ true
 settled_seen g h ids among q n = ⊎_elim (λ was. absurd (true≢false (sym was ∙ n.0))) (λ some. some.0) (among q n.1)
 
--- and goes on to the parents of one that was read
+-- marking goes on to the parents of a commit that was read
 pub through_more : (us : BTreeSet ObjectId) (g h k : GraphData) (one next : ObjectId) → Grows g h → IsNewlyCommon g h next
     → contains id_cmp us next ≡ false → ((q : ObjectId) → IsNewlyCommon g h q → has_mark SEEN g.held q ≡ true)
     → SettlesAmong (parents_in h.held next) h k → MarksThrough us g one h → MarksThrough us g one k
@@ -127,7 +127,7 @@ pub seen_more : (g h k : GraphData) (ids : List ObjectId) → SeesNone g h → S
     → has_mark SEEN g.held q ≡ true
 seen_more g h k ids sees among seen q n = ⊎_elim (λ was. seen q (n.0, was)) (λ some. sees q some.0) (among q n.1)
 
--- ---- which of some become common
+-- ---- which commits of a list become common
 
 pub among_same : (ids : List ObjectId) (g : GraphData) → SettlesAmong ids g g
 among_same ids g q m = inl m
@@ -153,7 +153,7 @@ among_step ids i d g h k lt sees a b q m = ⊎_elim (λ was. a q was)
     no_element : (q : ObjectId) → Contains [] q → ⊥
     no_element q c = absurd (omega (arith, c.1))
 
--- a commit waits, under a time or as one that wasn't read
+-- a commit is queued under its time, or as one that wasn't read
 pub unread_timed : (us vs : BTreeSet ObjectId) (g h : GraphData) (one : ObjectId) (read : Bool) → (read ≡ true → vs ≡ us)
     → (read ≡ false → (q : ObjectId) → contains id_cmp vs q ≡ (is_at (id_cmp one) q || contains id_cmp us q))
     → read ≡ is_some (finite.get g.held one) → PopsNone g h → KeepsUnread us g vs h

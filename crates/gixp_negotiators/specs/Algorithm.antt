@@ -12,7 +12,7 @@ use Rattle.gixp_negotiators.specs.declared.consecutive.Consecutive.{Consecutive}
 use Rattle.gixp_negotiators.specs.declared.skipping.Skipping.{Skipping}
 use Rattle.gixp_negotiators.specs.Calls.{KnowsInTurn, AddsInTurn, LearnsInTurn, OffersInTurn, KnowsSkipping, AddsSkipping, LearnsSkipping, OffersSkipping}
 
--- a text is a word, but for the case of its letters
+-- a text is this word, in letters of either case
 abbrev pub IsWord : List ℕ → List ℕ → Type 0
 IsWord text word = map to_ascii_lowercase text ≡ map to_ascii_lowercase word
 
@@ -22,16 +22,16 @@ IsNameOf kind.Noop text = IsWord text (codes "noop")
 IsNameOf kind.Consecutive text = IsWord text (codes "consecutive") ⊎ IsWord text (codes "default")
 IsNameOf kind.Skipping text = IsWord text (codes "skipping")
 
--- ---- a negotiator that knows no commit yet: none waits
+-- ---- a negotiator without commits
 
 abbrev pub IsNewInTurn : Consecutive → Type 0
 IsNewInTurn n = (heap_items n.queue.waiting ≡ []) × (n.uncommon ≡ 0)
 
--- nor is one passed over
+-- no commit is queued, and none has a distance
 abbrev pub IsNewSkipping : Skipping → Type 0
 IsNewSkipping n = (heap_items n.queue.waiting ≡ []) × (n.skips.entries ≡ []) × (n.unread.keys ≡ []) × (n.uncommon ≡ 0)
 
--- it is of the kind that an algorithm names
+-- a negotiator without commits, of the kind that an algorithm names
 abbrev pub IsNewOf : Algorithm → AnyNegotiator → Type 0
 IsNewOf kind.Noop (any.Noop n) = Unit {0}
 IsNewOf kind.Noop (any.Consecutive n) = ⊥

@@ -13,16 +13,17 @@ use Rattle.gixp_negotiators.specs.Waiting.{FitsSeen, KeepsTimed, KeepsCount, Pic
 
 -- ---- `consecutive`
 
--- it keeps its queue and its count of a graph
+-- a step keeps the invariant of the queue and its count
 abbrev pub Steps : Consecutive → GraphData → Consecutive → GraphData → Type 0
 Steps n g m h = KeepsTimed n.uncommon (heap_items n.queue.waiting) g m.uncommon (heap_items m.queue.waiting) h
 
--- the same where one that waited was taken
+-- a step that takes this queued commit keeps the invariant
 abbrev pub StepsTaking : Waiting → Consecutive → GraphData → Consecutive → GraphData → Type 0
 StepsTaking first n g m h = KeepsTimed n.uncommon (first ∷ heap_items n.queue.waiting) g m.uncommon (heap_items m.queue.waiting) h
 
--- what `known_common` does: the commit waits, and is listed as a ref of the server, which no other is; its parents are common, unless it
--- is so itself; what else comes to wait is common, and only it and its ancestors become so
+-- `known_common`: the commit is queued, and is the only one that is newly marked as a ref of the server; its parents
+-- become common, unless it is common itself; every other commit that is queued is common; only the commit and its
+-- ancestors become common
 pub record KnowsInTurn (n : Consecutive) (g : GraphData) (id : ObjectId) (m : Consecutive) (h : GraphData) : Type 0 where
   pub grows : Grows g h
   pub seen : IsMarkedIfThere SEEN g h id
@@ -36,7 +37,7 @@ pub record KnowsInTurn (n : Consecutive) (g : GraphData) (id : ObjectId) (m : Co
   pub again : StaysIfSeen n g id m h
   pub steps : Steps n g m h
 
--- what `add_tip` does: the commit waits and no other comes to; none becomes common, and none is listed as a ref of the server
+-- `add_tip`: only this commit is newly queued; none becomes common, and none is newly marked as a ref of the server
 pub record AddsInTurn (n : Consecutive) (g : GraphData) (id : ObjectId) (m : Consecutive) (h : GraphData) : Type 0 where
   pub grows : Grows g h
   pub seen : IsMarkedIfThere SEEN g h id
@@ -47,8 +48,8 @@ pub record AddsInTurn (n : Consecutive) (g : GraphData) (id : ObjectId) (m : Con
   pub again : StaysIfSeen n g id m h
   pub steps : Steps n g m h
 
--- what `in_common_with_remote` does: the commit is common, and of each that was seen and became common the parents are; only it and its
--- ancestors become so; what comes to wait is common
+-- `in_common_with_remote`: the commit becomes common, and so do the parents of each seen commit that becomes common;
+-- only the commit and its ancestors do; each commit that is queued is common
 pub record LearnsInTurn (n : Consecutive) (g : GraphData) (id : ObjectId) (m : Consecutive) (h : GraphData) : Type 0 where
   pub grows : Grows g h
   pub common : IsMarkedIfThere COMMON g h id
@@ -59,7 +60,7 @@ pub record LearnsInTurn (n : Consecutive) (g : GraphData) (id : ObjectId) (m : C
   pub spreads : StaysSpread is_there g h
   pub steps : Steps n g m h
 
--- what `next_have` does: it offers the newest that isn't common, and reads nothing where all that waits is
+-- `next_have`: it offers the newest queued commit that isn't common, and reads nothing where all queued commits are common
 pub record OffersInTurn (n : Consecutive) (g : GraphData) (have : Option ObjectId) (m : Consecutive) (h : GraphData) : Type 0 where
   pub grows : Grows g h
   pub offers : Offers g have h
@@ -72,29 +73,29 @@ pub record OffersInTurn (n : Consecutive) (g : GraphData) (have : Option ObjectI
 
 -- ---- `skipping`
 
--- its queue and its count fit a graph, and as many that are common are counted
+-- the queue and its count fit the graph, but for so many common commits that are still counted
 abbrev pub FitsSkipping : ℕ → Skipping → GraphData → Type 0
 FitsSkipping lost n g = FitsSeen lost n.uncommon (heap_items n.queue.waiting) g
 
--- a step keeps this. Marking ends at a commit that wasn't read, as in git, and then leaves others counted that are common already: so
--- more may be lost to the count, but not where no such commit became common
+-- a step keeps this. Like in git, marking ends at a commit that wasn't read. Others that are common already then stay
+-- counted, so the count may be too high by more, but not where each commit that became common was read
 abbrev pub CountsStill : Type 0 → Skipping → GraphData → Skipping → GraphData → Type 0
 CountsStill Read n g m h = KeepsCount Read n.uncommon (heap_items n.queue.waiting) g m.uncommon (heap_items m.queue.waiting) h
 
--- the same where one that waited was taken
+-- the same for a step that takes this queued commit
 abbrev pub CountsTaking : Type 0 → Waiting → Skipping → GraphData → Skipping → GraphData → Type 0
 CountsTaking Read first n g m h =
     KeepsCount Read n.uncommon (first ∷ heap_items n.queue.waiting) g m.uncommon (heap_items m.queue.waiting) h
 
--- a step that loses nothing to the count
+-- a step that counts no further common commit
 abbrev pub CountsAll : Skipping → GraphData → Skipping → GraphData → Type 0
 CountsAll n g m h = (lost : ℕ) → FitsSkipping lost n g → FitsSkipping lost m h
 
--- what comes to wait wasn't seen before, and is dated
+-- each newly queued commit wasn't seen before, and is queued under its time, or under 0 where it wasn't read before
 abbrev pub QueuesDated : Skipping → GraphData → Skipping → Type 0
 QueuesDated n g m = QueuesNew (heap_items n.queue.waiting) g (heap_items m.queue.waiting)
 
--- what `known_common` does: the commit waits, and is listed as a ref of the server; no other is
+-- `known_common`: only this commit is newly queued, and only it is newly marked as a ref of the server
 pub record KnowsSkipping (n : Skipping) (g : GraphData) (id : ObjectId) (m : Skipping) (h : GraphData) : Type 0 where
   pub grows : Grows g h
   pub seen : IsMarkedIfThere SEEN g h id
@@ -110,7 +111,7 @@ pub record KnowsSkipping (n : Skipping) (g : GraphData) (id : ObjectId) (m : Ski
   pub again : StaysIfSeen n g id m h
   pub fits : CountsAll n g m h
 
--- what `add_tip` does: the commit waits and no other comes to; none becomes common, and none is listed as a ref of the server
+-- `add_tip`: only this commit is newly queued; none becomes common, and none is newly marked as a ref of the server
 pub record AddsSkipping (n : Skipping) (g : GraphData) (id : ObjectId) (m : Skipping) (h : GraphData) : Type 0 where
   pub grows : Grows g h
   pub seen : IsMarkedIfThere SEEN g h id
@@ -125,8 +126,9 @@ pub record AddsSkipping (n : Skipping) (g : GraphData) (id : ObjectId) (m : Skip
   pub again : StaysIfSeen n g id m h
   pub fits : CountsAll n g m h
 
--- what `in_common_with_remote` does: a commit that was seen is common, and of each that was seen and became common the parents that
--- were seen are, unless one of these commits wasn't read yet. No other becomes common: marking doesn't go through what wasn't read
+-- `in_common_with_remote`: a commit that was seen becomes common, and so do the seen parents of each commit that
+-- becomes common, unless one of these commits wasn't read yet. No other commit does: marking doesn't pass a commit that
+-- wasn't read
 pub record LearnsSkipping (n : Skipping) (g : GraphData) (id : ObjectId) (m : Skipping) (h : GraphData) : Type 0 where
   pub grows : Grows g h
   pub common : has_mark SEEN g.held id ≡ true → has_mark COMMON h.held id ≡ true
@@ -140,8 +142,8 @@ pub record LearnsSkipping (n : Skipping) (g : GraphData) (id : ObjectId) (m : Sk
   pub unread : m.unread ≡ n.unread
   pub fits : CountsStill (AllRead n.unread g h) n g m h
 
--- what `next_have` does: it offers the newest of those that waited, at the distances that are handed on, and what comes to wait wasn't
--- seen before
+-- `next_have`: it offers the newest queued commit, at the distances that are passed on; each newly queued commit
+-- wasn't seen before
 pub record OffersSkipping (n : Skipping) (g : GraphData) (have : Option ObjectId) (m : Skipping) (h : GraphData) : Type 0 where
   pub grows : Grows g h
   pub offers : Offers g have h

@@ -10,7 +10,8 @@ use Rattle.gixp_graph.specs.Object.{commit_at}
 use Rattle.gixp_graph.specs.GraphData.{HeldCommit, Commits, GraphData, is_marked, parents_in}
 use Rattle.gixp_graph.specs.Walk.{count}
 
--- the marks of a commit (`Flags`): the server has it; it has it as a ref; a negotiator came across it; and took it from its queue
+-- the marks of a commit (`Flags`): the server has it; the server has it as a ref; a negotiator has seen it; a
+-- negotiator has taken it from its queue
 abbrev pub COMMON : ℕ
 COMMON = 2
 
@@ -23,7 +24,7 @@ SEEN = 8
 abbrev pub POPPED : ℕ
 POPPED = 16
 
--- whether some marks have all of others
+-- whether a set of marks has all of these
 abbrev pub has_all : ℕ → ℕ → Bool
 has_all marks flags = bit_and flags marks == marks
 
@@ -31,7 +32,7 @@ has_all marks flags = bit_and flags marks == marks
 abbrev pub has_mark : ℕ → Commits → ObjectId → Bool
 has_mark marks m id = option_map_or (λ (h : HeldCommit). has_all marks h.flags.0) (finite.get m id) false
 
--- how many objects there are that aren't commits with these marks
+-- how many objects aren't held commits with these marks
 unfoldable pub left : ℕ → GraphData → ℕ
 left marks g = count (λ q. not (has_mark marks g.held q)) (finite.keys g.objects)
 
@@ -47,15 +48,15 @@ pub record Grows (g h : GraphData) : Type 0 where
 abbrev pub AddsNone : ℕ → GraphData → GraphData → Type 0
 AddsNone mark g h = (id : ObjectId) → has_mark mark h.held id ≡ true → has_mark mark g.held id ≡ true
 
--- but for this one
+-- only this commit gets a mark that it didn't have
 abbrev pub AddsOnly : ℕ → ObjectId → GraphData → GraphData → Type 0
 AddsOnly mark one g h = (id : ObjectId) → has_mark mark h.held id ≡ true → (has_mark mark g.held id || eq_by_cmp id_cmp id one) ≡ true
 
--- no commit is seen that wasn't
+-- no commit is newly seen
 abbrev pub SeesNone : GraphData → GraphData → Type 0
 SeesNone g h = AddsNone SEEN g h
 
--- but for this one
+-- only this commit is newly seen
 abbrev pub SeesOnly : ObjectId → GraphData → GraphData → Type 0
 SeesOnly one g h = AddsOnly SEEN one g h
 
@@ -63,15 +64,15 @@ SeesOnly one g h = AddsOnly SEEN one g h
 abbrev pub SettlesNone : GraphData → GraphData → Type 0
 SettlesNone g h = AddsNone COMMON g h
 
--- but for this one
+-- only this commit becomes common
 abbrev pub SettlesOnly : ObjectId → GraphData → GraphData → Type 0
 SettlesOnly one g h = AddsOnly COMMON one g h
 
--- no commit is listed as a ref of the server that wasn't
+-- no commit is newly marked as a ref of the server
 abbrev pub ListsNone : GraphData → GraphData → Type 0
 ListsNone g h = AddsNone COMMON_REF g h
 
--- but for this one
+-- only this commit is newly marked as a ref of the server
 abbrev pub ListsOnly : ObjectId → GraphData → GraphData → Type 0
 ListsOnly one g h = AddsOnly COMMON_REF one g h
 
@@ -79,17 +80,17 @@ ListsOnly one g h = AddsOnly COMMON_REF one g h
 abbrev pub PopsNone : GraphData → GraphData → Type 0
 PopsNone g h = AddsNone POPPED g h
 
--- but for this one
+-- only this commit is taken from the queue
 abbrev pub PopsOnly : ObjectId → GraphData → GraphData → Type 0
 PopsOnly one g h = AddsOnly POPPED one g h
 
--- a commit is there and held, and has these marks
+-- the objects have a commit, it is held, and it has these marks
 pub record IsFoundWith (g : GraphData) (id : ObjectId) (flags : Flags) : Type 0 where
   pub read : IsSome (commit_at g.objects id)
   pub held : IsSome (finite.get g.held id)
   pub marks : (marks : ℕ) → has_mark marks g.held id ≡ has_all marks flags.0
 
--- a commit that is there was without a mark, and now has it. Its marks before are these
+-- a commit of the objects newly gets a mark; before, it had these marks
 pub record Claims (mark : ℕ) (g h : GraphData) (id : ObjectId) (flags : Flags) : Type 0 where
   pub read : IsSome (commit_at g.objects id)
   pub held : IsSome (finite.get h.held id)
@@ -104,24 +105,25 @@ pub record Claims (mark : ℕ) (g h : GraphData) (id : ObjectId) (flags : Flags)
 abbrev pub IsMarkedIfSeen : ℕ → GraphData → ObjectId → Type 0
 IsMarkedIfSeen mark g id = has_mark SEEN g.held id ≡ true → has_mark mark g.held id ≡ true
 
--- a commit that is there and wasn't seen has these marks now
+-- a commit of the objects that wasn't seen has these marks now
 abbrev pub IsMarkedIfNew : ℕ → GraphData → GraphData → ObjectId → Type 0
 IsMarkedIfNew marks g h id = IsSome (commit_at g.objects id) → has_mark SEEN g.held id ≡ false → has_mark marks h.held id ≡ true
 
--- a commit that is there has a mark
+-- a commit of the objects has a mark
 abbrev pub IsMarkedIfThere : ℕ → GraphData → GraphData → ObjectId → Type 0
 IsMarkedIfThere marks g h id = IsSome (commit_at g.objects id) → has_mark marks h.held id ≡ true
 
--- a commit that wasn't seen is listed as a ref of the server
+-- a commit that wasn't seen is now marked as a ref of the server
 abbrev pub IsListedIfNew : GraphData → GraphData → ObjectId → Type 0
 IsListedIfNew g h id = IsMarkedIfNew COMMON_REF g h id
 
--- a commit that was seen before comes again: nothing changes
+-- where a commit was seen before, nothing changes
 abbrev pub StaysIfSeen : {N : Type 0} → N → GraphData → ObjectId → N → GraphData → Type 0
 StaysIfSeen n g id m h = has_mark SEEN g.held id ≡ true → (m ≡ n) × (h ≡ g)
 
--- a commit is offered: it is there, wasn't common, and was never offered before; it is held, and won't be offered again; it isn't common
--- then either, unless a ref of the server is it, from whose parents marking may lead back to it; its parents that are there were seen
+-- a commit is offered: the objects have it, it wasn't common, and was never offered before. It is held, and won't be
+-- offered again. It isn't common then either, unless it is a ref of the server: marking its parents' ancestors may lead
+-- back to it. Those of its parents that the objects have were seen
 pub record IsOffered (g h : GraphData) (id : ObjectId) : Type 0 where
   pub read : IsSome (commit_at g.objects id)
   pub held : IsSome (finite.get h.held id)
@@ -132,7 +134,7 @@ pub record IsOffered (g h : GraphData) (id : ObjectId) : Type 0 where
   pub less : left POPPED h + 1 ≤ left POPPED g
   pub parents : All (IsMarkedIfThere SEEN g h) (parents_in h.held id)
 
--- an offer, or none
+-- an offer of a commit, or no offer
 abbrev pub Offers : GraphData → Option ObjectId → GraphData → Type 0
 Offers g None h = Unit {0}
 Offers g (Some id) h = IsOffered g h id

@@ -1,4 +1,4 @@
--- How many commits are passed over along a line (git-config, `fetch.negotiationAlgorithm`, "skipping").
+-- How many commits are skipped along a line (git-config, `fetch.negotiationAlgorithm`, "skipping").
 use Rattle.std.specs.Prelude.{◌≡◌, ◌⊎◌, ◌<◌, ◌-◌, All, nat_lt, if◌then◌else◌, List, Bool, true, false, Option, Some, None, IsSome, unwrap_or}
 use Rattle.std.specs.List.{list_any}
 use Rattle.std.specs.Map.{lookup}
@@ -14,11 +14,11 @@ use Rattle.gixp_negotiators.specs.declared.skipping.Legacy.TheVariants.{Common, 
 use Rattle.gixp_negotiators.specs.Distance.{distance_after, skip_of}
 use Rattle.gixp_negotiators.specs.Marks.{COMMON, COMMON_REF, POPPED, has_mark, SettlesNone}
 
--- distances of commits
+-- the distances of commits, by id
 abbrev pub Skipped : Type 0
 Skipped = List (ObjectId × Skip)
 
--- the distance of a commit and what is left of it: none of one of which nothing is known
+-- the distance of a commit; 0 where none is recorded
 abbrev pub skip_in : Skipped → ObjectId → Skip
 skip_in skips id = unwrap_or (lookup (is_at (id_cmp id)) skips) (skip_of 0 0)
 
@@ -26,21 +26,21 @@ skip_in skips id = unwrap_or (lookup (is_at (id_cmp id)) skips) (skip_of 0 0)
 abbrev pub longer : Skip → Skip → Skip
 longer s t = if nat_lt s.whole t.whole then t else s
 
--- what a commit hands on to its parents: one fewer to pass over; or, where none is left, the next distance
+-- the distance that a commit passes on to its parents: one fewer to skip; or, where none is left to skip, the next distance
 abbrev pub handed_on : Skip → Skip
 handed_on s = if nat_lt 0 s.left then skip_of s.whole (s.left - 1) else skip_of (distance_after s.whole) (distance_after s.whole)
 
--- whether a commit is one of some
+-- whether a list has a commit
 abbrev pub is_among : List ObjectId → ObjectId → Bool
 is_among ids q = list_any (λ p. eq_by_cmp id_cmp q p) ids
 
--- a commit is handed a distance, where there is one, and keeps its own where that is longer; no other commit's is changed
+-- a commit gets a distance, if any, and keeps its own where that is longer; no other commit's distance changes
 abbrev pub HandsOne : Legacy → ObjectId → Skipped → Skipped → Type 0
 HandsOne Common id old new = new ≡ old
 HandsOne (Skips s) id old new = (skip_in new id ≡ longer (skip_in old id) s)
     × ((q : ObjectId) → eq_by_cmp id_cmp q id ≡ false → skip_in new q ≡ skip_in old q)
 
--- so are those of some commits that weren't taken
+-- the same for several commits, except those that were taken
 pub record Hands (legacy : Legacy) (ids : List ObjectId) (h : GraphData) (old new : Skipped) : Type 0 where
   pub handed : (s : Skip) (q : ObjectId) → legacy ≡ Skips s → is_among ids q ≡ true → has_mark POPPED h.held q ≡ false
       → skip_in new q ≡ longer (skip_in old q) s
@@ -50,9 +50,10 @@ pub record Hands (legacy : Legacy) (ids : List ObjectId) (h : GraphData) (old ne
 abbrev pub AllTaken : GraphData → List ObjectId → Type 0
 AllTaken h ids = All (λ p. has_mark POPPED h.held p ≡ true) ids
 
--- a commit is taken from those that wait: where it is neither common nor a ref of the server, its parents that weren't taken are handed
--- what it hands on, and no commit becomes common; no other commit's distance is changed; it is offered only where none is left to pass
--- over, or as the last of a line, whose parents were all taken; and it isn't only where some are left and a parent waits, or it is common
+-- a commit is taken from the queue. Where it is neither common nor a ref of the server, its parents that weren't
+-- taken get the distance that it passes on, and no commit becomes common. No other commit's distance changes. It is
+-- offered only where none is left to skip, or as the last of a line, whose parents were all taken. Without an offer, some
+-- are left to skip and a parent is queued, or it is common
 pub record Takes (old : Skipped) (g : GraphData) (id : ObjectId) (is_offered : Bool) (new : Skipped) (h : GraphData) : Type 0 where
   pub hands : IsSome (commit_at g.objects id) → has_mark POPPED g.held id ≡ false → has_mark COMMON h.held id ≡ false
       → has_mark COMMON_REF h.held id ≡ false
@@ -70,7 +71,7 @@ pub data TakesUnoffered (old : Skipped) (g : GraphData) : Skipped → GraphData 
   one : {k new : Skipped} {i h : GraphData} {id : ObjectId} → TakesUnoffered old g k i → Takes k i id false new h
       → TakesUnoffered old g new h
 
--- a commit is offered, after some that aren't; or none is
+-- a commit is offered after some that aren't, or none is offered
 abbrev pub Distances : Skipped → GraphData → Option ObjectId → Skipped → GraphData → Type 0
 Distances old g None new h = TakesUnoffered old g new h
 Distances old g (Some id) new h = (k : Skipped) × (i : GraphData) × TakesUnoffered old g k i × Takes k i id true new h

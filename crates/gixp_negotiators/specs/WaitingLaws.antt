@@ -1,11 +1,11 @@
--- Laws of what waits.
+-- Laws of the queue.
 use Rattle.std.proofs.Common.{◌≡◌, ◌∙◌, ◌&&◌, ℕ, false, not, cond, [], refl, ap, sym, true≢false}
 use Rattle.gixp_hash.specs.declared.object_id.ObjectId.{ObjectId}
 use Rattle.gixp_graph.specs.GraphData.{GraphData}
 use Rattle.gixp_negotiators.specs.Marks.{SEEN, POPPED, has_mark}
 use Rattle.gixp_negotiators.specs.Waiting.{waits_of, open_in, Fits}
 
--- a negotiator that knows no commit yet fits a graph in which none was seen or taken
+-- a negotiator without commits fits a graph in which no commit was seen or taken
 pub new_fits : (g : GraphData) → ((id : ObjectId) → has_mark SEEN g.held id ≡ false) → ((id : ObjectId) → has_mark POPPED g.held id ≡ false)
     → Fits 0 0 [] g
 unfolding waits_of open_in

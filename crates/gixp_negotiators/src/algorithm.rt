@@ -1,4 +1,4 @@
-//! A negotiator by its name.
+//! git's negotiators by name.
 ghost use Rattle.std.specs.Prelude.{IfSome, IfNone, true};
 ghost use Rattle.gixp_negotiators.specs.Algorithm.{IsNameOf, IsNewOf};
 
@@ -9,21 +9,21 @@ use gixp_graph::{Graph, Negotiator, NegotiatorError, Objects};
 use gixp_hash::ObjectId;
 use std::alloc::Global;
 
-/// How a fetch finds out what both sides have: the value of git's `fetch.negotiationAlgorithm`
-/// (git-config, "fetch.negotiationAlgorithm").
+/// How a fetch finds out what both sides have: the value of git's `fetch.negotiationAlgorithm` (git-config,
+/// "fetch.negotiationAlgorithm").
 #[derive(Clone, Copy, Debug, PartialEq, Eq)]
 pub enum Algorithm {
-    /// Offers nothing (`noop`): a pack of all that is asked for comes.
+    /// Offers nothing (`noop`): the server sends a pack of all that is wanted.
     Noop,
-    /// Offers one commit after another, the newest first (`consecutive`, and `default`).
+    /// Offers one commit after another, the newest first (`consecutive`, or `default`).
     Consecutive,
     /// Offers commits at growing distances (`skipping`): fewer haves, and maybe a larger pack.
     Skipping,
 }
 
 impl Algorithm {
-    /// The algorithm of a name: `noop`, `consecutive`, `skipping`, or `default` for `consecutive`, in letters of
-    /// either case. None where it is another one, which git refuses.
+    /// The algorithm with this name: `noop`, `consecutive`, `skipping`, or `default` for `consecutive`, in letters of
+    /// either case. `None` for another name, which git refuses.
     pub fn from_name(name: &str) -> Option<Algorithm>
         ensures named { IfSome result (λ algorithm. IsNameOf algorithm name.now) }
         ensures none { IfNone result ((algorithm : Algorithm) → IsNameOf algorithm name.now → ⊥) }
@@ -43,7 +43,7 @@ impl Algorithm {
         None
     }
 
-    /// A negotiator of this kind that knows no commit yet. It is for one negotiation, over a graph of its own.
+    /// A negotiator of this kind without commits. It is for one negotiation, over a graph of its own.
     pub fn negotiator(self, alloc: Global) -> AnyNegotiator
         ensures { IsNewOf self result }
     {
@@ -55,7 +55,7 @@ impl Algorithm {
     }
 }
 
-/// A negotiator of one of git's kinds, where the kind is known only when it runs.
+/// A negotiator of one of git's kinds, chosen at run time.
 #[derive(Drop)]
 pub enum AnyNegotiator {
     /// Offers nothing.

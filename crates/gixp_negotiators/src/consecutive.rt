@@ -20,21 +20,21 @@ use std::alloc::Global;
 /// Offers each commit that isn't known to be common, the newest first (`consecutive` of git's
 /// `fetch.negotiationAlgorithm`).
 ///
-/// A commit that is found waits once, under its own time. One that is taken is offered unless it is
-/// marked as common, and its parents wait from then on. Parents of a common commit are common. It ends
-/// where all that waits is common.
+/// A commit that is found is queued once, under its own time. One that is taken from the queue is offered unless it
+/// is marked as common, and its parents are queued. Parents of a common commit are common. The offers end when all queued
+/// commits are common.
 ///
-/// Marks of the graph say what was seen, taken and found common: a graph is for one negotiation.
+/// The graph's marks record which commits were seen, taken and found common, so a graph is for one negotiation.
 #[derive(Drop)]
 pub struct Consecutive {
     alloc: Global,
     queue: Queue,
-    // How many wait that aren't common.
+    // How many queued commits aren't common.
     uncommon: usize,
 }
 
 impl Consecutive {
-    /// Knows no commit yet.
+    /// A negotiator without commits.
     pub fn new(alloc: Global) -> Consecutive
         ensures queue { heap_items result.queue.waiting ≡ [] }
         ensures uncommon { result.uncommon ≡ 0 }
@@ -46,7 +46,7 @@ impl Consecutive {
         }
     }
 
-    // Has a commit wait, where it is found and didn't before. Marks it as seen, and may mark it with another.
+    // Queues a commit, where it is found and wasn't seen before. Marks it as seen, and may add another mark.
     fn push<O: Objects>(
         &mut self,
         graph: &mut Graph<O>,
@@ -83,7 +83,7 @@ impl Consecutive {
         Ok(self.queue.push(time, *id)?)
     }
 
-    // One waits: it is counted, unless it is common.
+    // Counts a newly queued commit, unless it is common.
     fn admit(&mut self, is_common: bool) -> Result<(), NegotiatorError>
         ensures queue { self.new.queue ≡ self.old.queue }
         ensures common { IsTrue is_common → OnOk result (self.new.uncommon ≡ self.old.uncommon) }
@@ -100,7 +100,7 @@ impl Consecutive {
         Ok(())
     }
 
-    // One that has these marks and is now common: it isn't counted, where it waits.
+    // Stops counting a commit that is now common, where these marks say that it is queued.
     fn discount(&mut self, flags: Flags)
         ensures queue { self.new.queue ≡ self.old.queue }
         ensures waits { has_all SEEN flags.0 ≡ true → has_all POPPED flags.0 ≡ false → self.new.uncommon ≡ self.old.uncommon - 1 }
@@ -112,7 +112,7 @@ impl Consecutive {
         }
     }
 
-    // Marks a commit as common, where it is found and wasn't before. Returns whether it was so.
+    // Marks a commit as common. Returns false where it isn't found or was common before.
     fn settle<O: Objects>(
         &mut self,
         graph: &mut Graph<O>,
@@ -143,7 +143,8 @@ impl Consecutive {
         Ok(true)
     }
 
-    // Marks a commit as common, where it is found and wasn't before, and has it wait for its parents to be so.
+    // Marks a commit as common, and makes it due: its parents are to be marked. Does nothing where it isn't found or was
+    // common before.
     fn reach<O: Objects>(
         &mut self,
         graph: &mut Graph<O>,
@@ -175,7 +176,6 @@ impl Consecutive {
         Ok(due.push(*id)?)
     }
 
-    // The parents of a commit that is held.
     fn parents_of<O: Objects>(
         &self,
         graph: &Graph<O>,
@@ -187,7 +187,7 @@ impl Consecutive {
         Ok(graph.parents(self.alloc, id)?)
     }
 
-    // Marks some commits as common, and has those wait that weren't before for their parents to be so.
+    // Marks some commits as common, and makes those due that weren't common before.
     fn reach_all<O: Objects>(
         &mut self,
         graph: &mut Graph<O>,
@@ -219,7 +219,7 @@ impl Consecutive {
         Ok(())
     }
 
-    // Has a common commit wait, where it didn't yet, or else marks its parents as common.
+    // Queues a common commit, where it wasn't seen yet. Otherwise marks its parents as common.
     fn spread<O: Objects>(
         &mut self,
         graph: &mut Graph<O>,
@@ -258,7 +258,7 @@ impl Consecutive {
         Ok(())
     }
 
-    // Marks what leads on from some common commits.
+    // Spreads the mark from a commit to its ancestors.
     fn spread_all<O: Objects>(
         &mut self,
         graph: &mut Graph<O>,
@@ -288,7 +288,7 @@ impl Consecutive {
         Ok(())
     }
 
-    // Marks the ancestors of a commit as common, unless it is so itself.
+    // Marks the ancestors of a commit as common, unless the commit is common already.
     fn mark_ancestors<O: Objects>(
         &mut self,
         graph: &mut Graph<O>,
@@ -346,7 +346,7 @@ impl Consecutive {
         Ok(())
     }
 
-    // Has a parent of a commit that was taken wait.
+    // Queues a parent of a commit that was taken.
     fn follow<O: Objects>(
         &mut self,
         graph: &mut Graph<O>,
@@ -378,7 +378,7 @@ impl Consecutive {
         Ok(())
     }
 
-    // Has the parents of a commit that was taken wait.
+    // Queues the parents of a commit that was taken.
     fn follow_all<O: Objects>(
         &mut self,
         graph: &mut Graph<O>,
@@ -407,7 +407,7 @@ impl Consecutive {
         Ok(())
     }
 
-    // One that waited is taken: it was counted, unless it is common.
+    // Stops counting a commit that is taken. A common one isn't counted.
     fn release(&mut self, is_common: bool)
         ensures queue { self.new.queue ≡ self.old.queue }
         ensures common { IsTrue is_common → self.new.uncommon ≡ self.old.uncommon }
@@ -418,7 +418,7 @@ impl Consecutive {
         }
     }
 
-    // Takes a commit that waited. Returns whether it is offered.
+    // Takes a queued commit. Returns whether it is offered.
     fn take<O: Objects>(
         &mut self,
         graph: &mut Graph<O>,
@@ -449,7 +449,7 @@ impl Consecutive {
         Ok(!is_common)
     }
 
-    // The next that waits, unless all are common.
+    // Takes the next commit from the queue, unless all are common.
     fn pop(&mut self) -> Option<Waiting>
         ensures some { OnSome result (heap_len self.new.queue.waiting + 1 ≡ heap_len self.old.queue.waiting) }
         ensures open { OnSome result (0 < self.old.uncommon) }
@@ -466,7 +466,7 @@ impl Consecutive {
         self.queue.pop()
     }
 
-    // The next to offer.
+    // The next commit to offer.
     fn next<O: Objects>(
         &mut self,
         graph: &mut Graph<O>,
@@ -496,7 +496,7 @@ impl Consecutive {
         Ok(None)
     }
 
-    // Has a commit wait that the server has as a ref, and marks its ancestors as common.
+    // Queues a commit that the server has as a ref, and marks its ancestors as common.
     fn know<O: Objects>(
         &mut self,
         graph: &mut Graph<O>,
@@ -531,7 +531,7 @@ impl Consecutive {
     }
 }
 
-// Whether a commit with these marks is common, or a ref of the server is it.
+// Whether these marks are of a commit that is common, or that the server has as a ref.
 fn is_shared(flags: Flags) -> bool
     ensures { result ≡ (has_all COMMON flags.0 || has_all COMMON_REF flags.0) }
 {

@@ -1,4 +1,4 @@
-//! Offers a list.
+//! Offers a list of ids.
 ghost use Rattle.std.specs.Prelude.{◌≡◌, List, length};
 ghost use Rattle.gixp_negotiators.specs.HaveList.{OffersFirst};
 
@@ -6,7 +6,7 @@ use gixp_graph::{Graph, Negotiator, NegotiatorError, Objects};
 use gixp_hash::ObjectId;
 use std::marker::Model;
 
-/// A negotiator that offers these ids, in their order, and takes no notice of what it hears.
+/// A negotiator that offers these ids, in their order, and ignores what the server has.
 #[derive(Debug, Drop)]
 pub struct HaveList {
     ids: Vec<ObjectId>,
@@ -30,7 +30,6 @@ impl HaveList {
         HaveList { ids, next: 0 }
     }
 
-    // The next id.
     fn take(&mut self) -> Option<ObjectId>
         ensures { OffersFirst self.old result self.new }
     {

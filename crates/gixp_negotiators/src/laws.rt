@@ -6,7 +6,7 @@ use crate::consecutive::Consecutive;
 use crate::skipping::Skipping;
 use gixp_graph::Negotiator;
 
-/// Git's negotiators pass over no look-up that the graph refused: the call fails with that very error.
+/// git's negotiators don't ignore a failed look-up of the graph: the call returns that very error.
 pub fn refusals_are_reported()
     ensures consecutive { ⟦<Consecutive as Negotiator>⟧.reports_refusals ≡ true }
     ensures skipping { ⟦<Skipping as Negotiator>⟧.reports_refusals ≡ true }

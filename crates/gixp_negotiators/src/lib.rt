@@ -1,4 +1,4 @@
-//! The negotiators that git has: which commits are offered as haves, and in which order.
+//! git's negotiators: which commits are offered as haves, and in which order.
 #![tactic(auto)]
 
 mod algorithm;

@@ -8,20 +8,20 @@ ghost use Rattle.gixp_negotiators.specs.Marks.{COMMON, COMMON_REF, SEEN, POPPED,
 use gixp_graph::{Flags, Graph, NegotiatorError, Objects};
 use gixp_hash::ObjectId;
 
-/// Of a commit that waits and is common.
+/// The marks of a queued common commit.
 pub(crate) const SEEN_COMMON: Flags = Flags(Flags::SEEN.0 | Flags::COMMON.0);
 
-/// Of a commit that waits and that a ref of the server is.
+/// The marks of a queued commit that the server has as a ref.
 pub(crate) const SEEN_REF: Flags = Flags(Flags::SEEN.0 | Flags::COMMON_REF.0);
 
-/// Whether some marks have all of others.
+/// Whether a commit with these flags has all of these marks.
 pub(crate) fn has(flags: Flags, marks: Flags) -> bool
     ensures { result ≡ (bit_and flags.0 marks.0 == marks.0) }
 {
     flags.0 & marks.0 == marks.0
 }
 
-/// Whether some marks, or some more, have all of others.
+/// Whether one of two sets of flags has all of these marks.
 pub(crate) fn either_has(flags: Flags, more: Flags, marks: Flags) -> bool
     ensures { result ≡ (has_all marks.0 flags.0 || has_all marks.0 more.0) }
 {
@@ -31,7 +31,7 @@ pub(crate) fn either_has(flags: Flags, more: Flags, marks: Flags) -> bool
     has(more, marks)
 }
 
-/// The time and the marks of a commit, where it is found. It is held from then on.
+/// The time and the marks of a commit, where it is found. The graph holds it from then on.
 pub(crate) fn look<O: Objects>(
     graph: &mut Graph<O>,
     id: &ObjectId,
@@ -57,7 +57,7 @@ pub(crate) fn look<O: Objects>(
     Ok(graph.lookup(id)?)
 }
 
-/// Adds marks to a commit that is held, but for COMPLETE.
+/// Adds marks to a held commit. COMPLETE isn't among them.
 pub(crate) fn add<O: Objects>(graph: &mut Graph<O>, id: &ObjectId, marks: Flags)
     requires { bit_and marks.0 1 ≡ 0 }
     ensures grows { Grows graph.old.graph graph.new.graph }
@@ -78,7 +78,7 @@ pub(crate) fn add<O: Objects>(graph: &mut Graph<O>, id: &ObjectId, marks: Flags)
     graph.insert_flags(id, marks);
 }
 
-/// Gives a commit some marks, where it is found and doesn't have the first of them. Returns its time and its marks before.
+/// Adds marks to a commit, where it is found and doesn't have the first of them. Returns its time and its marks before.
 pub(crate) fn claim<O: Objects>(
     graph: &mut Graph<O>,
     id: &ObjectId,
@@ -92,7 +92,7 @@ pub(crate) fn claim<O: Objects>(
     ensures marked { IfOk result (λ found. IfSome found (λ x. has_mark marks.0 graph.new.graph.held id.now ≡ true)) }
     ensures none { IfOk result (λ found. IfNone found (IsMarkedIfThere mark.0 graph.old.graph graph.new.graph id.now)) }
 
-    // Where it isn't claimed, it wasn't seen, or had the mark.
+    // Where nothing was added, the commit wasn't seen, or had the mark.
     ensures absent { IfOk result (λ found. IfNone found (SeesNone graph.old.graph graph.new.graph
         × IsMarkedIfSeen mark.0 graph.new.graph id.now)) }
     ensures kept { IfOk result (λ found. IfNone found (SettlesNone graph.old.graph graph.new.graph)) }
@@ -128,7 +128,7 @@ pub(crate) fn claim<O: Objects>(
     Ok(Some((time, flags)))
 }
 
-/// Whether a commit is held and has some marks.
+/// Whether a commit is held and has all of these marks.
 pub(crate) fn is_marked<O: Objects>(graph: &Graph<O>, id: &ObjectId, marks: Flags) -> bool
     ensures value { result ≡ has_mark marks.0 graph.now.graph.held id.now }
     ensures there { IsTrue result → IsSome (commit_at graph.now.graph.objects id.now) }

@@ -1,4 +1,4 @@
-//! Commits that wait, by time.
+//! A queue of commits by time.
 ghost use Rattle.std.specs.Prelude.{◌≡◌, ◌≤◌, ◌+◌, ◌-◌, ◌^◌, ◌≤ℤ◌, ◌∷◌, [], All, OnOk, OnSome, IfSome, IfNone};
 ghost use Rattle.std.specs.BinaryHeap.{heap_len, heap_items, IsHeap};
 ghost use Rattle.std.specs.List.Sorted.{IsPermutation};
@@ -9,8 +9,8 @@ use gixp_hash::ObjectId;
 use std::alloc::{AllocError, Global};
 use std::collections::BinaryHeap;
 
-/// A commit that waits. The greater one is taken first: the newer one, and of two of one time the one
-/// that came first.
+/// A queued commit. The greater one is taken first: the newer one, and of two with the same time the one that was
+/// queued first.
 #[derive(Clone, Copy, PartialEq, Eq, PartialOrd, Ord)]
 pub(crate) struct Waiting {
     pub time: i64,
@@ -18,17 +18,17 @@ pub(crate) struct Waiting {
     pub id: ObjectId,
 }
 
-/// Commits that wait, the newest first, and commits of one time in the order in which they came.
+/// Queued commits, the newest first; commits with the same time in the order in which they were queued.
 #[derive(Drop)]
 pub(crate) struct Queue {
     waiting: BinaryHeap<Waiting>,
-    // That of the next one; it falls.
+    // The rank of the next commit. It falls.
     rank: u64,
     ghost ordered: { IsHeap waiting_cmp (heap_items waiting) } by { Prim.hlevel props },
 }
 
 impl Queue {
-    /// No commits.
+    /// Creates an empty queue.
     pub fn new(alloc: Global) -> Queue
         ensures len { heap_len result.waiting ≡ 0 }
         ensures empty { heap_items result.waiting ≡ [] }
@@ -40,7 +40,7 @@ impl Queue {
         }
     }
 
-    /// Adds a commit.
+    /// Adds a commit of this time. Fails if an allocation fails, or if 2^64 - 1 commits were added before.
     pub fn push(&mut self, time: i64, id: ObjectId) -> Result<(), AllocError>
         ensures ok { OnOk result (heap_len self.new.waiting ≡ heap_len self.old.waiting + 1) }
         ensures waits { OnOk result (IsPermutation (waiting_at time self.old.rank id ∷ heap_items self.old.waiting)
@@ -65,7 +65,7 @@ impl Queue {
         ensures some { OnSome result (heap_len self.new.waiting + 1 ≡ heap_len self.old.waiting) }
         ensures taken { IfSome result (λ first. IsPermutation (heap_items self.old.waiting) (first ∷ heap_items self.new.waiting)) }
 
-        // The newest, and of these the one that came first.
+        // The newest; of those with its time, the one that was queued first.
         ensures newest { IfSome result (λ first. All (λ w. w.time ≤ℤ first.time) (heap_items self.new.waiting)) }
         ensures earliest { IfSome result (λ first. All (λ w. w.time ≡ first.time → w.rank ≤ first.rank) (heap_items self.new.waiting)) }
         ensures none { IfNone result (heap_items self.old.waiting ≡ []) }

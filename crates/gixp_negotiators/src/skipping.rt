@@ -26,16 +26,16 @@ use gixp_hash::ObjectId;
 use std::alloc::Global;
 use std::collections::{BTreeMap, BTreeSet};
 
-// How many commits are passed over before the next is offered.
+// How many commits are skipped before the next is offered.
 #[derive(Clone, Copy)]
 struct Skip {
-    // As it began.
+    // At its start.
     whole: u32,
-    // What is left of it.
+    // How many are left to skip.
     left: u32,
 }
 
-// What the parents of a commit that was taken get from it.
+// What a commit that was taken passes on to its parents.
 #[derive(Clone, Copy)]
 enum Legacy {
     Common,
@@ -45,26 +45,26 @@ enum Legacy {
 /// Offers commits at growing distances, the newest first (`skipping` of git's
 /// `fetch.negotiationAlgorithm`).
 ///
-/// A commit that is found waits once, under its own time. Along a line of commits that aren't known to be
-/// common, the first is offered, then one after a commit that is passed over, then one after two, and so
-/// on: each distance is half as long again as the one before, and one more. The last of a line is offered
-/// too. Parents of a common commit are common. It ends where all that waits is common.
+/// A commit that is found is queued once, under its own time. Along a line of commits that aren't known to be common,
+/// the first is offered, then the next after one skipped commit, then the next after two, and so on: each distance is half
+/// as long again as the one before, plus one. The last commit of a line is offered too. Parents of a common commit are
+/// common. The offers end when all queued commits are common.
 ///
-/// Marks of the graph say what was seen, taken and found common: a graph is for one negotiation.
+/// The graph's marks record which commits were seen, taken and found common, so a graph is for one negotiation.
 #[derive(Drop)]
 pub struct Skipping {
     alloc: Global,
     queue: Queue,
-    // Of commits that were seen.
+    // The distances of commits that were seen.
     skips: BTreeMap<ObjectId, Skip>,
-    // Those that wait and weren't read before: they wait at time 0, and nothing is known of their parents.
+    // Queued commits that weren't read before: they are queued at time 0, and their parents aren't known.
     unread: BTreeSet<ObjectId>,
-    // How many wait that aren't common.
+    // How many queued commits aren't common.
     uncommon: usize,
 }
 
 impl Skipping {
-    /// Knows no commit yet.
+    /// A negotiator without commits.
     pub fn new(alloc: Global) -> Skipping
         ensures queue { heap_items result.queue.waiting ≡ [] }
         ensures skips { result.skips.entries ≡ [] }
@@ -80,7 +80,7 @@ impl Skipping {
         }
     }
 
-    // Has a commit wait, where it is found and didn't before. Marks it as seen, and may mark it with another.
+    // Queues a commit, where it is found and wasn't seen before. Marks it as seen, and may add another mark.
     fn push<O: Objects>(
         &mut self,
         graph: &mut Graph<O>,
@@ -118,7 +118,6 @@ impl Skipping {
         Ok(self.queue.push(due, *id)?)
     }
 
-    // One more waits.
     fn admit(&mut self) -> Result<(), NegotiatorError>
         ensures queue { self.new.queue ≡ self.old.queue }
         ensures skips { self.new.skips ≡ self.old.skips }
@@ -133,7 +132,7 @@ impl Skipping {
         Ok(())
     }
 
-    // The time under which a commit waits.
+    // The time under which a commit is queued.
     fn time_of(&mut self, is_read: bool, time: i64, id: &ObjectId) -> Result<i64, NegotiatorError>
         ensures queue { self.new.queue ≡ self.old.queue }
         ensures skips { self.new.skips ≡ self.old.skips }
@@ -141,7 +140,7 @@ impl Skipping {
         ensures read { is_read ≡ true → IfOk result (λ due. due ≡ time) }
         ensures stays { is_read ≡ true → OnOk result (self.new.unread ≡ self.old.unread) }
 
-        // One that wasn't read waits at time 0, and is kept.
+        // A commit that wasn't read is queued at time 0, and recorded as unread.
         ensures unread { is_read ≡ false → IfOk result (λ due. due ≡ pos 0) }
         ensures kept { is_read ≡ false → OnOk result ((q : ObjectId) → contains id_cmp self.new.unread q
             ≡ (is_at (id_cmp id.now) q || contains id_cmp self.old.unread q)) }
@@ -154,7 +153,6 @@ impl Skipping {
         Ok(0)
     }
 
-    // The parents of a commit that is held.
     fn parents_of<O: Objects>(
         &self,
         graph: &Graph<O>,
@@ -166,7 +164,7 @@ impl Skipping {
         Ok(graph.parents(self.alloc, id)?)
     }
 
-    // Marks the parents of a common commit as common that were seen.
+    // Marks as common the parents of a common commit that were seen.
     fn spread<O: Objects>(
         &self,
         graph: &mut Graph<O>,
@@ -195,7 +193,7 @@ impl Skipping {
         Ok(())
     }
 
-    // One that is now common isn't counted, where it waits.
+    // Stops counting a commit that is now common, unless it was taken.
     fn discount(&mut self, is_taken: bool)
         ensures queue { self.new.queue ≡ self.old.queue }
         ensures skips { self.new.skips ≡ self.old.skips }
@@ -208,7 +206,7 @@ impl Skipping {
         }
     }
 
-    // Marks a commit that was seen as common, and its ancestors that were seen.
+    // Marks a commit as common, if it was seen, and each ancestor that was seen.
     fn mark_common<O: Objects>(
         &mut self,
         graph: &mut Graph<O>,
@@ -246,7 +244,7 @@ impl Skipping {
         Ok(())
     }
 
-    // What is left to pass over of a commit.
+    // The distance of a commit.
     fn skip_of(&self, id: &ObjectId) -> Skip
         ensures { result ≡ skip_in self.now.skips.entries id.now }
     {
@@ -256,7 +254,7 @@ impl Skipping {
         }
     }
 
-    // Has a commit pass over at least as many.
+    // Gives a commit this distance, unless its own is at least as long.
     fn raise(&mut self, id: &ObjectId, skip: Skip) -> Result<(), NegotiatorError>
         ensures queue { self.new.queue ≡ self.old.queue }
         ensures uncommon { self.new.uncommon ≡ self.old.uncommon }
@@ -271,7 +269,7 @@ impl Skipping {
         Ok(())
     }
 
-    // Gives a commit what it gets from one that was taken.
+    // Passes on to a parent what it gets from a commit that was taken.
     fn pass<O: Objects>(
         &mut self,
         graph: &mut Graph<O>,
@@ -306,7 +304,7 @@ impl Skipping {
         }
     }
 
-    // Has a parent of a commit that was taken wait. Returns whether it waits.
+    // Queues a parent of a commit that was taken. Returns whether it is queued.
     fn follow<O: Objects>(
         &mut self,
         graph: &mut Graph<O>,
@@ -340,7 +338,7 @@ impl Skipping {
         Ok(true)
     }
 
-    // The same for some parents. Returns whether one of them waits.
+    // Queues the parents of a commit that was taken. Returns whether one of them is queued.
     fn follow_all<O: Objects>(
         &mut self,
         graph: &mut Graph<O>,
@@ -374,7 +372,7 @@ impl Skipping {
         Ok(any)
     }
 
-    // Takes a commit that waited. Returns whether it is offered.
+    // Takes a queued commit. Returns whether it is offered.
     fn take<O: Objects>(
         &mut self,
         graph: &mut Graph<O>,
@@ -408,7 +406,7 @@ impl Skipping {
         Ok(is_offered(is_common, skip.left, any))
     }
 
-    // The next that waits, unless all are common.
+    // Takes the next commit from the queue, unless all are common.
     fn pop(&mut self) -> Option<Waiting>
         ensures some { OnSome result (heap_len self.new.queue.waiting + 1 ≡ heap_len self.old.queue.waiting) }
         ensures open { OnSome result (0 < self.old.uncommon) }
@@ -427,7 +425,7 @@ impl Skipping {
         self.queue.pop()
     }
 
-    // The next to offer.
+    // The next commit to offer.
     fn next<O: Objects>(
         &mut self,
         graph: &mut Graph<O>,
@@ -459,7 +457,7 @@ impl Skipping {
     }
 }
 
-// Marks a commit as common that was seen and wasn't common, and has it wait for its parents to be so.
+// Marks as common a commit that was seen and wasn't common, and makes it due: its parents are to be marked.
 fn reach<O: Objects>(
     graph: &mut Graph<O>,
     id: &ObjectId,
@@ -503,7 +501,6 @@ fn is_due<O: Objects>(graph: &Graph<O>, id: &ObjectId) -> bool
     false
 }
 
-// The same for some commits.
 fn reach_all<O: Objects>(
     graph: &mut Graph<O>,
     ids: &[ObjectId],
@@ -532,7 +529,7 @@ fn reach_all<O: Objects>(
     Ok(())
 }
 
-// Whether a commit that was taken is offered: where nothing is left to pass over, and as the last of a line.
+// Whether a commit that was taken is offered: where none is left to skip, or where it is the last of a line.
 fn is_offered(is_common: bool, left: u32, any: bool) -> bool
     ensures common { IsTrue result → is_common ≡ false }
     ensures reached { is_common ≡ false → left ≡ 0 → IsTrue result }
@@ -548,14 +545,14 @@ fn is_offered(is_common: bool, left: u32, any: bool) -> bool
     !any
 }
 
-// The distance after one: half as long again, and one more.
+// The next distance: half as long again, plus one.
 fn next_distance(whole: u32) -> u32
     ensures { result ≡ distance_after whole }
 {
     (whole / 2).saturating_add(whole).saturating_add(1)
 }
 
-// What the parents of a commit with these marks get.
+// What a commit with these marks passes on to its parents.
 fn legacy_of(flags: Flags, skip: Skip) -> Legacy
     ensures common { has_all COMMON flags.0 ≡ true → result ≡ Common }
     ensures listed { has_all COMMON_REF flags.0 ≡ true → result ≡ Common }

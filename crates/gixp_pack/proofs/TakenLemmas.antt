@@ -1,4 +1,4 @@
--- A pack that is taken piece by piece.
+-- A pack that is checked piece by piece.
 use Rattle.std.proofs.Common.{◌≡◌, ℕ, ◌+◌, ◌-◌, ◌^◌, ◌≤◌, List, ◌++◌, length, take, drop, min, arith, ap, sym, ◌∙◌, inl, inr}
 use Rattle.std.proofs.lemmas.Grind.{common_steps}
 use Rattle.std.proofs.lemmas.List.{append_assoc, append-nil, take-append-drop, take-append-le, take_all, length-append, length-take-le, length-drop}
@@ -30,7 +30,7 @@ module _ (m b : List ℕ) where
     length-take-le (length m - 20) m (omega arith),
   )
 
-  -- what is behind the last 20 bytes
+  -- the bytes before the last 20
   pub hashed_more : take (length (m ++ b) - 20) (m ++ b) ≡ take (length m - 20) m
       ++ take (length (drop (length m - 20) m ++ b) - 20) (drop (length m - 20) m ++ b)
   unfolding before after whole count

@@ -1,4 +1,4 @@
--- What a whole pack is: a header, entries, and the SHA-1 of both (gitformat-pack, "pack-*.pack files have the following format").
+-- A whole pack: a header, entries, and the SHA-1 of both (gitformat-pack, "pack-*.pack files have the following format").
 use Rattle.std.specs.Prelude.{ℕ, ◌-◌, ◌^◌, ◌==◌, ◌||◌, Bool, if◌then◌else◌, nat_lt, min, List, length, take, drop, codes, Result, Ok, Err}
 use Rattle.std.specs.Int.{w32, from_be_bytes}
 use Rattle.std.specs.Str.{bytes_eq}
@@ -7,15 +7,15 @@ use Rattle.gixp_pack.specs.declared.check.PackSummary.{PackSummary}
 use Rattle.gixp_pack.specs.declared.check.PackError.{PackError}
 use Rattle.gixp_pack.specs.declared.check.PackError.TheVariants.{Short, Signature, Version, Checksum}
 
--- the number in the four bytes from this place on, the highest first
+-- the big-endian number in the four bytes from this offset on
 abbrev pub word_at : ℕ → List ℕ → ℕ
 word_at at bytes = from_be_bytes w32 (take 4 (drop at bytes))
 
--- the number of objects after a version, which is 2 or 3
+-- the number of objects, for version 2 or 3
 abbrev pub objects_in : (version count : ℕ) → Result ℕ PackError
 objects_in version count = if version == 2 || version == 3 then Ok count else Err (Version version)
 
--- the number of objects that a header of 12 bytes announces: `PACK`, the version and the number
+-- the number of objects in a header of 12 bytes: `PACK`, the version and the number
 abbrev pub objects_of : List ℕ → Result ℕ PackError
 objects_of header =
     if nat_lt (length header) 12 then Err Short
@@ -26,12 +26,12 @@ objects_of header =
 abbrev pub has_trailer : List ℕ → Bool
 has_trailer bytes = bytes_eq (sha1 (take (length bytes - 20) bytes)) (drop (length bytes - 20) bytes)
 
--- what is told of a pack with this many objects, where its trailer holds
+-- the summary of a pack with this many objects, if its trailer is right
 abbrev pub sealed : List ℕ → Result ℕ PackError → Result PackSummary PackError
 sealed bytes (Err e) = Err e
 sealed bytes (Ok objects) = if has_trailer bytes then Ok (record { bytes = min (length bytes) (2 ^ 64 - 1); objects = objects })
     else Err Checksum
 
--- what is told of these bytes as a pack, or why they are none
+-- the summary of these bytes as a pack, or their fault
 abbrev pub pack_of : List ℕ → Result PackSummary PackError
 pack_of bytes = if nat_lt (length bytes) 32 then Err Short else sealed bytes (objects_of (take 12 bytes))

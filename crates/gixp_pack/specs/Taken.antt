@@ -1,4 +1,4 @@
--- What is kept of a pack that is checked piece by piece.
+-- The state of a pack that is checked piece by piece.
 use Rattle.std.specs.Prelude.{◌≡◌, ℕ, ◌-◌, ◌^◌, min, List, length, take, drop}
 use Rattle.sha1.specs.Sha1.{Holds}
 use Rattle.gixp_pack.specs.declared.check.PackCheck.{PackCheck}

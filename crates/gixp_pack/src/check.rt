@@ -16,19 +16,19 @@ const TRAILER_LEN: usize = 20;
 
 const SIGNATURE: &[u8] = b"PACK";
 
-/// What a whole pack says of itself.
+/// The summary of a whole pack.
 #[derive(Clone, Copy, Debug, PartialEq, Eq)]
 pub struct PackSummary {
-    /// Its length in bytes, header and trailer included, or 2^64 - 1 of more.
+    /// The length in bytes, with header and trailer, or 2^64 - 1 if it is greater.
     pub bytes: u64,
-    /// How many objects its header announces.
+    /// The number of objects in the header.
     pub objects: u32,
 }
 
-/// Why bytes are no whole pack.
+/// The fault of bytes that aren't a whole pack.
 #[derive(Clone, Copy, Debug, PartialEq, Eq, Error)]
 pub enum PackError {
-    /// There are fewer than a header and a trailer take.
+    /// There are fewer bytes than a header and a trailer have.
     #[error("it ends early")]
     Short,
     /// It doesn't begin with `PACK`.
@@ -45,17 +45,17 @@ pub enum PackError {
 /// A pack that is checked piece by piece: `new`, `take` of each piece, and `finish`.
 #[derive(Drop)]
 pub struct PackCheck {
-    // Of all bytes but the last 20.
+    // The hash of all bytes except the last 20.
     hasher: Sha1,
-    // The first 12.
+    // The first 12 bytes.
     header: Vec<u8>,
-    // The last 20, which may be the trailer.
+    // The last 20 bytes, which may be the trailer.
     last: Vec<u8>,
     bytes: u64,
 }
 
 impl PackCheck {
-    /// Before the first piece. It allocates nothing.
+    /// A check without any bytes. It allocates nothing.
     pub fn new(alloc: Global) -> PackCheck
         ensures { HasTaken result [] }
     {
@@ -71,7 +71,7 @@ impl PackCheck {
     ///
     /// # Errors
     ///
-    /// An allocation failed. Nothing is taken then.
+    /// Only when an allocation fails. Then nothing is taken.
     pub fn take(&mut self, piece: &[u8]) -> Result<(), AllocError>
         ensures taken { OnOk result ((m : List ℕ) → HasTaken self.old m → HasTaken self.new (m ++ piece.now)) }
         ensures failed { OnErr result (self.new ≡ self.old) }
@@ -88,11 +88,11 @@ impl PackCheck {
         Ok(())
     }
 
-    /// What the pack that was taken says of itself.
+    /// Returns the summary of the pack.
     ///
     /// # Errors
     ///
-    /// The first reason for which the bytes are no whole pack, in the order of the variants.
+    /// The first fault of the bytes, in the order of the variants.
     pub fn finish(self) -> Result<PackSummary, PackError>
         ensures { (m : List ℕ) → HasTaken self m → result ≡ pack_of m }
     {
@@ -113,7 +113,6 @@ impl PackCheck {
     }
 }
 
-// Two pieces as one.
 fn joined(alloc: Global, first: &[u8], second: &[u8]) -> Result<Vec<u8>, AllocError>
     ensures { IfOk result (λ all. all.items ≡ first.now ++ second.now) }
 {
@@ -122,7 +121,7 @@ fn joined(alloc: Global, first: &[u8], second: &[u8]) -> Result<Vec<u8>, AllocEr
     Ok(all)
 }
 
-// The header, as far as it has come with the next piece.
+// The header with as many bytes of the piece as it lacks.
 fn begun(alloc: Global, header: &[u8], piece: &[u8]) -> Result<Vec<u8>, AllocError>
     ensures { IfOk result (λ more. more.items ≡ header.now ++ take (12 - length header.now) piece.now) }
 {
@@ -130,14 +129,13 @@ fn begun(alloc: Global, header: &[u8], piece: &[u8]) -> Result<Vec<u8>, AllocErr
     joined(alloc, header, &piece[..missing.min(piece.len())])
 }
 
-// Whether two texts are the same.
 fn is_same(a: &[u8], b: &[u8]) -> bool
     ensures { result ≡ bytes_eq a.now b.now }
 {
     a == b
 }
 
-// The number in the four bytes from this place on, the highest first.
+// The big-endian number in the four bytes from this offset on.
 fn word_at(bytes: &[u8], at: usize) -> u32
     requires { at + 4 ≤ length bytes.now }
     ensures { result ≡ from_be_bytes w32 (take 4 (drop at bytes.now)) }
@@ -145,7 +143,7 @@ fn word_at(bytes: &[u8], at: usize) -> u32
     u32::from_be_bytes([bytes[at], bytes[at + 1], bytes[at + 2], bytes[at + 3]])
 }
 
-// How many objects a header announces.
+// The number of objects in a header.
 fn objects_of(header: &[u8]) -> Result<u32, PackError>
     ensures { result ≡ objects_of header.now }
 {

@@ -1,4 +1,4 @@
-//! Whether the bytes of a stream are a whole pack, as they come (gitformat-pack).
+//! Checks whether the bytes of a stream are a whole pack, piece by piece (gitformat-pack).
 #![tactic(auto)]
 
 mod check;

@@ -1,4 +1,4 @@
--- What the frame at the front says of the pieces to come.
+-- What the packet line at the front means for the packet lines to come.
 use Rattle.std.proofs.Common.{◌≡◌, ℕ, ◌≤◌, ◌⊎◌, inl, inr, Bool, true, false, cond, List, [], ◌∷◌, ◌++◌, length, take, drop, refl, sym, ap, subst, ◌∙◌, arith, Option, Some, None, IfSome, is_some, append-nil, length-drop}
 use Rattle.std.specs.Option.{option_map}
 use Rattle.std.specs.Prelude.{slice_range}
@@ -28,15 +28,15 @@ pub none_of : (o : Option MessageKind) → false ≡ is_some o → o ≡ None
 none_of None h = refl
 none_of (Some x) h = cc
 
--- the payload of a frame as the code slices it
+-- the payload of a packet line, as the code slices it
 pub payload_is : (bytes shown : List ℕ) (size : ℕ) → 4 ≤ size → shown ≡ bytes → slice_range shown 4 size ≡ drop 4 (take size bytes)
 payload_is bytes shown size le e = rw e (sym (drop-take_sub 4 size bytes le))
 
--- the bytes to come are those pending and others
+-- the bytes to come: the pending ones, and then the rest of the reader
 abbrev pub bytes_known : Bool → List ℕ → Option (List ℕ) → Option (List ℕ)
 bytes_known ended bytes rest = cond ended (Some bytes) (prepend_known bytes rest)
 
--- the pieces to come, by what stands at the front of the pending bytes
+-- the packet lines to come, by the head of the first one
 pub pieces_front : (bytes more : List ℕ) (h : Head) → head_of bytes ≡ h → (h ≡ Partial → ⊥)
     → stream_pieces (bytes ++ more) ≡ pieces_by h (bytes ++ more)
 pieces_front bytes more h e whole =
@@ -46,7 +46,6 @@ pieces_front bytes more h e whole =
 pub front_fits : (bytes : List ℕ) (h : Head) → head_of bytes ≡ h → FitsFront (length bytes) h
 front_fits bytes h e = subst (FitsFront (length bytes)) e (head_fits bytes)
 
--- a line at the front
 line_front : (v : Protocol) (bytes more : List ℕ) (size : ℕ) → head_of bytes ≡ Data size → is_error (drop 4 (take size bytes)) ≡ false
     → next_of v (stream_pieces (bytes ++ more)) ≡ gives (drop 4 (take size bytes)) (stream_pieces (drop size bytes ++ more))
 line_front v bytes more size e plain =
@@ -59,14 +58,13 @@ line_front v bytes more size e plain =
     step ∙ (rw (t, d, plain) refl) in
     ap (next_of v) whole
 
--- a special frame at the front
 mark_front : (bytes more : List ℕ) (kind : MessageKind) → head_of bytes ≡ Special kind
     → stream_pieces (bytes ++ more) ≡ with_piece (mark kind) (stream_pieces (drop 4 bytes ++ more))
 mark_front bytes more kind e =
     let le : 4 ≤ length bytes = front_fits bytes (Special kind) e in
     pieces_front bytes more (Special kind) e (λ p. cc) ∙ (rw (drop-append-le 4 bytes more le) refl)
 
--- an error of the server at the front
+-- an `ERR ` line at the front
 error_front : (bytes more : List ℕ) (size : ℕ) → head_of bytes ≡ Data size → is_error (drop 4 (take size bytes)) ≡ true
     → stream_pieces (bytes ++ more) ≡ no_pieces (server (error_message (drop 4 (take size bytes))))
 error_front bytes more size e bad =
@@ -77,7 +75,7 @@ error_front bytes more size e bad =
 bad_front : (bytes more : List ℕ) (x : PacketError) → head_of bytes ≡ Bad x → stream_pieces (bytes ++ more) ≡ no_pieces (decode x)
 bad_front bytes more x e = pieces_front bytes more (Bad x) e (λ p. cc)
 
--- the bytes lose their first n where only pending ones go
+-- the bytes to come lose their first n bytes when the pending bytes do
 known_lose : (ended : Bool) (bytes : List ℕ) (rest : Option (List ℕ))
     → IfSome (bytes_known ended bytes rest) (λ xs. (more : List ℕ) × (xs ≡ bytes ++ more)
     × ((after : List ℕ) → bytes_known ended after rest ≡ Some (after ++ more)))
@@ -85,7 +83,7 @@ known_lose true bytes rest = ([], sym (append-nil bytes), λ after. ap Some (sym
 known_lose false bytes None = tt
 known_lose false bytes (Some ys) = (ys, refl, λ after. refl)
 
--- from bytes that were kept to what comes next in them
+-- bytes that were kept have the same next line, stop or error
 next_kept : (a b : Option (List ℕ)) (c : Option Pieces) (v w : Protocol) (N : Pieces → Next) → w ≡ v → Keeps a b
     → IfSome b (λ xs. (q : Pieces) × (c ≡ Some q) × (next_of w (stream_pieces xs) ≡ N q))
     → IfSome (option_map stream_pieces a) (λ p. (q : Pieces) × (c ≡ Some q) × (next_of v p ≡ N q))
@@ -141,7 +139,7 @@ stop_known ended bytes rest v kind e stopping = at (bytes_known ended bytes rest
       rw (h.1, mark_front bytes h.0 kind e, stopping) refl,
     )
 
--- a refusal at the front, whatever follows
+-- an error at the front, whatever follows it
 refusal_known : (ended : Bool) (bytes : List ℕ) (rest : Option (List ℕ)) (v : Protocol) (x : Refusal)
     → ((more : List ℕ) → stream_pieces (bytes ++ more) ≡ no_pieces x)
     → IfSome (bytes_known ended bytes rest) (λ xs. (option_map stream_pieces (bytes_known ended bytes rest) ≡ Some (no_pieces x))
@@ -179,7 +177,7 @@ if_same : (o : Option Refusal) → IfSome o (λ y. o ≡ Some y)
 if_same None = tt
 if_same (Some x) = refl
 
--- a read that failed is a fault
+-- an I/O error is transient
 io_fault : (old new : Reading) (e : Error) → IsIo e → old.refused ≡ None → Rose old.failures new.failures → IsFault old new (refusal_of e)
 io_fault old new (Io kind) h n r = (h, n, r)
 io_fault old new (Decode x) h n r = absurd h
@@ -223,7 +221,7 @@ module _ {R : Type 0} where
   open_stand : (p : Packets R) → head_of p.window.pending ≡ Partial → p.ended ≡ false → stand p ≡ None
   open_stand p h e = rw (h, e) refl
 
-  -- what stood before stands still
+  -- an error that was at the front is still there
   stood : (old new : Packets R) → (new ≡ old) ⊎ ((head_of old.window.pending ≡ Partial) × (old.ended ≡ false)) → (stand old ≡ stand new)
       ⊎ (stand old ≡ None)
   stood old new (inl e) = inl (sym (ap stand e))
@@ -250,7 +248,7 @@ module _ {R : Type 0} where
   special_stand : (p : Packets R) (kind : MessageKind) → head_of p.window.pending ≡ Special kind → stand p ≡ None
   special_stand p kind h = rw h refl
 
-  -- before a frame no line is peeked at
+  -- before a packet line no line is peeked at
   open_left : (p : Packets R) → p.place ≡ Open → lines_left p ≡ bytes_left p
   open_left p op = rw op (omega arith)
 
@@ -324,7 +322,7 @@ module _ {R : Type 0} where
         held = refl;
       }
 
-  -- a refusal that stands at the front of what was kept
+  -- an error at the front of the bytes that were kept
   refuses_in : (rem : R → Option (List ℕ)) (old mid : Packets R) (x : Refusal) → Kept rem old mid → mid.failures ≡ old.failures
       → old.place ≡ Open → IsLasting x → stand mid ≡ Some x → (stand old ≡ stand mid) ⊎ (stand old ≡ None)
       → IfSome (known rem mid) (λ xs. (option_map stream_pieces (known rem mid) ≡ Some (no_pieces x))
@@ -371,7 +369,6 @@ module _ {R : Type 0} where
       (refusal_known mid.ended mid.window.pending (rem mid.reader) old.version _
       (λ more. error_front mid.window.pending more size front wrong))
 
-  -- nothing was lost
   stays_in : (rem : R → Option (List ℕ)) (old mid : Packets R) → Kept rem old mid → old.place ≡ Open
       → (stand old ≡ stand mid) ⊎ (stand old ≡ None) → Stays (packets_reading rem old) (packets_reading rem mid)
   stays_in rem old mid k op was =
@@ -392,13 +389,13 @@ module _ {R : Type 0} where
         held = refl;
       }
 
-  -- memory ran out for the text of an error
+  -- an allocation failed for the text of an `ERR ` line
   pub faults_memory : (rem : R → Option (List ℕ)) (old mid : Packets R) (head : Head) → Settled rem old mid head → old.place ≡ Open
       → Faults (packets_reading rem old) (packets_reading rem mid) memory
   faults_memory rem old mid head h op =
       record { running = ap place_stop op; fault = h.failures; stays = stays_in rem old mid h.kept op (stood old mid h.moved) }
 
-  -- memory ran out for the text of an error alone
+  -- a plain reader allocates only for the text of an `ERR ` line
   pub plain_error : (rem : R → Option (List ℕ)) (old mid : Packets R) (size : ℕ) (e : Error) → Settled rem old mid (Data size)
       → old.place ≡ Open
       → is_error (drop 4 (take size mid.window.pending)) ≡ true
@@ -411,7 +408,7 @@ module _ {R : Type 0} where
       subst (IsPlain (packets_reading rem mid)) (sym (ap refusal_of m))
       (error_message (drop 4 (take size mid.window.pending)), refused-is rem mid (h.kept.place ∙ op) ∙ now)
 
-  -- the read failed as at the end, and so the stream ends
+  -- a read failed with `UnexpectedEof`, so the stream ends
   breaks_off : (rem : R → Option (List ℕ)) (old mid : Packets R) (e : Error) → SettledBreak old mid e → old.place ≡ Open
       → BreaksOff (packets_reading rem old) (packets_reading rem mid) (refusal_of e)
   breaks_off rem old mid e h op =
@@ -466,7 +463,7 @@ module _ {R : Type 0} where
       }))
   fails_settling rem old mid e (inr (inr h)) op = inr (inr (breaks_off rem old mid e h op))
 
-  -- after a frame that has no place
+  -- after an unexpected packet
   abbrev pub refused_frame : Packets R → Packets R
   refused_frame p = record p { place = Refused }
 
@@ -503,7 +500,7 @@ module _ {R : Type 0} where
         held = refl;
       }
 
-  -- to peek is to take and to put back
+  -- to peek at a line is to take it and put it back
   pub peeks_line : (rem : R → Option (List ℕ)) (old new : Packets R) → TakesLine (packets_reading rem old) (packets_reading rem new)
       → new.place ≡ Open
       → ShowsLine (packets_reading rem old) (packets_reading rem (peeked_at new))
@@ -527,7 +524,6 @@ module _ {R : Type 0} where
         held = h.held;
       }
 
-  -- to peek again changes nothing
   pub peeks_again : (rem : R → Option (List ℕ)) (p : Packets R) → p.place ≡ Peeked
       → ShowsLine (packets_reading rem p) (packets_reading rem p)
   peeks_again rem p at =

@@ -1,4 +1,4 @@
--- What it does to packets that a read was made and noted.
+-- The state of `Packets` after a read was made and recorded.
 use Rattle.std.proofs.Common.{◌≡◌, ℕ, ◌+◌, ◌-◌, ◌<◌, inl, inr, Bool, true, false, List, ◌++◌, length, ◌≤◌, zero, suc, refl, sym, ap, subst, ◌∙◌, arith, rules, Option, Result, Ok, Err, take, drop, length-append, length-drop}
 use Rattle.std.proofs.lemmas.List.{length-take-le}
 use Rattle.std.specs.declared.io.ErrorKind.{ErrorKind}
@@ -18,7 +18,7 @@ end_kind : (kind : ErrorKind) → is_end kind ≡ true → kind ≡ UnexpectedEo
 end_kind kind h = search rules
 
 module _ {R : Type 0} where
-  -- one read is spent, and it changed the window and the reader
+  -- one read was used; it changed the window and the reader
   abbrev pub read_by : Packets R → Shown → R → Packets R
   read_by old w rd = record old { reads_left = old.reads_left - 1; window = w; reader = rd }
 
@@ -124,7 +124,7 @@ module _ {R : Type 0} where
           ap (λ (b : Bool). record (read_by old w rd) { ended = b }) (sym going) in
           subst (F new) (sym at.0) (subst P (shut ∙ sym at.1) filled)
 
-  -- the same, after a read that was spent
+  -- the same, where the result was recorded
   pub fills_noted : (rem : R → Option (List ℕ)) (old spent new : Packets R) (w : Shown) (rd : R) (got : Result ℕ ErrorKind)
       (r : Result (Unit {0}) Error) → spent ≡ record old { reads_left = old.reads_left - 1 } → 0 < old.reads_left
       → head_of old.window.pending ≡ Partial → old.ended ≡ false
@@ -135,7 +135,7 @@ module _ {R : Type 0} where
       let B : Packets R → Type 0 = λ s. NotesRead (record s { window = w; reader = rd }) new got r in
       noted rem old new w rd got r some front going (subst A e read) (subst B e h)
 
-  -- one read is spent, whatever it gave
+  -- one read was used, whatever it returned
   pub counts_noted : (old spent new : Packets R) (w : Shown) (rd : R) (got : Result ℕ ErrorKind) (r : Result (Unit {0}) Error)
       → spent ≡ record old { reads_left = old.reads_left - 1 }
       → NotesRead (record spent { window = w; reader = rd }) new got r → 0 < old.reads_left → old.reads_left ≡ new.reads_left + 1
@@ -152,7 +152,7 @@ module _ {R : Type 0} where
           by zero q = ap (λ (p : Packets R). p.reads_left) (k.0 q).1
           by (suc m) q = ap (λ (p : Packets R). p.reads_left) (k.1 (omega arith)).1
 
--- a line of this size that was taken from the front
+-- a line of this size was taken from the front
 pub line_spent : (size reads before : ℕ) (xs ys lent : List ℕ) → 4 ≤ size → size ≤ length xs → lent ≡ drop 4 (take size xs)
     → ys ≡ drop size xs → before ≤ reads + length xs → before ≤ reads + length ys + 4 + length lent
 line_spent size reads before xs ys lent four fits e h le =

@@ -1,4 +1,4 @@
--- What the front of some bytes says of their frames.
+-- What the front of some bytes says about their packet lines.
 use Rattle.std.proofs.Common.{◌≡◌, ℕ, zero, suc, ◌<◌, ◌≤◌, Bool, true, false, cond, nat_lt, nat_eq, List, [], ◌∷◌, ◌++◌, length, take, drop, Option, Some, None, refl, ap, ◌∙◌, arith, eq-eqb, length-append, length-drop}
 use Rattle.std.proofs.lemmas.Bool.{ltb-true, ltb-false, false_from_ne_true}
 use Rattle.std.proofs.lemmas.List.{take-append-le}
@@ -7,7 +7,7 @@ use Rattle.gixp_packetline.specs.declared.packet.Head.TheVariants.{Partial, Bad,
 use Rattle.gixp_packetline.specs.Frames.{size_of, frame_head, head_of, FitsFront, Frames, with_frame, payload, special, frames_by, frames_within, frames_of}
 use Rattle.gixp_packetline.specs.Pieces.{pieces_of, stream_pieces, pieces_by}
 
--- by the answer of a test
+-- by cases of a test
 pub by_test : (P : Head → Type 0) (b : Bool) (x y : Head) → (b ≡ true → P x) → (b ≡ false → P y) → P (cond b x y)
 by_test P true x y f g = f refl
 by_test P false x y f g = g refl
@@ -33,7 +33,7 @@ frame_fits (Some size) n h =
     let b = ltb-false 65520 size big in let w = ltb-false n size whole in
     (omega arith, w, b))))))))
 
--- what stands at the front fits
+-- the packet line at the front fits
 pub head_fits : (bytes : List ℕ) → FitsFront (length bytes) (head_of bytes)
 head_fits bytes = by_test (FitsFront (length bytes)) (nat_lt (length bytes) 4) _ _
     (λ short. let a = ltb-true (length bytes) 4 short in omega arith)
@@ -63,7 +63,7 @@ frame_more (Some size) n m le h =
     keep (nat_eq size 4) _ _ _ (
     keep (nat_lt 65520 size) _ _ _ (last_more n m size le)))))) h
 
--- a whole frame stays what it is, whatever follows
+-- the head of a whole packet line stays the same, whatever follows
 pub head_more : (bytes more : List ℕ) → (head_of bytes ≡ Partial → ⊥) → head_of (bytes ++ more) ≡ head_of bytes
 head_more bytes more h = at (nat_lt (length bytes) 4) refl
   where
@@ -79,7 +79,7 @@ head_more bytes more h = at (nat_lt (length bytes) 4) refl
         let grows : length bytes ≤ length (bytes ++ more) = omega (arith, length-append bytes more) in
         rw (e, e2, same) (frame_more (size_of (take 4 bytes)) (length bytes) (length (bytes ++ more)) grows whole)
 
--- two ways to go on that agree on less
+-- two ways to split the rest that agree on shorter lists
 frames_agree : (h : Head) (bytes : List ℕ) (f g : List ℕ → Frames) → FitsFront (length bytes) h
     → ((rest : List ℕ) → length rest < length bytes → f rest ≡ g rest) → frames_by h bytes f ≡ frames_by h bytes g
 frames_agree Partial bytes f g fits same = refl
@@ -99,7 +99,7 @@ within_enough (suc n) (suc m) bytes a b =
     frames_agree (head_of bytes) bytes (frames_within n) (frames_within m) (head_fits bytes)
     (λ rest less. within_enough n m rest (omega arith) (omega arith))
 
--- the frames of a stream, by what stands at its front
+-- the packet lines of a stream, by the head of the first one
 pub frames_of-step : (bytes : List ℕ) → frames_of bytes ≡ frames_by (head_of bytes) bytes frames_of
 unfolding frames_of frames_within
 frames_of-step [] = refl
@@ -114,6 +114,6 @@ pieces_step (Bad e) bytes = refl
 pieces_step (Special kind) bytes = refl
 pieces_step (Data size) bytes = refl
 
--- the pieces of a stream, by what stands at its front
+-- the same, as lines and special packets
 pub stream_pieces-step : (bytes : List ℕ) → stream_pieces bytes ≡ pieces_by (head_of bytes) bytes
 stream_pieces-step bytes = ap pieces_of (frames_of-step bytes) ∙ pieces_step (head_of bytes) bytes

@@ -1,4 +1,4 @@
--- The texts of frames read back as these frames.
+-- Packet lines that are written and read again are the same.
 use Rattle.std.proofs.Common.{ℕ, zero, suc, ◌+◌, ◌/◌, ◌%◌, ◌<◌, inl, List, [], ◌∷◌, length, Some, refl, ap, ◌∙◌, arith}
 use Rattle.hex.specs.Hex.{lower_digits, decode_pairs, IsBytes}
 use Rattle.hex.proofs.HexLemmas.{length-encode_with, decode_sized-encode_lower}

@@ -1,4 +1,4 @@
--- The frames of some bytes are those of the grammar, and no others are.
+-- The packet lines of some bytes match the grammar, and no others do.
 use Rattle.std.proofs.Common.{◌≡◌, ℕ, zero, suc, ◌+◌, ◌<◌, ◌≤◌, ◌⊎◌, inl, inr, true, false, nat_lt, nat_eq, List, [], ◌∷◌, ◌++◌, length, take, drop, Option, Some, None, refl, sym, ap, subst, ◌∙◌, arith, eqb-true, eq-eqb, length-drop, ne_eqb, append_assoc, take_all, length-append}
 use Rattle.std.proofs.lemmas.Bool.{ltb-true, ltb-false, lt-ltb, false_from_ne_true}
 use Rattle.std.proofs.lemmas.List.{take-append-drop, length-take-le, take-take, take-append-le, length-take}
@@ -13,7 +13,7 @@ use Rattle.gixp_packetline.specs.Frames.{size_of, frame_head, head_of, FitsFront
 use Rattle.gixp_packetline.specs.Grammar.{Counts, IsFrame, IsRefused, IsEnd, AreFrames}
 use Rattle.gixp_packetline.proofs.FrameLemmas.{by_test, head_fits, frames_of-step}
 
--- what the front says of the four digits, where there are as many
+-- what the head says about the four digits
 abbrev Says : List ℕ → ℕ → Head → Type 0
 Says digits n Partial = (k : ℕ) × (size_of digits ≡ Some k) × (4 < k) × (k ≤ 65520) × (n < k)
 Says digits n (Bad HexDecode) = size_of digits ≡ None
@@ -109,11 +109,11 @@ are_within (suc n) bytes h =
     subst (Are bytes) (sym (frames_of-step bytes))
     (are_by bytes (head_of bytes) (front_says bytes) (head_fits bytes) (λ rest less. are_within n rest (omega arith)))
 
--- the function meets the grammar
+-- the computed packet lines match the grammar
 pub are_frames : (bytes : List ℕ) → AreFrames bytes (frames_of bytes).list (frames_of bytes).end
 are_frames bytes = are_within (length bytes) bytes (omega arith)
 
--- ---- no other frames are
+-- ---- no other packet lines match the grammar
 
 lt_false : (a b : ℕ) → b ≤ a → nat_lt a b ≡ false
 lt_false a b h = false_from_ne_true (nat_lt a b) (λ t. let x = ltb-true a b t in absurd (omega arith))
@@ -207,7 +207,7 @@ end_front rest ended (inr h) =
     let size : size_of (take 4 rest) ≡ Some h.0 = h.1.1 in
     by_front rest Partial (rw (n0, size) (partial_head h.0 (length rest) h.2 h.3 h.4))
 
--- no other frames are those of the bytes
+-- packet lines that match the grammar are the computed ones
 pub only_frames : (fs : List Frame) (bytes : List ℕ) (end : End) → AreFrames bytes fs end
     → frames_of bytes ≡ record { list = fs; end = end }
 only_frames [] bytes end h = end_front bytes end h

@@ -6,18 +6,17 @@ use Rattle.gixp_packetline.specs.Pieces.{Refusal, unexpected_frame, Piece, line,
 use Rattle.gixp_packetline.specs.Items.{is_stop, plain, items_of, with_item, no_items, stop_item, first_lines, FirstLines}
 use Rattle.gixp_packetline.specs.Lines.{lines_from, no_lines, stop, refusal, as_first}
 
--- one more line in front
 abbrev with_line : List ℕ → FirstLines → FirstLines
 with_line text rest = record { lines = text ∷ rest.lines; ending = rest.ending }
 
--- at a mark both end, or both refuse
+-- at a special packet both end, or both fail
 at_mark : (v : Protocol) (b : Bool) (kind : MessageKind) (rest : Pieces)
     → as_first v (cond b (no_lines (stop kind rest)) (no_lines (refusal unexpected_frame)))
     ≡ first_lines (cond b (with_item (stop_item kind) (items_of v plain rest)) (no_items unexpected_frame))
 at_mark v true kind rest = refl
 at_mark v false kind rest = refl
 
--- the lines are those among the items before their first stop
+-- the lines are those among the items before the first stop
 pub lines_of_items : (v : Protocol) (list : List Piece) (end : Refusal)
     → as_first v (lines_from v list end) ≡ first_lines (items_of v plain (record { list = list; end = end }))
 lines_of_items v [] end = refl

@@ -1,4 +1,4 @@
--- The lines of a stream by what comes next.
+-- The lines of a stream, by what comes next.
 use Rattle.std.proofs.Common.{◌≡◌, ℕ, Bool, true, false, cond, List, [], ◌∷◌, refl}
 use Rattle.gixp_packetline.specs.declared.protocol.Protocol.{Protocol}
 use Rattle.gixp_packetline.specs.declared.protocol.MessageKind.{MessageKind}
@@ -7,7 +7,7 @@ use Rattle.gixp_packetline.specs.Items.{is_stop}
 use Rattle.gixp_packetline.specs.Lines.{gives, stops, refuses, next_from, stop, refusal, lines_from, lines_of, no_lines, before}
 use Rattle.gixp_packetline.proofs.RunLemmas.{mark_not_gives}
 
--- the lines begin with the one that comes next
+-- the lines begin with the next one
 pub gives_line : (v : Protocol) (list : List Piece) (end : Refusal) (text : List ℕ) (q : Pieces) → next_from v list end ≡ gives text q
     → lines_from v list end ≡ before (text ∷ []) (lines_of v q)
 gives_line v [] end text q h = cc
@@ -27,7 +27,7 @@ stop_or true kind k p q e h =
     rw (e1, e2) refl
 stop_or false kind k p q e h = cc
 
--- no line comes before the stop that comes next
+-- no line comes before a stop that is next
 pub stops_here : (v : Protocol) (list : List Piece) (end : Refusal) (kind : MessageKind) (q : Pieces) → next_from v list end ≡ stops kind q
     → lines_from v list end ≡ no_lines (stop kind q)
 stops_here v [] end kind q h = cc
@@ -41,7 +41,7 @@ refused_or false kind p e x h =
     let e1 : e ≡ x = cc in
     rw e1 refl
 
--- nor before the refusal that comes next
+-- no line comes before an error that is next
 pub refuses_here : (v : Protocol) (list : List Piece) (end : Refusal) (x : Refusal) → next_from v list end ≡ refuses x
     → lines_from v list end ≡ no_lines (refusal x)
 refuses_here v [] end x h =

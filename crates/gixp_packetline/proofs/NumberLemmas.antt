@@ -5,7 +5,7 @@ use Rattle.hex.proofs.Pairs.{decode_pairs-ok_pair, cons_byte}
 use Rattle.gixp_hash.proofs.DigitLemmas.{pair_reads}
 use Rattle.gixp_packetline.specs.Frames.{pair_number, size_of}
 
--- four digits that read make a number
+-- four hexadecimal digits make a number
 pub four_read : (s : List ℕ) (a b c d : ℕ) → length s ≡ 4 → hex_digit_value (slice_index s 0) ≡ Some a
     → hex_digit_value (slice_index s 1) ≡ Some b
     → hex_digit_value (slice_index s 2) ≡ Some c → hex_digit_value (slice_index s 3) ≡ Some d → a < 16 → b < 16 → c < 16 → d < 16

@@ -1,4 +1,4 @@
--- The packet line at the front, by what stands there.
+-- The packet line at the front, by its head.
 use Rattle.std.proofs.Common.{◌≡◌, ℕ, ◌+◌, ◌<◌, ◌≤◌, List, length, take, drop, sym, ◌∙◌, ap, subst, arith, length-drop}
 use Rattle.std.proofs.lemmas.List.{length-take-le}
 use Rattle.gixp_packetline.specs.declared.packet.Head.{Head}
@@ -11,7 +11,7 @@ by_head bytes h e = frames_of-step bytes ∙ ap (λ k. frames_by k bytes frames_
 pub fits_by : (bytes : List ℕ) (h : Head) → h ≡ head_of bytes → FitsFront (length bytes) h
 fits_by bytes h e = subst (FitsFront (length bytes)) (sym e) (head_fits bytes)
 
--- four digits and the payload are the frame
+-- the four digits and the payload are the whole packet line
 pub payload_size : (bytes text : List ℕ) (size : ℕ) → 4 < size → size ≤ length bytes → text ≡ drop 4 (take size bytes)
     → size ≡ 4 + length text
 payload_size bytes text size four fits e =

@@ -1,4 +1,4 @@
--- How the calls of a reader of lines make up a run.
+-- Several calls of a reader of lines.
 use Rattle.std.proofs.Common.{◌≡◌, ℕ, List, [], ◌∷◌, ◌++◌, Option, Some, None, IfSome, IsSome, refl, sym, ap, ◌∙◌, append_assoc, append-nil, inl, inr}
 use Rattle.gixp_packetline.specs.declared.protocol.MessageKind.{MessageKind}
 use Rattle.gixp_packetline.specs.Pieces.{Refusal, Pieces, no_pieces}
@@ -7,19 +7,19 @@ use Rattle.gixp_packetline.specs.Reading.{Reading, TakesLine, TakesStop, WasStop
 use Rattle.gixp_packetline.proofs.LineLemmas.{gives_line, stops_here, refuses_here}
 use Rattle.gixp_packetline.specs.Runs.{SoFar}
 
--- a reader that is at no stop gives the lines of its pieces
+-- a reader that is not at a stop returns the lines of its packet lines
 ahead_running : (r : Reading) (p : Pieces) → r.stopped ≡ None → lines_ahead r p ≡ lines_of r.version p
 ahead_running r p h = ap (λ s. lines_from_stop s r.version p) h
 
--- one at a stop gives none
+-- a reader at a stop returns no line
 ahead_stopped : (r : Reading) (p : Pieces) (kind : MessageKind) → r.stopped ≡ Some kind → lines_ahead r p ≡ no_lines (stop kind p)
 ahead_stopped r p kind h = ap (λ s. lines_from_stop s r.version p) h
 
--- what is known of known pieces and those after them
+-- a relation of the known packet lines before and after a call
 abbrev pub Known : Option Pieces → Option Pieces → (Pieces → Pieces → Type 0) → Type 0
 Known old new P = IfSome old (λ p. (q : Pieces) × (new ≡ Some q) × P p q)
 
--- two known steps are one
+-- two calls compose
 pub known_steps : (a b c : Option Pieces) (P Q R : Pieces → Pieces → Type 0) → ((p q r : Pieces) → P p q → Q q r → R p r)
     → Known a b P → Known b c Q → Known a c R
 known_steps None b c P Q R f h k = tt
@@ -28,7 +28,7 @@ known_steps (Some p) (Some q) c P Q R f h k =
     let e : q ≡ h.0 = let e = h.1 in cc in
     (k.0, k.1, f p q k.0 (rw e h.2) k.2)
 
--- pieces that stay are a step
+-- packet lines that are unchanged are related
 known_stays : (a b : Option Pieces) → IfSome a (λ p. b ≡ Some p) → Known a b (λ p q. q ≡ p)
 known_stays None b h = tt
 known_stays (Some p) b h = (p, h, refl)
@@ -37,7 +37,7 @@ start_next : (r : Reading) (o : Option Pieces) → Known o o (λ p q. lines_ahea
 start_next r None = tt
 start_next r (Some p) = (p, refl, refl)
 
--- before the first call nothing is read
+-- before the first call nothing was read
 pub so_far-start : (r : Reading) → SoFar r r []
 so_far-start r = record { next = start_next r r.to_come; stopped = refl; version = refl; failures = refl; held = refl }
 
@@ -45,7 +45,6 @@ append_before : (texts : List (List ℕ)) (text : List ℕ) (rest : Lines) → b
     ≡ before (texts ++ text ∷ []) rest
 append_before texts text rest = rw append_assoc refl
 
--- one more line
 pub so_far-line : (old mid new : Reading) (texts : List (List ℕ)) → SoFar old mid texts → TakesLine mid new
     → SoFar old new (texts ++ new.line ∷ [])
 so_far-line old mid new texts h k = let text = new.line in record {
@@ -65,7 +64,7 @@ so_far-line old mid new texts h k = let text = new.line in record {
   held = k.held ∙ h.held;
 }
 
--- lines before an ending after which nothing stands
+-- lines, and an end with no line before it
 before_none : (texts : List (List ℕ)) (ending : Ending) → before texts (no_lines ending) ≡ lines_to texts ending
 before_none texts ending = rw append-nil refl
 
@@ -132,7 +131,7 @@ refused_next old mid (Some p) (Some q) c texts e run h k =
     h.2 ∙ ap (λ x. before texts (lines_ahead mid x)) e1
     ∙ ap (before texts) (ahead_running mid q run ∙ refuses_here mid.version q.list q.end e k.1) ∙ before_none texts (refusal e)
 
--- a refusal that comes next ends the run
+-- an error that is next ends the run
 pub so_far-refuses : (old mid new : Reading) (texts : List (List ℕ)) (e : Refusal) → SoFar old mid texts → Refuses mid new e
     → IfSome old.to_come (λ p. lines_ahead old p ≡ lines_to texts (refusal e))
 so_far-refuses old mid new texts e h k = refused_next old mid old.to_come mid.to_come new.to_come texts e k.running h.next k.next

@@ -54,7 +54,7 @@ not_utf8-fails old new (inl h) = h.lasting
 not_utf8-fails old new (inr (inl h)) = h.fault
 not_utf8-fails old new (inr (inr h)) = absurd (let e = h.refusal in cc)
 
--- a call that was refused before it took a line appended nothing
+-- a call that failed before it took a line appended nothing
 pub fails-text : (old new : Reading) (e : Error) (before : List ℕ) → Fails old new (refusal_of e) → ReadsText old new before before (Err e)
 fails-text old new (Io kind) text h = (h, refl)
 fails-text old new (Decode x) text h = (h, refl)
@@ -65,7 +65,7 @@ fails-text old new (BadBand b) text h = (h, refl)
 fails-text old new Interrupted text h = (h, refl)
 fails-text old new Memory text h = (inl h, refl)
 
--- a plain reader that was refused
+-- an error of a plain reader
 pub plain-text : (plain : Bool) (old new : Reading) (e : Error) → (plain ≡ true → IsPlain new (refusal_of e))
     → PlainText {X = ℕ} plain old new (Err e)
 plain-text plain old new (Io kind) h = h

@@ -15,7 +15,7 @@ drop-take_sub n m xs h =
     let e : m ≡ n + (m - n) = omega arith in
     ap (λ k. drop n (take k xs)) e ∙ drop-take n (m - n) xs
 
--- what is left of a part
+-- the rest of a part
 pub range_skipped : (xs : List ℕ) (a b n : ℕ) → a ≤ b → b ≤ length xs → n ≤ length (slice_range xs a b)
     → slice_range xs (a + n) b ≡ drop n (slice_range xs a b)
 range_skipped xs a b n ab bl h =
@@ -24,7 +24,6 @@ range_skipped xs a b n ab bl h =
     let e : b - (a + n) ≡ b - a - n = omega arith in
     rw (e, ← drop-drop n a xs) (sym (drop-take_sub n (b - a) (drop a xs) le))
 
--- a part of a part
 pub range_part : (xs : List ℕ) (a b from n : ℕ) → a ≤ b → b ≤ length xs → from ≤ n → n ≤ length (slice_range xs a b)
     → slice_range xs (a + from) (a + n) ≡ drop from (take n (slice_range xs a b))
 range_part xs a b from n ab bl fn h =
@@ -36,7 +35,7 @@ range_part xs a b from n ab bl fn h =
 pub range_within : (xs : List ℕ) (a b n : ℕ) → b ≤ length xs → n ≤ length (slice_range xs a b) → n ≤ b - a
 range_within xs a b n bl h = let len = length_range xs a b bl in omega arith
 
--- a copy to the front begins with what was copied
+-- a copy to the front begins with the copied bytes
 copied_front : (xs before : List ℕ) (a n : ℕ) → n ≤ length (drop a xs) → before ≡ copy_within xs a (a + n) 0
     → take n before ≡ take n (drop a xs)
 copied_front xs before a n fits moved =
@@ -46,7 +45,7 @@ copied_front xs before a n fits moved =
     let z : 0 + n ≡ n = omega arith in
     ap (take n) same ∙ ap (λ k. take k (paste xs 0 (drop a xs) n)) (sym z) ∙ take-paste xs 0 (drop a xs) n none fits
 
--- what a read put after the pending bytes
+-- the bytes that a read put after the pending ones
 pub received : (old new : Option (List ℕ)) (xs before after pending : List ℕ) (a b n : ℕ) → a ≤ b → b ≤ length xs → length after ≡ 65520
     → take (b - a) before ≡ slice_range xs a b → take (b - a) after ≡ take (b - a) before → pending ≡ slice_range xs a b
     → (b - a + n ≤ length after) → Consumes old new (take n (drop (b - a) after)) → (n ≡ 0 → b - a < length after → IsAtEnd new)
@@ -62,7 +61,7 @@ received old new xs before after pending a b n ab bl cap moved front is fits tak
     let count : length got ≡ n = length-take-le n (drop (b - a) after) (let e = length-drop (b - a) after in omega arith) in
     (got, whole, count, takes, λ z. end z (omega arith), (let e = ap length whole in let f = length-append pending got in omega arith))
 
--- a part that was copied to the front stands there
+-- the buffer begins with the part that was copied to the front
 pub moved_front : (xs before : List ℕ) (a b : ℕ) → a ≤ b → b ≤ length xs → before ≡ copy_within xs a b 0
     → take (b - a) before ≡ slice_range xs a b
 moved_front xs before a b ab bl moved =

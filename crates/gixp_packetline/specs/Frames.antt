@@ -1,4 +1,4 @@
--- Frames of a list of bytes.
+-- The packet lines of a list of bytes. A `Frame` is a packet line.
 use Rattle.std.specs.Prelude.{ℕ, zero, suc, ◌+◌, ◌*◌, ◌<◌, ◌≤◌, ◌==◌, nat_lt, if◌then◌else◌, List, [], ◌∷◌, length, take, drop, Option, Some, None, Result, Ok}
 use Rattle.hex.specs.Hex.{decode_sized}
 use Rattle.hex.specs.declared.error.FromHexError.{FromHexError}
@@ -9,16 +9,16 @@ use Rattle.gixp_packetline.specs.declared.protocol.MessageKind.TheVariants.{Flus
 use Rattle.gixp_packetline.specs.declared.packet.Head.{Head}
 use Rattle.gixp_packetline.specs.declared.packet.Head.TheVariants.{Partial, Bad, Special, Data}
 
--- the number of two bytes, the high one first
+-- the number of two bytes, the high byte first
 abbrev pub pair_number : Result (List ℕ) FromHexError → Option ℕ
 pair_number (Ok (high ∷ low ∷ [])) = Some (high * 256 + low)
 pair_number _ = None
 
--- the number of four hexadecimal digits of either case
+-- the number that four hexadecimal digits of either case make
 abbrev pub size_of : List ℕ → Option ℕ
 size_of digits = pair_number (decode_sized digits 2)
 
--- what a frame of this many bytes is, at the front of so many
+-- which packet line begins with this length, where n bytes were read
 abbrev pub frame_head : Option ℕ → ℕ → Head
 frame_head None n = Bad HexDecode
 frame_head (Some size) n =
@@ -34,24 +34,24 @@ frame_head (Some size) n =
 abbrev pub head_of : List ℕ → Head
 head_of bytes = if nat_lt (length bytes) 4 then Partial else frame_head (size_of (take 4 bytes)) (length bytes)
 
--- what stands at the front fits there
+-- the head of the first packet line fits a list of n bytes
 abbrev pub FitsFront : ℕ → Head → Type 0
 FitsFront n Partial = n < 65520
 FitsFront n (Bad e) = 4 ≤ n
 FitsFront n (Special kind) = 4 ≤ n
 FitsFront n (Data size) = (4 < size) × (size ≤ n) × (size ≤ 65520)
 
--- a frame of the stream
+-- a packet line: a data packet with its payload, or a flush, delimiter or response-end packet
 pub data Frame : Type 0 where
   payload : List ℕ → Frame
   special : MessageKind → Frame
 
--- what comes after the whole frames: less than a frame, or what no frame begins with
+-- the bytes after the last whole packet line: part of a packet line, or four bytes that begin none
 pub data End : Type 0 where
   ended : End
   bad : PacketError → End
 
--- the whole frames at the front of some bytes, and their end
+-- the whole packet lines at the front of a list of bytes, and the end after them
 pub record Frames : Type 0 where
   pub list : List Frame
   pub end : End
@@ -62,18 +62,18 @@ no_frames end = record { list = []; end = end }
 abbrev pub with_frame : Frame → Frames → Frames
 with_frame f fs = record { list = f ∷ fs.list; end = fs.end }
 
--- by what stands at the front
+-- the packet lines of these bytes, by the head of the first one
 abbrev pub frames_by : Head → List ℕ → (List ℕ → Frames) → Frames
 frames_by Partial bytes rest = no_frames ended
 frames_by (Bad e) bytes rest = no_frames (bad e)
 frames_by (Special kind) bytes rest = with_frame (special kind) (rest (drop 4 bytes))
 frames_by (Data size) bytes rest = with_frame (payload (drop 4 (take size bytes))) (rest (drop size bytes))
 
--- at most n frames
+-- at most n packet lines
 unfoldable pub frames_within : ℕ → List ℕ → Frames
 frames_within zero bytes = no_frames ended
 frames_within (suc n) bytes = frames_by (head_of bytes) bytes (frames_within n)
 
--- the whole frames at the front, which are no more than the bytes
+-- the whole packet lines at the front; a list of n bytes has at most n
 unfoldable pub frames_of : List ℕ → Frames
 frames_of bytes = frames_within (length bytes) bytes

@@ -8,42 +8,42 @@ use Rattle.gixp_packetline.specs.declared.protocol.MessageKind.{MessageKind}
 use Rattle.gixp_packetline.specs.declared.protocol.MessageKind.TheVariants.{Flush, Delimiter}
 use Rattle.gixp_packetline.specs.Pieces.{Refusal, unexpected_frame, bad_band, Piece, line, mark, Pieces}
 
--- whether a payload is read as it is, or by the band that its first byte names
+-- whether a payload is read whole, or by the sideband that its first byte names
 pub data Banding : Type 0 where
   plain : Banding
   banded : Banding
 
--- what a frame is to a reader; a text is of progress, or of an error where it is marked so
+-- what a packet line means to a reader: a line, a text of band 2 or 3 (the latter is an error), or a stop
 pub data Item : Type 0 where
   line_item : List ℕ → Item
   text_item : (is_error : Bool) → List ℕ → Item
   stop_item : MessageKind → Item
 
--- the items of a stream up to the first refusal, and that refusal
+-- the items of a stream up to its first error, and that error
 pub record Items : Type 0 where
   pub list : List Item
   pub end : Refusal
 
--- nothing but the refusal
+-- no item before the error
 abbrev pub no_items : Refusal → Items
 no_items e = record { list = []; end = e }
 
--- one more item in front
+-- one more item at the front
 abbrev pub with_item : Item → Items → Items
 with_item i rest = record { list = i ∷ rest.list; end = rest.end }
 
--- the frames at which a reader of this version stops
+-- the packets that stop a reader: a flush packet, and under version 2 a delimiter packet too
 abbrev pub is_stop : Protocol → MessageKind → Bool
 is_stop version Flush = true
 is_stop V2 Delimiter = true
 is_stop _ _ = false
 
--- an empty text gives no item
+-- an empty text is no item
 abbrev pub unless_empty : (List ℕ → Item) → List ℕ → Option Item
 unless_empty item [] = None
 unless_empty item (x ∷ xs) = Some (item (x ∷ xs))
 
--- a payload by its first byte: content, progress, an error's text, or a band that there isn't
+-- a payload by its first byte: band 1 is content, band 2 progress, band 3 an error text; any other is an error
 abbrev pub by_band : ℕ → List ℕ → Result (Option Item) Refusal
 by_band band text =
     if band == 1 then Ok (unless_empty line_item text)
@@ -51,30 +51,30 @@ by_band band text =
     else if band == 3 then Ok (unless_empty (text_item true) (strip_last 10 text))
     else Err (bad_band band)
 
--- what a payload adds, or why it is refused
+-- the item of a payload, if it has one, or the error of its band
 abbrev pub item_of : Banding → List ℕ → Result (Option Item) Refusal
 item_of plain text = Ok (Some (line_item text))
 item_of banded [] = Ok None
 item_of banded (band ∷ text) = by_band band text
 
--- a refusal ends the list
+-- the items after a payload; an error ends them
 abbrev pub with_found : Result (Option Item) Refusal → Items → Items
 with_found (Ok None) rest = rest
 with_found (Ok (Some i)) rest = with_item i rest
 with_found (Err e) rest = no_items e
 
--- each payload is its item, each stop one too, and any other special frame is refused
+-- each payload and each stop is an item; a special packet that is not a stop is an error
 abbrev pub items_from : Protocol → Banding → List Piece → Refusal → Items
 items_from version band [] end = no_items end
 items_from version band (line text ∷ ps) end = with_found (item_of band text) (items_from version band ps end)
 items_from version band (mark kind ∷ ps) end =
     if is_stop version kind then with_item (stop_item kind) (items_from version band ps end) else no_items unexpected_frame
 
--- the items of a stream's pieces
+-- the items of the packet lines of a stream
 abbrev pub items_of : Protocol → Banding → Pieces → Items
 items_of version band ps = items_from version band ps.list ps.end
 
--- the lines among the items before the first stop, the stop with the items after it, or else the refusal
+-- how the lines end: at the first stop, with the items after it, or at the error
 pub data ItemsEnd : Type 0 where
   at_stop : MessageKind → Items → ItemsEnd
   at_refusal : Refusal → ItemsEnd

@@ -1,4 +1,4 @@
--- What a reader of lines over a borrowed reader means.
+-- The state of a reader of lines over a borrowed reader.
 use Rattle.std.specs.Prelude.{ℕ, List, Option}
 use Rattle.std.specs.Borrow.{MutBor}
 use Rattle.gixp_packetline.specs.declared.line_reader.LineReader.{LineReader}

@@ -1,4 +1,5 @@
--- What a reader of lines means, and what its calls do to that (gitprotocol-common, "pkt-line Format").
+-- The state of a reader of lines, and what its calls do to it (gitprotocol-common, "pkt-line Format"). A stop is a
+-- flush packet, or under version 2 a delimiter packet.
 use Rattle.std.specs.Prelude.{◌≡◌, ℕ, ◌+◌, ◌-◌, ◌*◌, ◌^◌, ◌<◌, ◌≤◌, min, ◌⊎◌, ⊤, Bool, true, false, List, [], ◌++◌, length, Option, Some, None, Result, Ok, Err, IfSome, IsSome}
 use Rattle.std.specs.Borrow.{Bor}
 use Rattle.std.specs.Option.{option_map}
@@ -16,41 +17,41 @@ use Rattle.gixp_packetline.specs.Lines.{gives, stops, refuses, next_of, Lines, l
 use Rattle.gixp_packetline.specs.Items.{is_stop}
 use Rattle.gixp_packetline.specs.TransportState.{TransportState, nothing_held}
 
--- what a reader means
+-- the state of a reader of lines
 pub record Reading : Type 0 where
-  -- the pieces to come, where the bytes are known
+  -- the packet lines to come, where the bytes are known
   pub to_come : Option Pieces
-  -- the refusal that stands next, whatever a read does
+  -- the error that comes next, if it is already known; it is sticky
   pub refused : Option Refusal
-  -- the stop that it is at
+  -- the stop that the reader is at
   pub stopped : Option MessageKind
-  -- whose stops it knows
+  -- the version that decides which packets are stops
   pub version : Protocol
-  -- the line that it lends
+  -- the line that the reader lends
   pub line : List ℕ
-  -- whether that line is still to come
+  -- whether that line was only peeked at, and is still to come
   pub peeked : Bool
-  -- how many reads and writes failed
+  -- the number of reads and writes that failed
   pub failures : ℕ
-  -- a bound on the bytes of the lines that may still come, with one more for each line
+  -- an upper bound of the bytes of the lines to come, with one more for each line
   pub left : ℕ
-  -- what it holds beside the lines
+  -- the state of the transport, which reading doesn't change
   pub held : TransportState
 
--- after the stop, if it is at one, under the stops of this version
+-- after the stop, if the reader was at one, under this version
 abbrev pub reset_to : Protocol → Reading → Reading
 reset_to version r = record r { stopped = None; version = version }
 
--- the lines before the next stop, of which there are none at one
+-- the lines before the next stop; none where the reader is at a stop
 abbrev pub lines_from_stop : Option MessageKind → Protocol → Pieces → Lines
 lines_from_stop (Some kind) version p = no_lines (stop kind p)
 lines_from_stop None version p = lines_of version p
 
--- the lines that a reader gives of these pieces
+-- the lines that a reader returns next, from these packet lines
 abbrev pub lines_ahead : Reading → Pieces → Lines
 lines_ahead r p = lines_from_stop r.stopped r.version p
 
--- a reader that has read nothing, over these bytes
+-- a reader of these bytes that has read nothing yet
 pub record IsFresh (known : Option (List ℕ)) (r : Reading) : Type 0 where
   pub to_come : r.to_come ≡ option_map stream_pieces known
   pub refused : r.refused ≡ None
@@ -59,11 +60,11 @@ pub record IsFresh (known : Option (List ℕ)) (r : Reading) : Type 0 where
   pub line : r.line ≡ []
   pub peeked : r.peeked ≡ false
   pub failures : r.failures ≡ 0
-  -- 2^64 - 1 reads may be made, each of at most 65,520 bytes
+  -- a reader makes at most 2^64 - 1 reads, each of at most 65,520 bytes
   pub left : r.left ≡ (2 ^ 64 - 1) * 65520
   pub held : r.held ≡ nothing_held
 
--- the refusal that an error is
+-- an error, as contracts compare it
 abbrev pub refusal_of : Error → Refusal
 refusal_of (Io kind) = io kind
 refusal_of (Decode e) = decode e
@@ -74,7 +75,7 @@ refusal_of (BadBand band) = bad_band band
 refusal_of Interrupted = interrupted
 refusal_of Memory = memory
 
--- nothing was lost: only the failures, the bound and the line that is lent changed, and perhaps a refusal stands next
+-- nothing was lost: only the failures, the bound and the lent line may have changed, and an error may be sticky now
 pub record Stays (old new : Reading) : Type 0 where
   pub to_come : IfSome old.to_come (λ p. new.to_come ≡ Some p)
   pub refused : IfSome old.refused (λ e. new.refused ≡ Some e)
@@ -85,7 +86,7 @@ pub record Stays (old new : Reading) : Type 0 where
   pub left : new.left ≤ old.left
   pub held : new.held ≡ old.held
 
--- a line came next, and was taken
+-- the call took the next line
 pub record TakesLine (old new : Reading) : Type 0 where
   pub running : old.stopped ≡ None
   pub sound : old.refused ≡ None
@@ -98,7 +99,7 @@ pub record TakesLine (old new : Reading) : Type 0 where
   pub left : length new.line + new.left < old.left
   pub held : new.held ≡ old.held
 
--- a line came next, and is still to come
+-- the call peeked at the next line
 pub record ShowsLine (old new : Reading) : Type 0 where
   pub running : old.stopped ≡ None
   pub sound : old.refused ≡ None
@@ -113,7 +114,7 @@ pub record ShowsLine (old new : Reading) : Type 0 where
   pub room : length new.line < new.left
   pub held : new.held ≡ old.held
 
--- a stop came next, and was taken
+-- the call took the next stop
 pub record TakesStop (old new : Reading) (kind : MessageKind) : Type 0 where
   pub running : old.stopped ≡ None
   pub sound : old.refused ≡ None
@@ -127,17 +128,17 @@ pub record TakesStop (old new : Reading) (kind : MessageKind) : Type 0 where
   pub left : new.left ≤ old.left
   pub held : new.held ≡ old.held
 
--- the reader was at a stop
+-- the reader was at a stop before the call
 pub record WasStopped (old new : Reading) : Type 0 where
   pub was : IsSome old.stopped
   pub stays : Stays old new
   pub failures : new.failures ≡ old.failures
 
--- a call at a stop, or one that takes it
+-- the reader is at a stop after the call
 abbrev pub AtStop : Reading → Reading → Type 0
 AtStop old new = WasStopped old new ⊎ ((kind : MessageKind) × TakesStop old new kind)
 
--- the refusals that a stream itself brings, its end among them
+-- the errors that every later call returns: those of the stream, its end included
 abbrev pub IsLasting : Refusal → Type 0
 IsLasting (io kind) = kind ≡ UnexpectedEof
 IsLasting (decode e) = ⊤
@@ -146,7 +147,7 @@ IsLasting unexpected_frame = ⊤
 IsLasting (bad_band band) = ⊤
 IsLasting _ = ⊥
 
--- this refusal came next, and every later call returns it
+-- the stream's next error, which every later call returns
 pub record Refuses (old new : Reading) (e : Refusal) : Type 0 where
   pub running : old.stopped ≡ None
   pub lasting : IsLasting e
@@ -161,30 +162,30 @@ pub record Refuses (old new : Reading) (e : Refusal) : Type 0 where
   pub left : new.left ≤ old.left
   pub held : new.held ≡ old.held
 
--- one more, up to the greatest value
+-- the count of failures rose by one, up to its greatest value
 abbrev pub Rose : ℕ → ℕ → Type 0
 Rose old new = new ≡ min (old + 1) (2 ^ 64 - 1)
 
--- whether a kind is that of a stream's end
+-- whether an I/O error means the end of the stream
 abbrev pub is_end : ErrorKind → Bool
 is_end UnexpectedEof = true
 is_end _ = false
 
--- what may come at any time: a read that failed, an interrupt, and an allocation failure. The first two never come in place of a
--- refusal that stands
+-- the errors that may come at any time and lose nothing: an I/O error, an interrupt, an allocation failure. The first
+-- two never replace a sticky error.
 abbrev pub IsFault : Reading → Reading → Refusal → Type 0
 IsFault old new (io kind) = (is_end kind ≡ false) × (old.refused ≡ None) × Rose old.failures new.failures
 IsFault old new memory = new.failures ≡ old.failures
 IsFault old new interrupted = (old.refused ≡ None) × (new.failures ≡ old.failures)
 IsFault old new _ = ⊥
 
--- such a fault loses nothing
+-- an error of this kind lost nothing
 pub record Faults (old new : Reading) (e : Refusal) : Type 0 where
   pub running : old.stopped ≡ None
   pub fault : IsFault old new e
   pub stays : Stays old new
 
--- a read failed as at the end, which is then the end of the stream: every later call returns it
+-- a read failed with `UnexpectedEof`: the stream ends there, and every later call returns this error
 pub record BreaksOff (old new : Reading) (e : Refusal) : Type 0 where
   pub running : old.stopped ≡ None
   pub sound : old.refused ≡ None
@@ -199,27 +200,27 @@ pub record BreaksOff (old new : Reading) (e : Refusal) : Type 0 where
   pub left : new.left ≤ old.left
   pub held : new.held ≡ old.held
 
--- something came from outside: a read that failed, an interrupt, or an allocation failure
+-- an I/O error, an interrupt or an allocation failure
 abbrev pub IsOutside : Reading → Reading → Refusal → Type 0
 IsOutside old new e = Faults old new e ⊎ BreaksOff old new e
 
--- a call that is refused
+-- a call that returns an error
 abbrev pub Fails : Reading → Reading → Refusal → Type 0
 Fails old new e = Refuses old new e ⊎ IsOutside old new e
 
--- an error of a reader that knows no bands, asks no interrupt, and allocates for the text of a server's error alone
+-- the errors of a plain reader: it reads no sidebands, calls no interrupt, and allocates only for the text of an `ERR ` line
 abbrev pub IsPlain : Reading → Refusal → Type 0
 IsPlain new memory = (message : List ℕ) × (new.refused ≡ Some (server message))
 IsPlain new interrupted = ⊥
 IsPlain new (bad_band band) = ⊥
 IsPlain new _ = ⊤
 
--- the errors of a plain reader are plain
+-- a plain reader returns only these errors
 abbrev pub PlainIf : {X : Type 0} → Bool → Reading → Result X Error → Type 0
 PlainIf plain new (Ok x) = ⊤
 PlainIf plain new (Err e) = plain ≡ true → IsPlain new (refusal_of e)
 
--- the errors of a plain reader that appends a line as text are plain, but for memory that the text wanted: then the line is still to come
+-- the same for a call that appends a line as text; it may also lack memory for the text, and then the line is still to come
 abbrev pub PlainText : {X : Type 0} → Bool → Reading → Reading → Result X Error → Type 0
 PlainText plain old new (Ok x) = ⊤
 PlainText plain old new (Err Memory) = plain ≡ true → IsPlain new memory ⊎ ShowsLine old new
@@ -230,38 +231,38 @@ abbrev pub is_interrupted : {X : Type 0} → Result X Error → Bool
 is_interrupted (Err Interrupted) = true
 is_interrupted _ = false
 
--- a call that takes what comes next: true at a line, false at a stop
+-- a call that takes the next line (true) or is at a stop (false)
 abbrev pub Reads : Reading → Reading → Result Bool Error → Type 0
 Reads old new (Ok true) = TakesLine old new
 Reads old new (Ok false) = AtStop old new
 Reads old new (Err e) = Fails old new (refusal_of e)
 
--- a call that leaves a line where it is
+-- a call that peeks at the next line (true) or is at a stop (false)
 abbrev pub Peeks : Reading → Reading → Result Bool Error → Type 0
 Peeks old new (Ok true) = ShowsLine old new
 Peeks old new (Ok false) = AtStop old new
 Peeks old new (Err e) = Fails old new (refusal_of e)
 
--- a call that lends the line that it took
+-- a call that takes the next line and lends it
 abbrev pub ReadsLent : Reading → Reading → Result (Option (Bor (List ℕ))) Error → Type 0
 ReadsLent old new (Ok (Some text)) = TakesLine old new × (text.now ≡ new.line)
 ReadsLent old new (Ok None) = AtStop old new
 ReadsLent old new (Err e) = Fails old new (refusal_of e)
 
--- a call that lends the line that comes next
+-- a call that peeks at the next line and lends it
 abbrev pub PeeksLent : Reading → Reading → Result (Option (Bor (List ℕ))) Error → Type 0
 PeeksLent old new (Ok (Some text)) = ShowsLine old new × (text.now ≡ new.line)
 PeeksLent old new (Ok None) = AtStop old new
 PeeksLent old new (Err e) = Fails old new (refusal_of e)
 
--- a line that is text was taken and appended
+-- the next line is UTF-8; it was taken and appended
 pub record TakesText (old new : Reading) (before after : List ℕ) (n : ℕ) : Type 0 where
   pub takes : TakesLine old new
   pub count : n ≡ length new.line
   pub is_text : IsUtf8 new.line
   pub appended : after ≡ before ++ new.line
 
--- a call that appends the line as text: 0 at a stop; a line that is no text is taken, and a fault leaves the text as it was
+-- a call that appends the next line as text: 0 at a stop; a line that isn't UTF-8 is taken; each error leaves the text as it was
 abbrev pub ReadsText : Reading → Reading → List ℕ → List ℕ → Result ℕ Error → Type 0
 ReadsText old new before after (Ok n) = TakesText old new before after n ⊎ ((n ≡ 0) × AtStop old new × (after ≡ before))
 ReadsText old new before after (Err Memory) = (Fails old new memory ⊎ ShowsLine old new) × (after ≡ before)

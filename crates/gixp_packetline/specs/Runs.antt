@@ -1,4 +1,4 @@
--- What a run of calls that read lines has done.
+-- The outcome of several calls that read lines.
 use Rattle.std.specs.Prelude.{◌≡◌, ℕ, List, Some, IfSome}
 use Rattle.gixp_packetline.specs.Pieces.{Pieces}
 use Rattle.gixp_packetline.specs.Lines.{before}

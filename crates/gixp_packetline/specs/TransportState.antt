@@ -1,46 +1,46 @@
--- What a transport holds beside the lines to come: what was written, and the answers to later requests (gitprotocol-pack, "Packfile
--- Negotiation"; gitprotocol-v2, "Command Request").
+-- The state of a transport besides the lines to come: the requests written, and the responses to later requests
+-- (gitprotocol-pack, "Packfile Negotiation"; gitprotocol-v2, "Command Request").
 use Rattle.std.specs.Prelude.{ℕ, Bool, true, List, [], Option, None}
 use Rattle.std.specs.Borrow.{GName}
 use Rattle.std.specs.declared.io.ErrorKind.{ErrorKind}
 use Rattle.gixp_packetline.specs.declared.protocol.Protocol.{Protocol}
 use Rattle.gixp_packetline.specs.Pieces.{Pieces}
 
--- the answer to one handshake or request: what is read, or the kind with which the call that takes it fails
+-- the response to one handshake or request: the packet lines that are read, or the I/O error of the call that reads it
 pub data Answer : Type 0 where
   body : Pieces → Answer
   fails : ErrorKind → Answer
 
--- what a handshake writes first: for which path and host, and which version is asked for
+-- what a handshake writes first: the path, the host, and the requested version
 pub record Greeting : Type 0 where
   pub path : List ℕ
   pub host : Option (List ℕ)
   pub version : Protocol
 
--- what no call that reads changes
+-- the state that no reading call changes
 pub record TransportState : Type 0 where
-  -- whether the answers of all requests stand one after another
+  -- whether all responses follow one another on one connection
   pub persists : Bool
-  -- the bytes written, where they are known: of all requests where it persists, else of the one that isn't finished
+  -- the bytes written, where they are known: of all requests on one connection, else of the unfinished request
   pub written : Option (List ℕ)
-  -- the finished requests, where each has its own answer
+  -- the finished requests, where each has its own response
   pub sent : List (List ℕ)
-  -- the answers to later handshakes and requests, where each has its own
+  -- the responses to later handshakes and requests, where each has its own
   pub answers : List Answer
-  -- the fault of a write, which every later request answers
+  -- the error of a failed write, which every later request returns
   pub broken : Option ErrorKind
-  -- what a handshake writes first
+  -- the first message of the handshake
   pub greeting : Option Greeting
-  -- where the server is, as it was told
+  -- the URL of the server, as the caller gave it
   pub url : List ℕ
-  -- the versions that are accepted; none named are all
+  -- the accepted protocol versions; an empty list accepts all
   pub accepted : List Protocol
-  -- the account that it was given, its name and password
+  -- the name and password that the caller set
   pub identity : Option (List ℕ × List ℕ)
-  -- the references through which it is reached
+  -- the ghost names of the borrows through which it is reached
   pub names : List GName
 
--- of a reader that writes nothing
+-- the state of a reader that writes nothing
 abbrev pub nothing_held : TransportState
 nothing_held = record {
   persists = true;

@@ -5,7 +5,7 @@ ghost use Rattle.gixp_packetline.specs.FrameText.{digits_of};
 
 use gixp_hash::digits::{digit_of, digit_value};
 
-// The number of four digits, or none where one is no digit.
+// `None` where a byte is not a hexadecimal digit.
 #[inline(always)]
 pub(crate) fn number(digits: &[u8]) -> Option<usize>
     requires { length digits.now ≡ 4 }

@@ -1,7 +1,8 @@
-//! Packet lines: from bytes to frames to lines.
+//! Packet lines: from bytes to packet lines to lines.
 //!
-//! A stream is a list of frames, each four hexadecimal digits and the payload that they count. A
-//! reader of lines gives the payloads up to a stop, whatever the pieces in which the bytes come.
+//! A packet line has four hexadecimal digits, and the payload that they count. A reader of lines returns the payloads
+//! up to a flush packet, under version 2 also up to a delimiter packet. It doesn't matter in which pieces the bytes
+//! arrive.
 #![tactic(auto)]
 
 pub mod digits;

@@ -8,10 +8,10 @@ use crate::read::{Error, ExtendedBufRead};
 use std::alloc::{AllocError, Global};
 use std::io::Read;
 
-/// Reads the lines of a stream of frames, at first with the stops of version 2
-/// (gitprotocol-common, "pkt-line Format"; gitprotocol-v2, "Packet-Line Framing").
+/// Reads the lines of a stream of packet lines (gitprotocol-common, "pkt-line Format"; gitprotocol-v2, "Packet-Line
+/// Framing"). It begins under version 2, where both a flush and a delimiter packet end the lines.
 ///
-/// The lines follow from the bytes to come, whatever the pieces in which the reader gives them.
+/// The lines depend only on the bytes, not on the pieces in which the reader returns them.
 #[derive(Drop)]
 pub struct LineReader<'a, R> {
     packets: Packets<&'a mut R>,
@@ -20,11 +20,11 @@ pub struct LineReader<'a, R> {
 impl<'a, R: Read> LineReader<'a, R> {
     ghost use Rattle.gixp_packetline.specs.LineReader.{line_reader_reading};
 
-    /// Reads lines from here on. It takes one buffer of 65,520 bytes, and reads nothing yet.
+    /// Reads lines from this reader. It allocates one buffer of 65,520 bytes, and reads nothing yet.
     ///
     /// # Errors
     ///
-    /// The buffer could not be allocated. The reader is as it was.
+    /// The buffer could not be allocated. The reader is unchanged.
     pub fn new(alloc: Global, reader: &'a mut R) -> Result<LineReader<'a, R>, AllocError>
         ensures { IfOk result (λ r. IsFresh (R.remaining reader.old) (line_reader_reading R.remaining r)) }
     {

@@ -1,4 +1,4 @@
-//! Frames: four hexadecimal digits, and then the payload that they count.
+//! Packet lines: four hexadecimal digits, and the payload that they count.
 ghost use Rattle.std.specs.Prelude.{◌≡◌, length};
 ghost use Rattle.gixp_packetline.specs.Frames.{head_of, size_of};
 ghost use Rattle.gixp_packetline.specs.FrameKind.{kind_of};
@@ -8,21 +8,19 @@ use crate::protocol::MessageKind;
 use hex;
 use thiserror::Error;
 
-/// The number of bytes of the longest frame, its four digits among them (gitprotocol-common,
-/// "pkt-line Format").
+/// The number of bytes of the longest packet line, its four digits included (gitprotocol-common, "pkt-line Format").
 pub(crate) const MAX_FRAME: usize = 65520;
 
-/// The kinds of frames (gitprotocol-common, "pkt-line Format"; gitprotocol-v2, "Packet-Line
-/// Framing").
+/// The kinds of packet lines (gitprotocol-common, "pkt-line Format"; gitprotocol-v2, "Packet-Line Framing").
 #[derive(Clone, Copy, Debug, PartialEq, Eq)]
 pub enum Frame {
     /// A payload of 1 to 65,516 bytes.
     Data,
-    /// `0000`.
+    /// A flush packet, `0000`.
     Flush,
-    /// `0001`.
+    /// A delimiter packet, `0001`.
     Delimiter,
-    /// `0002`.
+    /// A response-end packet, `0002`.
     ResponseEnd,
 }
 
@@ -39,38 +37,38 @@ impl From<MessageKind> for Frame {
     }
 }
 
-/// Why four bytes begin no frame (gitprotocol-common, "pkt-line Format"). A reader that met one
-/// returns it again at each later read.
+/// Why four bytes begin no packet line (gitprotocol-common, "pkt-line Format"). A reader that found such bytes returns
+/// the error again at each later read.
 #[derive(Clone, Copy, Debug, PartialEq, Eq, Drop, Error)]
 pub enum PacketError {
-    /// They are no hexadecimal digits.
+    /// They are not four hexadecimal digits.
     #[error("HexDecode")]
     HexDecode,
     /// They count more than 65,520 bytes.
     #[error("DataLengthLimitExceeded")]
     DataLengthLimitExceeded,
-    /// They count themselves alone: `0004`, a payload of no bytes.
+    /// They count only themselves: `0004`, an empty payload.
     #[error("DataIsEmpty")]
     DataIsEmpty,
-    /// They count less than themselves: `0003`.
+    /// They count fewer bytes than they are: `0003`.
     #[error("InvalidLineLength")]
     InvalidLineLength,
 }
 
-/// What is at the front of some bytes.
+/// The head of the packet line at the front of some bytes.
 #[derive(Clone, Copy)]
 pub(crate) enum Head {
-    /// Less than a whole frame.
+    /// Less than a whole packet line.
     Partial,
-    /// Four bytes that begin no frame.
+    /// Four bytes that begin no packet line.
     Bad(PacketError),
-    /// A frame without a payload.
+    /// A packet without a payload.
     Special(MessageKind),
-    /// A data frame of this many bytes, its four digits among them.
+    /// A data packet of this many bytes, its four digits included.
     Data(usize),
 }
 
-// The number of four digits.
+// `None` where a byte is not a hexadecimal digit.
 #[inline(always)]
 fn size_of_digits(digits: &[u8]) -> Option<usize>
     requires { length digits.now ≡ 4 }
@@ -89,7 +87,6 @@ fn size_of_digits(digits: &[u8]) -> Option<usize>
     }
 }
 
-// What is at the front of the bytes.
 pub(crate) fn read_head(bytes: &[u8]) -> Head
     ensures { result ≡ head_of bytes.now }
 {

@@ -8,14 +8,14 @@ use crate::protocol::MessageKind;
 /// A packet line (gitprotocol-common, "pkt-line Format").
 #[derive(Clone, Copy, Debug, PartialEq, Eq)]
 pub enum PacketLine<'a> {
-    /// Its payload, of 1 to 65,516 bytes.
+    /// A data packet with this payload of 1 to 65,516 bytes.
     Data(&'a [u8]),
-    /// One without a payload: a flush, delimiter or response-end packet.
+    /// A packet without a payload: a flush, delimiter or response-end packet.
     Special(MessageKind),
 }
 
-/// The packet line at the front of some bytes, and the bytes after it; none where they are less
-/// than a whole one (gitprotocol-common, "pkt-line Format"). It allocates nothing.
+/// Splits the packet line at the front of some bytes from the bytes after it. `None` where they are less than a whole
+/// packet line (gitprotocol-common, "pkt-line Format"). It allocates nothing.
 ///
 /// # Errors
 ///

@@ -18,21 +18,21 @@ use bstr::BString;
 use std::alloc::{AllocError, Global};
 use std::io::{Cursor, ErrorKind, Read};
 
-/// Where a reader of lines is.
+/// Where a reader of lines is in its stream.
 #[derive(Clone, Copy, Debug, PartialEq, Eq, Drop)]
 pub enum Place {
-    /// Before a frame.
+    /// Before a packet line.
     Open,
     /// Before a line that was peeked at.
     Peeked,
-    /// At a stop.
+    /// At a flush packet, or under version 2 at a delimiter packet.
     Stopped(MessageKind),
-    /// At a frame that has no place here.
+    /// At a packet that is not allowed there.
     Refused,
 }
 
-/// Reads packets into one buffer, and lends their lines from it: the reader in [`LineReader`] and the transports
-/// (gitprotocol-common, "pkt-line Format").
+/// Reads packet lines into one buffer, and lends their payloads from it (gitprotocol-common, "pkt-line Format").
+/// [`LineReader`] and the transports are built on it.
 ///
 /// [`LineReader`]: crate::LineReader
 #[derive(Drop)]
@@ -41,7 +41,7 @@ pub struct Packets<R> {
     reader: R,
     window: Window,
     place: Place,
-    // The reader gave its last byte.
+    // Whether the reader has reached its end.
     ended: bool,
     version: Protocol,
     reads_left: u64,
@@ -49,7 +49,7 @@ pub struct Packets<R> {
 }
 
 impl<R: Read + Drop> Packets<R> {
-    /// Packets of this reader, at first with the stops of V2. It takes one buffer of 65,520 bytes, and reads nothing yet.
+    /// Reads packet lines from this reader, at first under version 2. It allocates one buffer of 65,520 bytes, and reads nothing yet.
     ///
     /// # Errors
     ///
@@ -72,8 +72,7 @@ impl<R: Read + Drop> Packets<R> {
 }
 
 impl<R: Read + Drop> Packets<R> {
-    /// Reads from this reader from here on, under the same version. What was read of the one before
-    /// is gone.
+    /// Continues with another reader, under the same version. Bytes that were read from the previous one are dropped.
     pub fn restart(&mut self, reader: R)
         ensures { self.new ≡ record self.old {
           reader = reader;
@@ -90,7 +89,7 @@ impl<R: Read + Drop> Packets<R> {
 }
 
 impl Packets<Cursor<Vec<u8>>> {
-    /// Frees the bytes in memory, if the last of them is read.
+    /// Frees the bytes in memory once the last of them is read.
     pub fn free_read(&mut self)
         ensures { packets_reading memory_remaining self.new ≡ packets_reading memory_remaining self.old }
     {
@@ -103,8 +102,8 @@ impl Packets<Cursor<Vec<u8>>> {
 impl<R: Read> Packets<R> {
     ghost use Rattle.gixp_packetline.specs.ReadAhead.{StandsAhead};
 
-    /// Takes it apart: the reader, and the bytes that were read of it and stand in no line or stop that
-    /// was taken or peeked at.
+    /// Returns the reader, and the bytes that were read from it after the last line, flush packet or delimiter packet that was
+    /// taken or peeked at.
     pub fn into_parts(self) -> (R, Vec<u8>)
         ensures reader { result.0 ≡ self.reader }
         ensures ahead { StandsAhead (packets_reading R.remaining self) (R.remaining result.0) result.1.items }
@@ -122,7 +121,7 @@ impl<R: Read> Packets<R> {
         (reader, window.into_pending())
     }
 
-    /// Lends only the first bytes, as many, of the line that it lends.
+    /// Shortens the lent line to its first `len` bytes.
     pub fn shorten_line(&mut self, len: usize)
         requires { len ≤ length self.old.window.lent }
         ensures { self.new ≡ record self.old { window = record self.old.window { lent = take len self.old.window.lent } } }
@@ -130,7 +129,7 @@ impl<R: Read> Packets<R> {
         self.window.shorten(len);
     }
 
-    /// Whose stops it knows.
+    /// The version that decides at which packets the lines end.
     pub fn version(&self) -> Protocol
         ensures { result ≡ self.now.version }
     {
@@ -152,7 +151,7 @@ impl<R: Read> Packets<R> {
         self.failures = self.failures.saturating_add(1);
     }
 
-    // Whether one more read may be made, which then counts.
+    // Whether one more read is allowed; it counts as made.
     fn spend_read(&mut self) -> bool
         ensures may { IsTrue result ↔ (0 < self.old.reads_left) }
         ensures counted { self.new ≡ record self.old { reads_left = self.old.reads_left - 1 } }
@@ -164,7 +163,7 @@ impl<R: Read> Packets<R> {
         true
     }
 
-    // Notes what a read gave. Of no bytes it is the end, which is no failure.
+    // Records the result of a read. A read of no bytes is the end of the stream, and isn't counted as a failure.
     fn note_read(&mut self, received: Result<usize, ErrorKind>) -> Result<(), Error>
         ensures { NotesRead self.old self.new received result }
     {
@@ -182,7 +181,7 @@ impl<R: Read> Packets<R> {
         }
     }
 
-    // One more read, of all that is free in the buffer.
+    // Reads once, into all of the free buffer.
     fn fill(&mut self) -> Result<(), Error>
         requires front { head_of self.old.window.pending ≡ Partial }
         requires open { self.old.ended ≡ false }
@@ -198,7 +197,7 @@ impl<R: Read> Packets<R> {
         self.note_read(received)
     }
 
-    // What is at the front, of which as much as that takes is read.
+    // Reads until the packet line at the front is whole, and returns its head.
     fn settle(&mut self) -> Result<Head, Error>
         ensures { Settles R.remaining self.old self.new result }
     {
@@ -214,7 +213,7 @@ impl<R: Read> Packets<R> {
         }
     }
 
-    // Takes what comes next.
+    // Takes the next line (true) or the next flush or delimiter packet (false).
     fn advance(&mut self) -> Result<bool, Error>
         requires { self.old.place ≡ Open }
         ensures reads { Reads (packets_reading R.remaining self.old) (packets_reading R.remaining self.new) result }
@@ -315,7 +314,7 @@ impl<R: Read> ExtendedBufRead for Packets<R> {
     }
 }
 
-// Whether a failure is that of a stream's end, which is then taken for one.
+// A reader that fails with `UnexpectedEof` is taken to be at its end.
 fn is_end(kind: ErrorKind) -> bool
     ensures { result ≡ is_end kind }
 {
@@ -325,14 +324,13 @@ fn is_end(kind: ErrorKind) -> bool
     }
 }
 
-// Whether a payload is an error of the server.
+// Whether a payload is an `ERR ` line.
 fn is_server_error(text: &[u8]) -> bool
     ensures { result ≡ is_error text.now }
 {
     text.starts_with(b"ERR ")
 }
 
-// The error of the server that a payload is.
 fn server_error(alloc: Global, text: &[u8]) -> Error
     requires { is_error text.now ≡ true }
     ensures { (refusal_of result ≡ server (error_message text.now)) ⊎ (result ≡ Memory) }
@@ -350,7 +348,6 @@ fn server_error(alloc: Global, text: &[u8]) -> Error
     }
 }
 
-// Whether a reader of this version stops at such a frame.
 fn is_stop(version: Protocol, kind: MessageKind) -> bool
     ensures { result ≡ is_stop version kind }
 {

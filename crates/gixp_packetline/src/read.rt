@@ -9,35 +9,33 @@ use std::alloc::{AllocError, AllocFailed};
 use std::io::ErrorKind;
 use thiserror::Error as DeriveError;
 
-/// Why a call of a reader of lines is refused.
+/// Why a call of a reader of lines fails.
 ///
-/// After `Decode`, `Server`, `UnexpectedFrame`, `BadBand` and the stream's end, which is
-/// `Io(UnexpectedEof)`, every later read returns the same. After `Io` of another kind,
-/// `Interrupted` and `Memory` nothing is lost: the next call goes on with what was read so far.
-/// After `NotUtf8` the line is taken.
+/// `Decode`, `Server`, `UnexpectedFrame`, `BadBand` and the end of the stream (`Io(UnexpectedEof)`) are sticky: every
+/// later read returns the same error. `Io` of another kind, `Interrupted` and `Memory` lose nothing: the next call goes
+/// on with the bytes read so far. After `NotUtf8` the line is taken.
 #[derive(Debug, Drop, DeriveError)]
 pub enum Error {
-    /// A read failed with this kind, or the stream ended between frames or within one
-    /// (`UnexpectedEof`). A read that failed isn't made again by the call.
+    /// A read failed with this kind, or the stream ended between packet lines or within one (`UnexpectedEof`). The call
+    /// doesn't repeat a failed read.
     #[error("Io")]
     Io(ErrorKind),
-    /// Four bytes begin no frame.
+    /// Four bytes begin no packet line.
     #[error("Decode")]
     Decode(PacketError),
-    /// The server sent a line that begins with `ERR `. The message is the rest without one ending
-    /// LF (gitprotocol-pack, "pkt-line Format").
+    /// The server sent an `ERR ` line. The message is the rest of it, without one ending LF (gitprotocol-pack, "pkt-line Format").
     #[error("Server")]
     Server { message: BString },
-    /// A frame without a payload at which readers of this version don't stop.
+    /// A packet without a payload that doesn't end lines under this version.
     #[error("UnexpectedFrame")]
     UnexpectedFrame,
-    /// A line that was wanted as text isn't UTF-8.
+    /// `readline_str` read a line that isn't UTF-8.
     #[error("NotUtf8")]
     NotUtf8,
-    /// A payload whose first byte, this one, is no band (gitprotocol-pack, "Packfile Data").
+    /// A payload whose first byte, this one, is not a sideband number (gitprotocol-pack, "Packfile Data").
     #[error("BadBand")]
     BadBand(u8),
-    /// The caller's interrupt said so.
+    /// The caller's interrupt ended the call.
     #[error("Interrupted")]
     Interrupted,
     /// An allocation failed.
@@ -65,35 +63,36 @@ impl<T: Drop> From<AllocFailed<T>> for Error {
     }
 }
 
-/// A reader of lines up to a stop (gitprotocol-common, "pkt-line Format"; gitprotocol-v2,
-/// "Packet-Line Framing").
+/// Reads lines up to a flush packet, under version 2 also up to a delimiter packet (gitprotocol-common, "pkt-line
+/// Format"; gitprotocol-v2, "Packet-Line Framing").
 ///
-/// At a flush, and under version 2 at a delimiter too, there are no more lines until `reset`. To
-/// read or peek at a stop takes it.
+/// A read or peek at such a packet takes it. After it there are no more lines until `reset`.
 ///
-/// `next_line`, `peek_line` and `line` are what a reader has to bring: code over any reader learns
-/// from them what a call left, which a call that lends can't say beside its error.
+/// Code over any reader calls `next_line` or `peek_line`, and then `line`. Their contracts say what an error leaves.
+/// The contract of a call that lends its line can't.
 pub trait ExtendedBufRead {
-    // What is known of the reader.
+    // The state of the reader.
     ghost reading: { Self → Reading };
 
-    // Whether it knows no bands, asks no interrupt, and allocates for a server's error alone.
+    // Whether it reads no sidebands, calls no interrupt, and allocates only for the text of an `ERR ` line.
     ghost is_plain: { Bool };
 
-    // What calls leave beside the lines: whom they asked. Where it says true the last of them was told to stop, and no other was.
+    // What calls do besides reading: which interrupts and listeners they call. If the flag is true, the last of them
+    // returned true; no other did.
     ghost asks: { Self → Bool → Self → Type 0 };
 
-    /// Takes the next line, which `line` then lends, and returns true; at a stop false.
+    /// Takes the next line and returns true; `line` then lends it. Returns false at a flush packet (version 2: or a delimiter packet).
     ///
     /// # Errors
     ///
-    /// Those of [`Error`] but `NotUtf8`, with what it says of each.
+    /// Any [`Error`] except `NotUtf8`. [`Error`] says what each leaves.
     fn next_line(&mut self) -> Result<bool, Error>
         ensures reads { Reads (reading self.old) (reading self.new) result }
         ensures plain { PlainIf is_plain (reading self.new) result }
         ensures asks { asks self.old (is_interrupted result) self.new };
 
-    /// Makes `line` lend the next line, which is still to come, and returns true; at a stop false.
+    /// Peeks at the next line and returns true; `line` then lends it, and it is still to come. Returns false at a flush
+    /// packet (version 2: or a delimiter packet).
     ///
     /// # Errors
     ///
@@ -103,20 +102,20 @@ pub trait ExtendedBufRead {
         ensures plain { PlainIf is_plain (reading self.new) result }
         ensures asks { asks self.old (is_interrupted result) self.new };
 
-    /// The line that the last call took or peeked at, its LF included.
+    /// The line that the last call took or peeked at, with its LF.
     fn line(&self) -> &[u8]
         ensures { result.now ≡ (reading self.now).line };
 
-    /// The stop that the reader is at, or none before the first one and after `reset`.
+    /// The flush or delimiter packet that the reader is at. `None` before the first one and after `reset`.
     fn stopped_at(&self) -> Option<MessageKind>
         ensures { result ≡ (reading self.now).stopped };
 
-    /// Goes on after the stop, if the reader is at one, under the stops of this version.
+    /// Goes on after the flush or delimiter packet, if the reader is at one, under this version.
     fn reset(&mut self, version: Protocol)
         ensures reading { reading self.new ≡ reset_to version (reading self.old) }
         ensures asks { asks self.old false self.new };
 
-    /// Lends the next line, which is still to come; at a stop none.
+    /// Lends the next line, which is still to come. `None` at a flush packet (version 2: or a delimiter packet).
     ///
     /// # Errors
     ///
@@ -132,7 +131,7 @@ pub trait ExtendedBufRead {
         }
     }
 
-    /// Takes the next line and lends it; at a stop none.
+    /// Takes the next line and lends it. `None` at a flush packet (version 2: or a delimiter packet).
     ///
     /// # Errors
     ///
@@ -148,12 +147,13 @@ pub trait ExtendedBufRead {
         }
     }
 
-    /// Takes the next line, appends it to the text, and returns its number of bytes; at a stop 0.
+    /// Takes the next line, appends it to the text, and returns its number of bytes. Returns 0 at a flush packet
+    /// (version 2: or a delimiter packet).
     ///
     /// # Errors
     ///
-    /// As `next_line`, and `NotUtf8` where the line isn't UTF-8, which is then taken. After
-    /// `Memory` for the text the line is still to come. The text is as it was after each.
+    /// As `next_line`. `NotUtf8` where the line isn't UTF-8; the line is taken. After `Memory` for the text the line is
+    /// still to come. Each error leaves the text as it was.
     fn readline_str(&mut self, text: &mut String) -> Result<usize, Error>
         ensures text { ReadsText (reading self.old) (reading self.new) (string_bytes text.old) (string_bytes text.new) result }
         ensures plain { PlainText is_plain (reading self.old) (reading self.new) result }
@@ -174,9 +174,9 @@ pub trait ExtendedBufRead {
         Ok(len)
     }
 
-    // No call at all leaves it as it is.
+    // Making no call changes nothing.
     ghost stays: { (r : Self) → asks r false r };
 
-    // Calls after calls that were not told to stop.
+    // Calls compose, as long as the earlier ones were not stopped.
     ghost joins: { (a b c : Self) (stops : Bool) → asks a false b → asks b stops c → asks a stops c };
 }

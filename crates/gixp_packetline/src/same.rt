@@ -10,49 +10,43 @@ use crate::packets::Place;
 use crate::protocol::{MessageKind, Protocol};
 use std::cmp::Ordering;
 
-// Two versions are equal exactly where they are one.
 fn is_same_version(a: &Protocol, b: &Protocol) -> bool
     ensures { IsTrue result ↔ (a.now ≡ b.now) }
 {
     a == b
 }
 
-// Versions are ordered by their numbers.
 fn order_of_versions(first: &Protocol, second: &Protocol) -> Ordering
     ensures { result ≡ nat_cmp (version_number first.now) (version_number second.now) }
 {
     first.cmp(second)
 }
 
-// Two messages are equal exactly where they are one.
 fn is_same_message(left: &MessageKind, right: &MessageKind) -> bool
     ensures { IsTrue result ↔ (left.now ≡ right.now) }
 {
     left == right
 }
 
-// Two kinds of packet lines are equal exactly where they are one.
 fn is_same_frame(one: &Frame, other: &Frame) -> bool
     ensures { IsTrue result ↔ (one.now ≡ other.now) }
 {
     one == other
 }
 
-// Two errors are equal exactly where they are one.
 fn is_same_packet_error(x: &PacketError, y: &PacketError) -> bool
     ensures { IsTrue result ↔ (x.now ≡ y.now) }
 {
     x == y
 }
 
-// Two packet lines are equal exactly where their payloads or what stands in their place are.
+// Packet lines are equal exactly where their payloads are, or their kinds where they have none.
 fn is_same_packet_line(line: &PacketLine<'_>, next: &PacketLine<'_>) -> bool
     ensures { IsTrue result ↔ (frame_of line.now ≡ frame_of next.now) }
 {
     line == next
 }
 
-// Two places are equal exactly where they are one.
 fn is_same_place(old: &Place, new: &Place) -> bool
     ensures { IsTrue result ↔ (old.now ≡ new.now) }
 {

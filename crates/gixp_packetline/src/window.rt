@@ -1,4 +1,4 @@
-//! The buffer that frames are read into.
+//! The buffer that packet lines are read into.
 ghost use Rattle.std.specs.Prelude.{◌≡◌, ◌+◌, ◌-◌, ◌<◌, ◌≤◌, [], length, take, drop, slice_range, vec_len, IfOk};
 ghost use Rattle.std.specs.IoError.{error_kind};
 ghost use Rattle.gixp_packetline.specs.Window.{Shown, ReadsBehind, Receives};
@@ -9,14 +9,14 @@ use std::io;
 use std::io::{ErrorKind, Read};
 use std::marker::Model;
 
-// A buffer for one frame of any length.
+// A buffer with room for one packet line of any length.
 #[derive(Drop)]
 pub(crate) struct Window {
     bytes: Vec<u8>,
-    // The bytes that were read and not yet taken.
+    // The bytes from `start` to `end` were read and not yet taken.
     start: usize,
     end: usize,
-    // The line that is lent.
+    // The bytes from `line_start` to `line_end` are the lent line.
     line_start: usize,
     line_end: usize,
 }
@@ -33,14 +33,13 @@ impl Model for Window {
         × (w.line_start ≤ w.line_end) × (w.line_end ≤ 65520) };
 }
 
-// The kind with which a read failed.
 fn kind_of(e: io::Error) -> ErrorKind
     ensures { result ≡ error_kind e }
 {
     e.kind()
 }
 
-// One read, after what the buffer holds.
+// Reads once, into the buffer from `end` on.
 fn read_behind<R: Read>(
     reader: &mut R,
     buffer: &mut Vec<u8>,
@@ -57,7 +56,7 @@ fn read_behind<R: Read>(
     }
 }
 
-// Moves what stands between these places to the front, unless it stands there.
+// Moves the bytes between these offsets to the front, unless they are there.
 fn to_front(buffer: &mut Vec<u8>, start: usize, end: usize)
     requires in_order { start ≤ end }
     requires there { end ≤ vec_len buffer.old }
@@ -71,7 +70,6 @@ fn to_front(buffer: &mut Vec<u8>, start: usize, end: usize)
 }
 
 impl Window {
-    // A buffer that holds nothing.
     pub(crate) fn new(alloc: Global) -> Result<Window, AllocError>
         ensures { IfOk result (λ w. w ≡ record { pending = []; lent = [] }) }
     {
@@ -92,14 +90,13 @@ impl Window {
         &self.bytes[self.start..self.end]
     }
 
-    // The line that is lent.
     pub(crate) fn lent(&self) -> &[u8]
         ensures { result.now ≡ self.now.lent }
     {
         &self.bytes[self.line_start..self.line_end]
     }
 
-    // The bytes that were read and not yet taken, in the buffer that held them.
+    // The bytes that were read and not yet taken, in their buffer.
     pub(crate) fn into_pending(self) -> Vec<u8>
         ensures { result.items ≡ self.pending }
     {
@@ -115,7 +112,6 @@ impl Window {
         bytes
     }
 
-    // Holds nothing from here on.
     pub(crate) fn clear(&mut self)
         ensures { self.new ≡ record { pending = []; lent = [] } }
     {
@@ -125,7 +121,7 @@ impl Window {
         self.line_end = 0;
     }
 
-    // Lends only the first bytes of what it lends.
+    // Shortens the lent line to its first `len` bytes.
     pub(crate) fn shorten(&mut self, len: usize)
         requires { len ≤ length self.old.lent }
         ensures { self.new ≡ record self.old { lent = take len self.old.lent } }
@@ -133,7 +129,6 @@ impl Window {
         self.line_end = self.line_start + len;
     }
 
-    // Takes the first bytes.
     pub(crate) fn skip(&mut self, amount: usize)
         requires { amount ≤ length self.old.pending }
         ensures { self.new ≡ record self.old { pending = drop amount self.old.pending } }
@@ -141,7 +136,7 @@ impl Window {
         self.start += amount;
     }
 
-    // Takes the first bytes, and lends those from here on.
+    // Takes the first `amount` bytes, and lends those from `from` on.
     pub(crate) fn take_line(&mut self, from: usize, amount: usize)
         requires in_order { from ≤ amount }
         requires there { amount ≤ length self.old.pending }
@@ -152,8 +147,8 @@ impl Window {
         self.start += amount;
     }
 
-    // One read of all that is free, after what is pending. What was lent is gone. What is pending
-    // moves only where something stands in front of it.
+    // Reads once, into all free space after the pending bytes. The lent line is lost. The pending bytes move only if
+    // they don't begin at the front.
     pub(crate) fn receive<R: Read>(&mut self, reader: &mut R) -> Result<usize, ErrorKind>
         requires { length self.old.pending < 65520 }
         ensures { Receives (R.remaining reader.old) (R.remaining reader.new) self.old.pending self.new.pending result }

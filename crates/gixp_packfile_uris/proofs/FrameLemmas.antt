@@ -1,4 +1,4 @@
--- What is passed on of whole packet lines and of what comes after them.
+-- What is passed on for whole packet lines, and for the bytes after them.
 use Rattle.std.proofs.Common.{◌≡◌, ℕ, ◌+◌, ◌-◌, ◌<◌, ◌≤◌, inl, inr, nat_eq, nat_lt, Bool, true, false, if◌then◌else◌, List, [], ◌∷◌, ◌++◌, length, take, drop, Option, Some, None, refl, ap, sym, subst, ◌∙◌, arith, append_assoc, append-nil, length-drop, length-append, ne_eqb}
 use Rattle.std.proofs.lemmas.List.{take-append-drop, take_all, drop_at}
 use Rattle.gixp_packetline.specs.declared.packet.PacketError.TheVariants.{HexDecode, DataLengthLimitExceeded, DataIsEmpty, InvalidLineLength}
@@ -16,14 +16,14 @@ use Rattle.gixp_packfile_uris.specs.Parts.{Parts, ending, behind, parts, parts_o
 use Rattle.gixp_packfile_uris.specs.Uris.{without_uris, uri_lines, is_refused}
 use Rattle.gixp_packfile_uris.proofs.PartsLemmas.{not_less, payload_front, payload_part, payload_over, held_part, held_whole}
 
--- what is passed on from a packet line on
+-- what is passed on from the start of a packet line
 abbrev lines : Place → List ℕ → Parts
 lines place bytes = parts place (Hold 4) [] bytes
 
 abbrev nothing : Parts
 nothing = record { passed = []; lines = []; is_refused = true }
 
--- four digits of a packet line, and what comes after them
+-- four digits of a packet line, and the bytes after them
 abbrev after : After → List ℕ → List ℕ → Parts
 after a digits more = parts a.place a.next (take a.count digits) more
 
@@ -45,7 +45,7 @@ delimited Section text rest c = digits_of Section (Some 1) text rest c.0 c.1 ∙
 delimited (Uris n) text rest c = digits_of (Uris n) (Some 1) text rest c.0 c.1
 delimited Over text rest c = digits_of Over (Some 1) text rest c.0 c.1 ∙ passed_line Over text rest 4 (omega (arith, c.0))
 
--- of a flush packet, or a response-end packet
+-- the digits of a flush or response-end packet
 flushed : (place : Place) (k : ℕ) (text rest : List ℕ) → Counts text k → nat_eq k 1 ≡ false → nat_lt k 3 ≡ true
     → lines place (text ++ rest) ≡ (if in_uris place then nothing else behind text [] (lines SectionStart rest))
 flushed SectionStart k text rest c one three =
@@ -56,7 +56,6 @@ flushed (Uris n) k text rest c one three = digits_of (Uris n) (Some k) text rest
 flushed Over k text rest c one three =
     digits_of Over (Some k) text rest c.0 c.1 ∙ rw (one, three) (passed_line SectionStart text rest 4 (omega (arith, c.0)))
 
--- of the digits of a line
 begun : (place : Place) (k : ℕ) → 4 < k → k ≤ 65520 → digits_after place (Some k) ≡ line_after place k
 begun place k some fits =
     let a : nat_eq k 1 ≡ false = ne_eqb k 1 (λ e. absurd (omega (arith, e, some))) in
@@ -65,7 +64,7 @@ begun place k some fits =
     let d : nat_lt 65520 k ≡ false = not_less 65520 k fits in
     rw (a, b, c, d) refl
 
--- what becomes of a line
+-- what happens to a line
 abbrev by_fate : Place → Fate → (text p rest : List ℕ) → Parts
 by_fate place (Pass next) text p rest = behind text [] (lines next rest)
 by_fate place (Take next) text p rest = behind [] (if in_uris place then text_of p ∷ [] else []) (lines next rest)
@@ -92,7 +91,7 @@ held_line place digits p rest four some =
     held_whole place k digits p rest (omega (arith, four)) (omega (arith, four, some))
     ∙ rw (t, e) (decided place (fate place p) (digits ++ p) p rest)
 
--- any other
+-- any other line
 passed_on : (place : Place) (digits p rest : List ℕ)
     → parts place (Payload ((4 + length p) - 4)) digits (p ++ rest) ≡ behind (digits ++ p) [] (lines place rest)
 passed_on place digits p rest =
@@ -134,7 +133,7 @@ line_front place text p rest h =
     ∙ line_by place digits p rest h.1.0 h.3
     ∙ ap (λ xs. by_fate place (fate place p) xs p rest) (sym h.2)
 
--- what comes after the whole packet lines is passed on as it is
+-- the bytes after the last whole packet line are passed on unchanged
 refused_digits : (place : Place) (o : Option ℕ) (rest digits more : List ℕ) → rest ≡ digits ++ more → length digits ≡ 4 → size_of digits ≡ o
     → digits_after place o ≡ record { place = place; next = Rest; count = 4 } → lines place rest ≡ ending rest
 refused_digits place o rest digits more r four size is = ap (lines place) r
@@ -189,7 +188,7 @@ end_same place rest ended (inr h) =
     ∙ part_by place n digits more (omega (arith, h.1.0, length-drop 4 rest, h.4, length-append digits more, ap length whole)) h.1.0
     ∙ ap ending whole
 
--- the bytes are these packet lines, the sink takes these lines, and a line is refused or none
+-- the bytes are these packet lines, the sink takes these lines, and a line is invalid or none is
 abbrev AreThese : Parts → Frames → List (List ℕ) → Bool → Type 0
 AreThese p fs taken refused = AreFrames p.passed fs.list fs.end × (p.lines ≡ taken) × (p.is_refused ≡ refused)
 
@@ -213,7 +212,7 @@ same_these : (p q : Parts) (fs : Frames) (taken : List (List ℕ)) (refused : Bo
     → AreThese p fs taken refused
 same_these p q fs taken refused e h = subst (λ x. AreThese x fs taken refused) (sym e) h
 
--- what is so of the packet lines behind one
+-- the same for the packet lines after one
 abbrev AreBehind : Place → List ℕ → List Frame → End → Type 0
 AreBehind next rest frames end = AreThese (lines next rest) (without_uris next frames end) (uri_lines next frames) (is_refused next frames)
 
@@ -271,7 +270,7 @@ by_flush place false f bytes text rest frames end is e ih =
     one_more (lines place bytes) (lines SectionStart rest) f text (without_uris SectionStart frames end) (uri_lines SectionStart frames)
     (is_refused SectionStart frames) e is ih
 
--- the packet lines
+-- the packet lines that are passed on, the lines of the sink, and the invalid line
 pub frames_are : (place : Place) (frames : List Frame) (bytes : List ℕ) (end : End) → AreFrames bytes frames end
     → AreFrames (lines place bytes).passed (without_uris place frames end).list (without_uris place frames end).end
     × ((lines place bytes).lines ≡ uri_lines place frames) × ((lines place bytes).is_refused ≡ is_refused place frames)

@@ -1,4 +1,4 @@
--- What a reader holds after a line, and how often it goes on.
+-- The bytes that a reader holds after a line, and a bound of its steps.
 use Rattle.std.proofs.Common.{◌≡◌, ℕ, zero, suc, ◌+◌, ◌-◌, ◌*◌, ◌<◌, ◌≤◌, ◌==◌, nat_lt, Bool, true, false, ◌&&◌, if◌then◌else◌, List, [], ◌∷◌, length, drop, Option, Some, None, refl, arith, rules, subst, sym}
 use Rattle.std.specs.Prelude.{⊤}
 use Rattle.gixp_packfile_uris.specs.declared.place.Place.{Place}
@@ -12,7 +12,7 @@ use Rattle.gixp_packfile_uris.specs.Line.{is_message, is_header, is_uri_line, te
 use Rattle.gixp_packfile_uris.specs.Order.{is_holding, size_held, count_of, lines_left, steps_left}
 use Rattle.gixp_packfile_uris.specs.Parts.{passes, delimiter_after, flush_after, line_after, digits_after, fate_after}
 
--- what comes after at most so many bytes are held
+-- at most this many bytes are held
 abbrev pub IsAfter : ℕ → After → Type 0
 IsAfter most a = (a.count ≤ most) × (count_of a.place ≤ 1000)
     × (is_holding a.next ≡ true → (a.count < size_held a.next) × (4 ≤ size_held a.next) × (size_held a.next ≤ 65520))
@@ -59,7 +59,7 @@ digits_are place None h = (omega arith, h, λ e. cc)
 digits_are place (Some size) h =
     by_tests place size (size == 1) (nat_lt size 3) (nat_lt size 5) (nat_lt 65520 size) (not_small size) (not_big size) h
 
--- fewer lines can be taken then
+-- the count of lines stays at most 1,000
 abbrev IsFate : Place → Fate → Type 0
 IsFate place (Pass next) = count_of next ≤ 1000
 IsFate place (Take next) = (count_of next ≤ 1000) × (lines_left next < lines_left place)

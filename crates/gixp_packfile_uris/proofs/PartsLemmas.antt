@@ -1,4 +1,4 @@
--- What is passed on of bytes that come in pieces, and which lines a sink takes.
+-- The bytes that are passed on and the lines that the sink takes, when the bytes arrive in pieces.
 use Rattle.std.proofs.Common.{◌≡◌, ℕ, zero, suc, ◌+◌, ◌-◌, ◌<◌, ◌≤◌, ◌==◌, nat_eq, nat_lt, Bool, true, false, if◌then◌else◌, List, [], ◌∷◌, ◌++◌, length, take, drop, Option, Some, None, refl, ap, sym, ◌∙◌, arith, append_assoc, append-nil, ne_eqb, length-append, length-drop, length-take, take-add, drop-drop, inl, inr, rules}
 use Rattle.std.specs.Option.{option_map}
 use Rattle.std.specs.Prelude.{slice_range}
@@ -18,13 +18,13 @@ use Rattle.gixp_packfile_uris.specs.Sink.{TakesLines, all_lines, SameKnown}
 pub not_less : (m n : ℕ) → n ≤ m → nat_lt m n ≡ false
 not_less m n h = search rules
 
--- bytes that are held come first, where no line is held
+-- held bytes come first, unless a line is held
 pub payload_front : (place : Place) (n : ℕ) (held ys : List ℕ) → parts place (Payload n) held ys ≡ behind held [] (parts place (Payload n) [] ys)
 payload_front place n held [] = ap ending (sym (append-nil held))
 payload_front place zero held (b ∷ ys) = refl
 payload_front place (suc n) held (b ∷ ys) = refl
 
--- one front after another
+-- two front parts, one after the other
 behind_twice : (a b : List ℕ) (p : Parts) → behind (a ++ b) [] p ≡ behind a [] (behind b [] p)
 behind_twice a b p = let P : List ℕ → Parts = λ xs. record { passed = xs; lines = p.lines; is_refused = p.is_refused } in ap P (append_assoc a b p.passed)
 
@@ -36,7 +36,7 @@ known_front place (Payload n) a b ys h = payload_front place n (a ++ b) ys
 known_front place Rest a b ys h = ap ending (append_assoc a b ys)
 known_front place Refused a b ys h = refl
 
--- a payload comes as it is
+-- a payload is passed on unchanged
 pub payload_part : (place : Place) (n : ℕ) (xs ys : List ℕ) → length xs ≤ n
     → parts place (Payload n) [] (xs ++ ys) ≡ behind xs [] (parts place (Payload (n - length xs)) [] ys)
 payload_part place n [] ys h = let e : n ≡ n - 0 = omega arith in ap (λ k. parts place (Payload k) [] ys) e
@@ -46,7 +46,7 @@ payload_part place (suc n) (x ∷ xs) ys h =
     ap (behind (x ∷ []) []) (payload_part place n xs ys (omega arith))
     ∙ ap (λ k. behind (x ∷ xs) [] (parts place (Payload k) [] ys)) e
 
--- and a packet line after it
+-- a packet line after a payload
 pub payload_over : (place : Place) (ys : List ℕ) → parts place (Payload 0) [] ys ≡ parts place (Hold 4) [] ys
 payload_over place [] = refl
 payload_over place (b ∷ ys) = refl
@@ -56,7 +56,7 @@ abbrev pub whole : Place → ℕ → List ℕ → List ℕ → Parts
 whole place size held ys = behind [] (lines_held place size held)
     (parts (held_after place size held).place (held_after place size held).next (take (held_after place size held).count held) ys)
 
--- by the test whether bytes are missing
+-- while bytes are missing
 missing : (place : Place) (size : ℕ) (held : List ℕ) (x : ℕ) (ys : List ℕ) → length held + 1 < size
     → parts place (Hold size) held (x ∷ ys) ≡ parts place (Hold size) (held ++ x ∷ []) ys
 missing place size held x ys h = let t : nat_lt (length held + 1) size ≡ true = search (rules) in rw t refl
@@ -65,7 +65,6 @@ complete : (place : Place) (size : ℕ) (held : List ℕ) (x : ℕ) (ys : List �
     → parts place (Hold size) held (x ∷ ys) ≡ whole place size (held ++ x ∷ []) ys
 complete place size held x ys h = let t : nat_lt (length held + 1) size ≡ false = search (rules) in rw t refl
 
--- less than the line
 pub held_part : (place : Place) (size : ℕ) (held xs ys : List ℕ) → length held + length xs < size
     → parts place (Hold size) held (xs ++ ys) ≡ parts place (Hold size) (held ++ xs) ys
 held_part place size held [] ys h = ap (λ ds. parts place (Hold size) ds ys) (sym (append-nil held))
@@ -78,7 +77,6 @@ last_byte : (place : Place) (size : ℕ) (held : List ℕ) (x : ℕ) (xs ys : Li
 last_byte place size held x [] ys h k = complete place size held x ys h
 last_byte place size held x (y ∷ xs) ys h k = absurd (omega arith)
 
--- the line
 pub held_whole : (place : Place) (size : ℕ) (held xs ys : List ℕ) → length held + length xs ≡ size → length held < size
     → parts place (Hold size) held (xs ++ ys) ≡ whole place size (held ++ xs) ys
 held_whole place size held [] ys h k = absurd (omega arith)
@@ -90,7 +88,7 @@ held_whole place size held (x ∷ xs) ys h k = elim (cases_lt (length held + 1) 
   | inr ge ↦ last_byte place size held x xs ys ge (omega arith)
 ]
 
--- bytes that came
+-- bytes that arrived
 pub told : (place : Place) (size : ℕ) (held xs ys : List ℕ) → length held + length xs ≤ size → length held < size
     → parts place (Hold size) held (xs ++ ys) ≡ parts_from place size (held ++ xs) ys
 told place size held xs ys h k = elim (cases_lt (length (held ++ xs)) size) [
@@ -100,7 +98,7 @@ told place size held xs ys h k = elim (cases_lt (length (held ++ xs)) size) [
       rw t (held_whole place size held xs ys (omega (arith, length-append held xs)) k)
 ]
 
--- known bytes through a function
+-- known bytes, through a function
 pub consumes_through : (old new : Option (List ℕ)) (bytes out : List ℕ) (f g : List ℕ → List ℕ)
     → Consumes old new bytes → ((ys : List ℕ) → f (bytes ++ ys) ≡ out ++ g ys) → Consumes (option_map f old) (option_map g new) out
 consumes_through None new bytes out f g h e = tt
@@ -113,7 +111,7 @@ takes_through None new bytes f g h e = tt
 takes_through (Some xs) None bytes f g h e = absurd h
 takes_through (Some xs) (Some ys) bytes f g h e = sym (ap f h ∙ e ys)
 
--- and lines
+-- known lines, through a function
 pub lines_through : (taken : Option (List (List ℕ))) (old new : Option (List ℕ)) (bytes : List ℕ) (f g : List ℕ → List (List ℕ))
     → Consumes old new bytes → ((ys : List ℕ) → f (bytes ++ ys) ≡ g ys)
     → SameKnown (all_lines taken (option_map f old)) (all_lines taken (option_map g new))
@@ -122,7 +120,7 @@ lines_through (Some t) None new bytes f g h e = tt
 lines_through (Some t) (Some xs) None bytes f g h e = absurd h
 lines_through (Some t) (Some xs) (Some ys) bytes f g h e = ap (λ ls. t ++ ls) (sym (ap f h ∙ e ys))
 
--- and what else is known
+-- any known value, through a function
 pub known_through : {A : Type 0} (old new : Option (List ℕ)) (bytes : List ℕ) (f g : List ℕ → A)
     → Consumes old new bytes → ((ys : List ℕ) → f (bytes ++ ys) ≡ g ys) → SameKnown (option_map f old) (option_map g new)
 known_through None new bytes f g h e = tt
@@ -147,7 +145,7 @@ range_length ds start n h =
     let e : (start + n) - start ≡ n = omega arith in
     ap (λ k. length (take k (drop start ds))) e ∙ length-take-le n (drop start ds) (omega (arith, length-drop start ds))
 
--- of bytes that are held, the first are given
+-- the first of the held bytes are passed on
 pub range_parts : (ds : List ℕ) (start n end : ℕ) → start + n ≤ end
     → slice_range ds start end ≡ slice_range ds start (start + n) ++ slice_range ds (start + n) end
 range_parts ds start n end h =
@@ -158,7 +156,7 @@ range_parts ds start n end h =
     ∙ (ap (λ xs. take n (drop start ds) ++ take (end - (start + n)) xs) (drop-drop n start ds)
     ∙ ap (λ k. take k (drop start ds) ++ take (end - (start + n)) (drop (start + n) ds)) f))
 
--- bytes that are held are given
+-- held bytes are passed on
 pub gives_held : (o : Option (List ℕ)) (place : Place) (next : Next) (held out later : List ℕ) → is_holding next ≡ false
     → held ≡ out ++ later
     → Consumes (option_map (λ bs. (parts place next held bs).passed) o) (option_map (λ bs. (parts place next later bs).passed) o) out
@@ -193,7 +191,7 @@ pub end_through : (new : Option (List ℕ)) (f : List ℕ → List ℕ) → IsAt
 end_through None f h e = tt
 end_through (Some ys) f h e = ap f h ∙ e
 
--- a payload is read
+-- part of a payload is read
 pub reads_payload : (old new : Option (List ℕ)) (place : Place) (next : Next) (held buf rest : List ℕ) (left n : ℕ)
     → next ≡ Payload left → held ≡ [] → n ≤ length buf → length buf ≤ left → 0 < length buf → Consumes old new (take n buf)
     → (n ≡ 0 → 0 < length buf → IsAtEnd new)
@@ -220,7 +218,7 @@ reads_no_line taken old new place next held got left n is none len fits came =
     (λ ys. ap (λ (p : Parts). p.lines) (payload_part place left got ys (omega arith)
     ∙ ap (λ k. behind got [] (parts place (Payload (left - k)) [] ys)) len)))
 
--- what was held is taken
+-- a held line is taken
 pub took_whole : (o : Option (List ℕ)) (place : Place) (size : ℕ) (held kept : List ℕ) (a : After) → size ≤ length held
     → a ≡ held_after place size held → kept ≡ take a.count held
     → option_map (λ bs. (parts a.place a.next kept bs).passed) o ≡ passed_from place size held o
@@ -248,7 +246,7 @@ pub takes_none : (taken : Option (List (List ℕ))) → TakesLines taken taken [
 takes_none None = tt
 takes_none (Some t) = sym (append-nil t)
 
--- less than a line is held
+-- part of a line is held
 pub took_part : (o : Option (List ℕ)) (place : Place) (next : Next) (size : ℕ) (held kept : List ℕ) → length held < size
     → next ≡ Hold size → kept ≡ held
     → option_map (λ bs. (parts place next kept bs).passed) o ≡ passed_from place size held o
@@ -264,7 +262,6 @@ took_no_line (Some t) None place next size held kept few is k = tt
 took_no_line (Some t) (Some bs) place next size held kept few is k =
     let f : nat_lt (length held) size ≡ true = search rules in rw (f, is, k) refl
 
--- a line's payload
 pub payload_of : (size : ℕ) (room : List ℕ) → 4 ≤ size → take (size - 4) (drop 4 room) ≡ drop 4 (take size room)
 payload_of size room h =
     let e : 4 + (size - 4) ≡ size = omega (arith, h) in sym (drop-take 4 (size - 4) room) ∙ ap (λ k. drop 4 (take k room)) e
@@ -284,13 +281,13 @@ line_text place size held line text f is_taken some is by taken told =
     let v : text ≡ text_of (drop 4 held) = told ∙ ap text_of is in
     rw (t, u, v) refl
 
--- what was read of a line stands behind what was held
+-- the bytes read of a line follow the held ones
 pub behind_held : (old new : List ℕ) (start end n : ℕ) → start ≡ 0 → take end new ≡ take end old
     → take (end + n) new ≡ slice_range old start end ++ take n (drop end new)
 behind_held old new start end n first same =
     take-add end n new ∙ ap (λ xs. xs ++ take n (drop end new)) (same ∙ sym (first_range old start end first))
 
--- whether a line is refused
+-- whether a line is invalid
 pub gives_refusal : (o : Option (List ℕ)) (place : Place) (next : Next) (held out later : List ℕ) → is_holding next ≡ false
     → held ≡ out ++ later
     → SameKnown (option_map (λ bs. (parts place next held bs).is_refused) o) (option_map (λ bs. (parts place next later bs).is_refused) o)

@@ -18,27 +18,27 @@ size_held (Payload n) = 0
 size_held Rest = 0
 size_held Refused = 0
 
--- how many lines of the section came
+-- how many lines of the section were read
 abbrev pub count_of : Place → ℕ
 count_of (Uris count) = count
 count_of SectionStart = 0
 count_of Section = 0
 count_of Over = 0
 
--- a section has 1,000 lines at most; of a line that is held until it is whole some bytes are missing
+-- a section has at most 1,000 lines; a line that is held is not yet whole
 abbrev pub IsHeldInOrder : (room start end : ℕ) → Place → Next → Type 0
 IsHeldInOrder room start end place next =
     (room ≡ 65520) × (start ≤ end) × (end ≤ 65520) × (count_of place ≤ 1000)
     × (is_holding next ≡ true → (start ≡ 0) × (end < size_held next) × (4 ≤ size_held next) × (size_held next ≤ 65520))
 
--- how many lines a reader can take at most before it passes something on
+-- an upper bound of the lines before a reader passes on a byte
 abbrev pub lines_left : Place → ℕ
 lines_left SectionStart = 1002
 lines_left (Uris count) = 1001 - count
 lines_left Section = 0
 lines_left Over = 0
 
--- how often it can go on at most before that, or before it finds the end: it reads a byte at least
+-- an upper bound of the steps before a reader passes on a byte or finds the end; each step reads at least one byte
 abbrev pub steps_left : Place → (start end : ℕ) → Next → ℕ
 steps_left place start end (Hold size) = lines_left place * 65521 + (65520 - end)
 steps_left place start end (Payload n) = if nat_lt start end then 0 else 1003 * 65521

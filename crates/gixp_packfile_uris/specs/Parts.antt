@@ -1,4 +1,4 @@
--- What is passed on of some bytes, and which lines a sink takes (gitprotocol-v2, "Packet-Line Framing", "fetch").
+-- The bytes that are passed on, and the lines that the sink takes (gitprotocol-v2, "Packet-Line Framing", "fetch").
 use Rattle.std.specs.Prelude.{◌≡◌, ℕ, zero, suc, ◌+◌, ◌-◌, ◌<◌, ◌≤◌, ◌==◌, nat_lt, Bool, true, false, if◌then◌else◌, List, [], ◌∷◌, ◌++◌, length, take, drop, slice_range, Option, Some, None, Result, Ok, Err}
 use Rattle.std.specs.Option.{option_map}
 use Rattle.std.specs.Io.KnownBytes.{Keeps, Consumes, IsAtEnd}
@@ -31,22 +31,22 @@ after_delimiter Over = Over
 abbrev pub passes : Place → Next → ℕ → After
 passes place next count = record { place = place; next = next; count = count }
 
--- a delimiter packet ends the section, and isn't passed on
+-- a delimiter packet ends the section and isn't passed on; elsewhere it is passed on
 abbrev pub delimiter_after : Place → After
 delimiter_after place = if in_uris place then passes Over (Hold 4) 0 else passes (after_delimiter place) (Payload 0) 4
 
--- a flush packet, or a response-end packet, doesn't end it
+-- a flush or response-end packet in the section is an error; elsewhere it is passed on
 abbrev pub flush_after : Place → After
 flush_after place = if in_uris place then passes place Refused 0 else passes SectionStart (Payload 0) 4
 
--- a line of this size is held where it may be of the section
+-- a line of this size is held if it may belong to the section
 abbrev pub line_after : Place → ℕ → After
 line_after SectionStart size = passes SectionStart (Hold size) 4
 line_after (Uris count) size = passes (Uris count) (Hold size) 4
 line_after Section size = passes Section (Payload (size - 4)) 4
 line_after Over size = passes Over (Payload (size - 4)) 4
 
--- what comes after four digits
+-- what comes after the four digits of a packet line
 abbrev pub digits_after : Place → Option ℕ → After
 digits_after place None = passes place Rest 4
 digits_after place (Some size) =
@@ -56,7 +56,7 @@ digits_after place (Some size) =
     else if nat_lt 65520 size then passes place Rest 4
     else line_after place size
 
--- and after a whole line of so many bytes
+-- what comes after a whole line of this many bytes
 abbrev pub fate_after : Place → Fate → ℕ → After
 fate_after place (Pass next) count = passes next (Payload 0) count
 fate_after place (Take next) count = passes next (Hold 4) 0
@@ -66,7 +66,7 @@ abbrev pub held_after : Place → ℕ → List ℕ → After
 held_after place size held =
     if size == 4 then digits_after place (size_of held) else fate_after place (fate place (drop 4 held)) (length held)
 
--- a line of the section that is taken goes into the sink, but its header doesn't
+-- the sink takes each line of the section, but not its header
 abbrev pub takes_uri : Place → Fate → Bool
 takes_uri place (Take next) = in_uris place
 takes_uri place (Pass next) = false
@@ -76,20 +76,20 @@ abbrev pub lines_held : Place → ℕ → List ℕ → List (List ℕ)
 lines_held place size held =
     if size == 4 then [] else if takes_uri place (fate place (drop 4 held)) then text_of (drop 4 held) ∷ [] else []
 
--- the bytes that are passed on, the lines that the sink takes, and whether a line is refused behind them
+-- the bytes that are passed on, the lines that the sink takes, and whether an invalid line follows
 pub record Parts : Type 0 where
   pub passed : List ℕ
   pub lines : List (List ℕ)
   pub is_refused : Bool
 
--- bytes that are passed on, to the reader's end
+-- bytes that are passed on up to the end of the reader
 abbrev pub ending : List ℕ → Parts
 ending bytes = record { passed = bytes; lines = []; is_refused = false }
 
 abbrev pub behind : List ℕ → List (List ℕ) → Parts → Parts
 behind front first p = record { passed = front ++ p.passed; lines = first ++ p.lines; is_refused = p.is_refused }
 
--- those of some bytes, and of what is held before them
+-- the parts of held bytes and of the bytes after them
 abbrev pub parts : Place → Next → (held : List ℕ) → List ℕ → Parts
 parts place Refused held bytes = record { passed = held; lines = []; is_refused = true }
 parts place Rest held bytes = ending (held ++ bytes)
@@ -105,33 +105,33 @@ parts place (Hold size) held (b ∷ bytes) =
     (parts (held_after place size (held ++ b ∷ [])).place (held_after place size (held ++ b ∷ [])).next
     (take (held_after place size (held ++ b ∷ [])).count (held ++ b ∷ [])) bytes)
 
--- those of a stream
+-- the parts of a stream
 abbrev pub parts_of : List ℕ → Parts
 parts_of bytes = parts SectionStart (Hold 4) [] bytes
 
--- those of what comes after these bytes of a line, of which so many are held at most
+-- the parts of the bytes after these bytes of a line, of which at most `size` are held
 abbrev pub parts_from : Place → (size : ℕ) → List ℕ → List ℕ → Parts
 parts_from place size held bytes =
     if nat_lt (length held) size then parts place (Hold size) held bytes
     else behind [] (lines_held place size held)
     (parts (held_after place size held).place (held_after place size held).next (take (held_after place size held).count held) bytes)
 
--- what a reader has still to pass on
+-- the bytes that a reader has still to pass on
 abbrev pub to_come : {R S : Type 0} → (R → Option (List ℕ)) → PackfileUris R S → Option (List ℕ)
 to_come remaining p =
     option_map (λ bytes. (parts p.place p.next (slice_range p.room.items p.start p.end) bytes).passed) (remaining p.reader)
 
--- the lines that its sink took, and those that it will take
+-- the lines that its sink took and will take
 abbrev pub lines_of : {R S : Type 0} → (R → Option (List ℕ)) → (S → Option (List (List ℕ))) → PackfileUris R S → Option (List (List ℕ))
 lines_of remaining lines p = all_lines (lines p.sink)
     (option_map (λ bytes. (parts p.place p.next (slice_range p.room.items p.start p.end) bytes).lines) (remaining p.reader))
 
--- whether it will refuse a line
+-- whether it will find an invalid line
 abbrev pub refused_of : {R S : Type 0} → (R → Option (List ℕ)) → PackfileUris R S → Option Bool
 refused_of remaining p =
     option_map (λ bytes. (parts p.place p.next (slice_range p.room.items p.start p.end) bytes).is_refused) (remaining p.reader)
 
--- the same after these bytes of a line
+-- the bytes to pass on after these bytes of a line
 abbrev pub passed_from : Place → (size : ℕ) → List ℕ → Option (List ℕ) → Option (List ℕ)
 passed_from place size held bytes = option_map (λ bs. (parts_from place size held bs).passed) bytes
 
@@ -141,22 +141,22 @@ lines_from taken place size held bytes = all_lines taken (option_map (λ bs. (pa
 abbrev pub refused_from : Place → (size : ℕ) → List ℕ → Option (List ℕ) → Option Bool
 refused_from place size held bytes = option_map (λ bs. (parts_from place size held bs).is_refused) bytes
 
--- how often it can go on before it passes something on
+-- an upper bound of the steps before the reader passes on a byte or finds the end
 abbrev pub steps_of : {R S : Type 0} → PackfileUris R S → ℕ
 steps_of p = steps_left p.place p.start p.end p.next
 
--- a read into some room: no more than fits, and nothing only at the end
+-- a read into this space: no more bytes than fit, and none only at the end
 abbrev pub ReadsInto : {E : Type 0} → Option (List ℕ) → Option (List ℕ) → (end size : ℕ) → List ℕ → Result ℕ E → Type 0
 ReadsInto old new end size room (Ok n) = (end + n ≤ size) × Consumes old new (take n (drop end room)) × (n ≡ 0 → IsAtEnd new)
 ReadsInto old new end size room (Err e) = Keeps old new
 
--- a call that passes nothing on, and reports whether it found the end; if not, the reader went on
+-- a call that passes on no byte, and returns whether it found the end; if not, the reader went a step further
 abbrev pub ReadsHeld : {E : Type 0} → Option (List ℕ) → Option (List ℕ) → (steps left : ℕ) → Result Bool E → Type 0
 ReadsHeld old new steps left (Ok true) = Keeps old new × IsAtEnd new
 ReadsHeld old new steps left (Ok false) = Keeps old new × (left < steps)
 ReadsHeld old new steps left (Err e) = Keeps old new
 
--- a call that passes on what it can, or nothing; then the reader went on
+-- a call that passes on some bytes, or goes a step further
 abbrev pub PassesOrSteps : {E : Type 0} → Option (List ℕ) → Option (List ℕ) → (steps left : ℕ) → List ℕ → Result (Option ℕ) E → Type 0
 PassesOrSteps old new steps left buf (Ok (Some n)) = (n ≤ length buf) × Consumes old new (take n buf) × (n ≡ 0 → IsAtEnd new)
 PassesOrSteps old new steps left buf (Ok None) = Keeps old new × (left < steps)

@@ -8,7 +8,7 @@ use Rattle.gixp_packfile_uris.specs.declared.place.Fate.TheVariants.{Pass, Take,
 use Rattle.gixp_packfile_uris.specs.Line.{text_of, fate}
 use Rattle.gixp_packfile_uris.specs.Parts.{in_uris, after_delimiter}
 
--- a delimiter packet ends the section; a flush packet in it ends the stream, and so does a line that is refused
+-- the packet lines without the section; a delimiter packet ends it, and an invalid line or a flush packet in it ends the stream
 abbrev pub without_uris : Place → List Frame → End → Frames
 without_uris place [] end = no_frames end
 without_uris place (payload p ∷ frames) end = elim (fate place p) [
@@ -24,7 +24,7 @@ without_uris place (special ResponseEnd ∷ frames) end =
     if in_uris place then no_frames ended else with_frame (special ResponseEnd) (without_uris SectionStart frames end)
 without_uris place (special Text ∷ frames) end = no_frames ended
 
--- the lines of the section, without their bands and line ends
+-- the lines of the section, without their bands and LFs
 abbrev pub uri_lines : Place → List Frame → List (List ℕ)
 uri_lines place [] = []
 uri_lines place (payload p ∷ frames) = elim (fate place p) [
@@ -37,7 +37,7 @@ uri_lines place (special Flush ∷ frames) = if in_uris place then [] else uri_l
 uri_lines place (special ResponseEnd ∷ frames) = if in_uris place then [] else uri_lines SectionStart frames
 uri_lines place (special Text ∷ frames) = []
 
--- whether a line is refused: one that is none of the section's, or a flush packet or a response-end packet in it
+-- whether the section has an invalid line, a flush packet or a response-end packet
 abbrev pub is_refused : Place → List Frame → Bool
 is_refused place [] = false
 is_refused place (payload p ∷ frames) = elim (fate place p) [

@@ -1,5 +1,5 @@
-//! The packs that a server names by URIs in place of objects in its pack: a reader that takes the section `packfile-uris` out of each
-//! answer (gitprotocol-v2, "fetch"; git's "Packfile URIs").
+//! Packs that a server names by URIs instead of sending their objects: a reader that removes the section
+//! `packfile-uris` from each response (gitprotocol-v2, "fetch"; git's "Packfile URIs").
 #![tactic(auto)]
 
 pub mod laws;

@@ -1,4 +1,4 @@
-//! What a packet line of an answer is.
+//! What happens to a packet line of a response.
 ghost use Rattle.std.specs.Prelude.{◌≡◌, length};
 ghost use Rattle.std.specs.Char.{is_ascii_hexdigit};
 ghost use Rattle.std.specs.List.{list_all};
@@ -6,7 +6,7 @@ ghost use Rattle.gixp_packfile_uris.specs.Line.{without_band, without_end, text_
 
 use crate::place::{Fate, MOST_URIS, Place};
 
-// A line without band 1, where all lines are on bands.
+// A line without band 1, where all lines have a band.
 fn without_band(line: &[u8]) -> &[u8]
     ensures { result.now ≡ without_band line.now }
 {
@@ -16,7 +16,6 @@ fn without_band(line: &[u8]) -> &[u8]
     }
 }
 
-// A line without its line end.
 fn without_end(line: &[u8]) -> &[u8]
     ensures { result.now ≡ without_end line.now }
 {
@@ -26,14 +25,13 @@ fn without_end(line: &[u8]) -> &[u8]
     }
 }
 
-/// The text of a line.
+/// The text of a line, without its band and LF.
 pub(crate) fn text_of(line: &[u8]) -> &[u8]
     ensures { result.now ≡ text_of line.now }
 {
     without_end(without_band(line))
 }
 
-// Whether a line is a message on band 2 or 3.
 fn is_message(line: &[u8]) -> bool
     ensures { result ≡ is_message line.now }
 {
@@ -43,35 +41,34 @@ fn is_message(line: &[u8]) -> bool
     }
 }
 
-// Whether the section begins with this line.
+// Whether the section `packfile-uris` begins with this line.
 fn is_header(line: &[u8]) -> bool
     ensures { result ≡ is_header line.now }
 {
     text_of(line) == b"packfile-uris".as_slice()
 }
 
-// Whether a byte may stand in a URI.
+// Whether a byte may occur in a URI.
 fn is_uri_byte(byte: u8) -> bool
     ensures { result ≡ is_uri_byte byte }
 {
     byte > b' ' && byte != 127
 }
 
-// Whether all bytes are hexadecimal digits.
 fn are_digits(text: &[u8]) -> bool
     ensures { result ≡ list_all is_ascii_hexdigit text.now }
 {
     text.iter().all(|b| b.is_ascii_hexdigit())
 }
 
-// Whether all bytes may stand in a URI.
+// Whether all bytes may occur in a URI.
 fn are_uri_bytes(text: &[u8]) -> bool
     ensures { result ≡ list_all is_uri_byte text.now }
 {
     text.iter().all(|b| is_uri_byte(*b))
 }
 
-// Whether a text is the name of a pack, a space and a URI.
+// Whether a text is the hash of a pack, a space and a URI.
 fn is_uri_line(text: &[u8]) -> bool
     ensures { result ≡ is_uri_line text.now }
 {
@@ -84,7 +81,7 @@ fn is_uri_line(text: &[u8]) -> bool
     are_digits(digits) && (gap == b" ".as_slice() && are_uri_bytes(uri))
 }
 
-// What becomes of a line at the start of a section.
+// What happens to a line at the start of a section.
 fn start_fate(line: &[u8]) -> Fate
     ensures { result ≡ start_fate line.now }
 {
@@ -95,7 +92,7 @@ fn start_fate(line: &[u8]) -> Fate
     }
 }
 
-// What becomes of a line in the section, after so many others.
+// What happens to a line of the section `packfile-uris`, after `count` others.
 fn uri_fate(count: usize, line: &[u8]) -> Fate
     ensures { result ≡ uri_fate count line.now }
 {
@@ -106,7 +103,7 @@ fn uri_fate(count: usize, line: &[u8]) -> Fate
     }
 }
 
-/// What becomes of a line.
+/// What happens to a line.
 pub(crate) fn fate(place: Place, line: &[u8]) -> Fate
     ensures { result ≡ fate place line.now }
 {

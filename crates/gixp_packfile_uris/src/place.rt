@@ -3,57 +3,57 @@ ghost use Rattle.std.specs.Prelude.{List, [], ◌∷◌, ℕ, Option, None, vec_
 ghost use Rattle.gixp_packfile_uris.specs.Sink.{TakesLines};
 ghost use Rattle.gixp_packfile_uris.specs.Order.{IsHeldInOrder};
 
-/// How many URIs an answer may name.
+/// The number of URIs that a response may name.
 pub const MOST_URIS: usize = 1000;
 
-/// Takes the lines of a section `packfile-uris`.
+/// Receives the lines of the section `packfile-uris`.
 pub trait UriSink {
-    /// The lines that were taken, where they are known.
+    /// The lines received, where they are known.
     ghost lines: { Self → Option (List (List ℕ)) } = { λ _. None };
 
-    /// Takes a line: the 40 hexadecimal digits of a pack's name, a space, and the URI. It has no line end.
+    /// Receives a line: the 40 hexadecimal digits of a pack's hash, a space, and the URI, without an LF.
     fn take(&mut self, line: &[u8])
         ensures { TakesLines (lines self.old) (lines self.new) (line.now ∷ []) };
 }
 
-/// Where a packet line is in an answer of version 2.
+/// Where a packet line occurs in a response of version 2.
 #[derive(Clone, Copy)]
 pub(crate) enum Place {
     /// At the start of a section, where `packfile-uris` may begin.
     SectionStart,
     /// In another section.
     Section,
-    /// In the section `packfile-uris`, after so many lines.
+    /// In the section `packfile-uris`, after this many lines.
     Uris(usize),
     /// After that section.
     Over,
 }
 
-/// What becomes of a packet line. The place is that of the next one.
+/// What happens to a packet line, and where the next one occurs.
 #[derive(Clone, Copy)]
 pub(crate) enum Fate {
     /// It is passed on.
     Pass(Place),
-    /// It is of the section `packfile-uris`.
+    /// It belongs to the section `packfile-uris`.
     Take(Place),
-    /// It is no line of that section, and the stream ends.
+    /// It is not a valid line of that section, and ends the stream.
     Refuse,
 }
 
-/// What comes after the bytes that are held.
+/// What comes after the held bytes.
 #[derive(Clone, Copy)]
 pub(crate) enum Next {
-    /// More of a packet line, until so many bytes of it are held: its four digits, or all of it.
+    /// More of a packet line, until this many bytes of it are held: its four digits, or all of it.
     Hold(usize),
-    /// So many bytes of a payload, which are passed on as they come.
+    /// This many bytes of a payload, which are passed on as they come.
     Payload(usize),
-    /// What is no packet line, or less than one.
+    /// Bytes that are not a packet line, or less than one.
     Rest,
-    /// Nothing, since a line was refused.
+    /// Nothing, because a line was invalid.
     Refused,
 }
 
-/// What comes after a packet line that was held, and how many of its bytes are passed on before.
+/// What comes after a held packet line, and how many of its bytes are passed on before that.
 #[derive(Clone, Copy)]
 pub(crate) struct After {
     pub(crate) place: Place,
@@ -61,27 +61,28 @@ pub(crate) struct After {
     pub(crate) count: usize,
 }
 
-/// The packet lines of a server without the section `packfile-uris` of each answer: its header, its lines, and the delimiter packet
-/// after it. The sink takes the lines.
+/// The packet lines of a server without the section `packfile-uris` of each response: its header, its lines, and the
+/// delimiter packet after it. The sink receives the lines.
 ///
-/// A section begins after a flush packet, and after a delimiter packet. Where all lines are on bands (gitprotocol-v2,
-/// "sideband-all"), messages of bands 2 and 3 are passed on wherever they stand, and belong to no section. Only the first section
-/// `packfile-uris` of an answer counts: any other is passed on, as what it isn't.
+/// A section begins after a flush packet and after a delimiter packet. Where all lines have a band (gitprotocol-v2,
+/// "sideband-all"), messages of bands 2 and 3 are passed on wherever they occur, and belong to no section. Only the
+/// first section `packfile-uris` of a response is removed; any other is passed on.
 ///
-/// A line of the section is 40 hexadecimal digits, a space and a URI without a blank or a control character; more than `MOST_URIS`
-/// lines are too many. At any other line, and at a flush packet in the section, the stream ends: from then on every read returns the
-/// error `InvalidData`. From the first four bytes on that count no packet line all is passed on as it comes.
+/// A line of the section is 40 hexadecimal digits, a space, and a URI without blanks or control characters. The section
+/// has at most `MOST_URIS` lines. Any other line, and a flush packet in the section, end the stream: from then on every
+/// read returns the error `InvalidData`. After four bytes that begin no packet line, all bytes are passed on as they
+/// come.
 ///
-/// It never reads more than the packet line that comes next. A line at the start of a section is held until it is whole, and so is
-/// each line of `packfile-uris`. The payload of any other is read right into the buffer of the one who asks. A read that fails loses
-/// nothing.
+/// It never reads beyond the next packet line. A line at the start of a section is held until it is whole, and so is
+/// each line of `packfile-uris`. The payload of any other line is read directly into the caller's buffer. A failed read
+/// loses nothing.
 #[derive(Drop)]
 pub struct PackfileUris<R, S> {
     pub(crate) reader: R,
     pub(crate) sink: S,
     pub(crate) place: Place,
     pub(crate) next: Next,
-    // Room for one packet line. The bytes from `start` to `end` came and aren't passed on.
+    // Space for one packet line. The bytes from `start` to `end` were read and not yet passed on.
     pub(crate) room: Vec<u8>,
     pub(crate) start: usize,
     pub(crate) end: usize,

@@ -1,4 +1,4 @@
-//! A reader of packet lines that takes the section `packfile-uris` out.
+//! A reader of packet lines that removes the section `packfile-uris`.
 ghost use Rattle.std.specs.Prelude.{◌≡◌, if◌then◌else◌, [], ◌∷◌, ◌+◌, ◌<◌, ◌≤◌, length, take, true, false, vec_len, IfOk, IfSome};
 ghost use Rattle.std.specs.Option.{option_map};
 ghost use Rattle.std.specs.Io.{ReadsAtMost};
@@ -15,10 +15,10 @@ use std::alloc::{AllocError, Global};
 use std::io;
 use std::io::{ErrorKind, Read};
 
-// How many bytes a packet line has at most.
+// The number of bytes of the longest packet line.
 const MOST_BYTES: usize = 65520;
 
-// The number of four digits.
+// `None` where a byte is not a hexadecimal digit.
 fn size_of(digits: &[u8]) -> Option<usize>
     requires { length digits.now ≡ 4 }
     ensures { result ≡ size_of digits.now }
@@ -33,7 +33,6 @@ fn size_of(digits: &[u8]) -> Option<usize>
     }
 }
 
-// Whether this is in the section.
 fn in_uris(place: Place) -> bool
     ensures { result ≡ in_uris place }
 {
@@ -53,7 +52,6 @@ fn after_delimiter(place: Place) -> Place
     }
 }
 
-// What comes after a delimiter packet.
 fn delimiter_after(place: Place) -> After
     ensures { result ≡ delimiter_after place }
 {
@@ -72,7 +70,7 @@ fn delimiter_after(place: Place) -> After
     }
 }
 
-// What comes after a flush packet.
+// What comes after a flush or response-end packet.
 fn flush_after(place: Place) -> After
     ensures { result ≡ flush_after place }
 {
@@ -106,7 +104,7 @@ fn line_after(place: Place, size: usize) -> After
     }
 }
 
-// What comes after four digits.
+// What comes after the four digits of a packet line.
 fn digits_after(place: Place, size: Option<usize>) -> After
     ensures { result ≡ digits_after place size }
 {
@@ -122,7 +120,7 @@ fn digits_after(place: Place, size: Option<usize>) -> After
     }
 }
 
-// What comes after a whole line of so many bytes.
+// What comes after a whole line of `count` bytes.
 fn fate_after(place: Place, fate: Fate, count: usize) -> After
     ensures { result ≡ fate_after place fate count }
 {
@@ -145,7 +143,6 @@ fn fate_after(place: Place, fate: Fate, count: usize) -> After
     }
 }
 
-// Whether the sink takes a line.
 fn takes_uri(place: Place, fate: Fate) -> bool
     ensures { result ≡ takes_uri place fate }
 {
@@ -155,7 +152,7 @@ fn takes_uri(place: Place, fate: Fate) -> bool
     }
 }
 
-// Has the sink take a line, where it is one of the section.
+// Passes the line to the sink if `is_taken`.
 fn take_if<S: UriSink>(sink: &mut S, is_taken: bool, line: &[u8])
     ensures { TakesLines (S.lines sink.old) (S.lines sink.new) (if is_taken then line.now ∷ [] else []) }
 {
@@ -164,7 +161,7 @@ fn take_if<S: UriSink>(sink: &mut S, is_taken: bool, line: &[u8])
     }
 }
 
-// Reads into the room between these places.
+// Reads into the space between these offsets.
 fn read_into<R: Read>(
     reader: &mut R,
     room: &mut Vec<u8>,
@@ -181,11 +178,11 @@ fn read_into<R: Read>(
 }
 
 impl<R: Read + Drop, S: UriSink + Drop> PackfileUris<R, S> {
-    /// The packet lines of this reader, which is at the start of a capability advertisement or of an answer.
+    /// Passes on the packet lines of this reader, which must be at the start of a capability advertisement or of a response.
     ///
     /// # Errors
     ///
-    /// An allocation failure alone.
+    /// Only an allocation failure.
     pub fn new(alloc: Global, reader: R, sink: S) -> Result<PackfileUris<R, S>, AllocError>
         ensures bytes { IfOk result (λ p. to_come R.remaining p ≡ option_map (λ bytes. (parts_of bytes).passed) (R.remaining reader)) }
         ensures lines { IfOk result (λ p. lines_of R.remaining S.lines p
@@ -207,7 +204,7 @@ impl<R: Read + Drop, S: UriSink + Drop> PackfileUris<R, S> {
 }
 
 impl<R: Read, S: UriSink> PackfileUris<R, S> {
-    // Gives bytes that are held.
+    // Passes on held bytes.
     fn give(&mut self, buf: &mut [u8]) -> usize
         requires held { self.old.start < self.old.end }
         requires known { is_holding self.old.next ≡ false }
@@ -241,7 +238,7 @@ impl<R: Read, S: UriSink> PackfileUris<R, S> {
         self.end = after.count;
     }
 
-    // Goes on after a whole line of so many bytes.
+    // Goes on after a whole line of `size` bytes.
     fn end_line(&mut self, size: usize)
         requires held { self.old.next ≡ Next.Hold size }
         requires line { 4 < size }
@@ -261,7 +258,7 @@ impl<R: Read, S: UriSink> PackfileUris<R, S> {
         self.end = after.count;
     }
 
-    // Goes on where so many bytes of a line are held.
+    // Goes on with the first `end` bytes of a line in the buffer.
     fn take_bytes(&mut self, size: usize, end: usize)
         requires held { self.old.next ≡ Next.Hold size }
         requires more { self.old.end < end }
@@ -282,7 +279,7 @@ impl<R: Read, S: UriSink> PackfileUris<R, S> {
         }
     }
 
-    // Reads more of a line. Returns whether nothing more is passed on, since the reader is at its end.
+    // Reads more of a line. Returns true at the end of the reader, after which nothing is passed on.
     fn read_held(&mut self, size: usize) -> io::Result<bool>
         requires { self.old.next ≡ Next.Hold size }
         ensures bytes { ReadsHeld (to_come R.remaining self.old) (to_come R.remaining self.new) (steps_of self.old) (steps_of self.new)
@@ -303,7 +300,7 @@ impl<R: Read, S: UriSink> PackfileUris<R, S> {
         Ok(false)
     }
 
-    // Reads of a payload.
+    // Reads part of a payload.
     fn read_payload(&mut self, left: usize, buf: &mut [u8]) -> io::Result<usize>
         requires some { 0 < left }
         requires next { self.old.next ≡ Next.Payload left }
@@ -321,7 +318,7 @@ impl<R: Read, S: UriSink> PackfileUris<R, S> {
         Ok(count)
     }
 
-    // Gives what it can, or takes a step without it.
+    // Passes on what it can, or goes a step further.
     fn step(&mut self, buf: &mut [u8]) -> io::Result<Option<usize>>
         requires { 0 < length buf.old }
         ensures bytes { PassesOrSteps (to_come R.remaining self.old) (to_come R.remaining self.new) (steps_of self.old) (steps_of self.new)
@@ -352,11 +349,11 @@ impl<R: Read, S: UriSink> PackfileUris<R, S> {
         }
     }
 
-    /// Reads as `Read::read` does, which calls this.
+    /// Reads as `Read::read` does, which calls this. The contract also covers the lines of the sink and invalid lines.
     ///
     /// # Errors
     ///
-    /// Those of the reader inside, and `InvalidData` from a line on that is refused.
+    /// Those of the reader inside, and `InvalidData` once a line was invalid.
     pub fn read_passing(&mut self, buf: &mut [u8]) -> io::Result<usize>
         ensures bound { ReadsAtMost result buf.new }
         ensures bytes { ReadConsumes (to_come R.remaining self.old) (to_come R.remaining self.new) result buf.new }

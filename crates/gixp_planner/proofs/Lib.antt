@@ -22,4 +22,5 @@ pub mod LaterLemmas
 pub mod ListNegotiationLemmas
 pub mod StandInLemmas
 pub mod PrintedLemmas
-mod WordRows
+mod ArgvExamples
+pub mod ListedRefsLemmas

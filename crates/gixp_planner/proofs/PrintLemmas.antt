@@ -15,12 +15,12 @@ use Rattle.gixp_matching.specs.Validate.{removed_of}
 use Rattle.gixp_refmap.specs.declared.refmap.mapping.Mapping.{Mapping}
 use Rattle.gixp_refmap.specs.Mapping.{source_id, source_name}
 use Rattle.gixp_planner.specs.declared.error.PlanError.{PlanError}
-use Rattle.gixp_planner.specs.Refusal.{refusal_of, IsUnwritten, amount_told, failed_amount, written_amount, device_refusal, AnswersWrite}
+use Rattle.gixp_planner.specs.Refusal.{refusal_of, IsUnwritten, amount_value, failed_amount, written_amount, device_refusal, AnswersWrite}
 use Rattle.gixp_planner.specs.Written.{WritesPart, WritesBeginning, WritesPlan, WritesSome, HoldsRest, EndsInFlush, flushed, unwritten}
 use Rattle.gixp_planner.proofs.ListLemmas.{left-at}
 use Rattle.gixp_text.specs.Pieces.{joined}
-use Rattle.gixp_listing.specs.MappingNames.{name_shown}
-use Rattle.gixp_planner.specs.Text.{frame_content, frame_shown, request_shown, requests_behind, id_shown, mapping_shown, fix_shown}
+use Rattle.gixp_refmap.specs.MappingNames.{name_or_dash}
+use Rattle.gixp_planner.specs.Text.{frame_content, frame_shown, request_shown, requests_after, id_shown, mapping_shown, fix_shown}
 
 -- nothing of a text is written yet
 pub part-none : (a : Option (List ℕ)) (text : List ℕ) → WritesPart a a text text
@@ -73,7 +73,7 @@ keeps-nothing (Some xs) (Some ys) k = k ∙ append-nil xs
 
 -- what a write took of a text is as much as is told of it
 pub some-written : (a b : Option (List ℕ)) (text : List ℕ) (written : Result ℕ IoError) (r : Result ℕ PlanError)
-    → WritesAtMost written text → WriteAppends a b written text → amount_told r ≡ written_amount written → IfErr r IsUnwritten
+    → WritesAtMost written text → WriteAppends a b written text → amount_value r ≡ written_amount written → IfErr r IsUnwritten
     → WritesSome a b text r
 some-written a b text (Ok zero) (Ok n) most k h u = cc
 some-written a b text (Ok zero) (Err e) most k h u = (keeps-nothing a b k, u)
@@ -179,9 +179,9 @@ pub each-next : {X : Type 0} (show : X → List ℕ) (xs : List X) (i : ℕ) (x 
 each-next show xs i x h e = ap (flat_map show) (left-at xs i x h e)
 
 pub requests-next : (k : ℕ) (left rest : List (List ℕ)) (r s : List ℕ) → left ≡ r ∷ rest → s ≡ r
-    → requests_behind k left ≡ request_shown (k + 1) (frames_of s).list ++ requests_behind (k + 1) rest
-requests-next k left rest r s e f = ap (requests_behind k) e
-    ∙ ap (λ t. request_shown (k + 1) (frames_of t).list ++ requests_behind (k + 1) rest) (sym f)
+    → requests_after k left ≡ request_shown (k + 1) (frames_of s).list ++ requests_after (k + 1) rest
+requests-next k left rest r s e f = ap (requests_after k) e
+    ∙ ap (λ t. request_shown (k + 1) (frames_of t).list ++ requests_after (k + 1) rest) (sym f)
 
 pub lines-next : (rest behind text : List ℕ) (f : Frame) → frames_of rest ≡ with_frame f (frames_of behind) → text ≡ frame_content f
     → flat_map frame_shown (frames_of rest).list
@@ -190,17 +190,17 @@ lines-next rest behind text f e k = ap (λ fs. flat_map frame_shown fs.list) e
     ∙ ap (λ t. joined (codes "> " ∷ t ∷ codes "\n" ∷ []) ++ flat_map frame_shown (frames_of behind).list) (sym k)
 
 -- a mapping by its pieces
-pub mapping-pieces : (m : Mapping) (id name local : List ℕ) → id ≡ id_shown (source_id m.remote) → name ≡ name_shown (source_name m.remote)
-    → local ≡ name_shown (option_map bstring_bytes m.local)
+pub mapping-pieces : (m : Mapping) (id name local : List ℕ) → id ≡ id_shown (source_id m.remote)
+    → name ≡ name_or_dash (source_name m.remote) → local ≡ name_or_dash (option_map bstring_bytes m.local)
     → joined (codes "map " ∷ id ∷ codes " " ∷ name ∷ codes " " ∷ local ∷ codes "\n" ∷ []) ≡ mapping_shown m
 mapping-pieces m id name local e f g =
     ap (λ t. joined (codes "map " ∷ t ∷ codes " " ∷ name ∷ codes " " ∷ local ∷ codes "\n" ∷ [])) e
     ∙ ap (λ t. joined (codes "map " ∷ id_shown (source_id m.remote) ∷ codes " " ∷ t ∷ codes " " ∷ local ∷ codes "\n" ∷ [])) f
-    ∙ ap (λ t. joined (codes "map " ∷ id_shown (source_id m.remote) ∷ codes " " ∷ name_shown (source_name m.remote) ∷ codes " " ∷ t
+    ∙ ap (λ t. joined (codes "map " ∷ id_shown (source_id m.remote) ∷ codes " " ∷ name_or_dash (source_name m.remote) ∷ codes " " ∷ t
     ∷ codes "\n" ∷ [])) g
 
 -- a mapping that was taken out by its pieces
-pub fix-pieces : (f : Fix) (name spec : List ℕ) → name ≡ name_shown (removed_of f).name → spec ≡ (removed_of f).spec
+pub fix-pieces : (f : Fix) (name spec : List ℕ) → name ≡ name_or_dash (removed_of f).name → spec ≡ (removed_of f).spec
     → joined (codes "fix " ∷ name ∷ codes " " ∷ spec ∷ codes "\n" ∷ []) ≡ fix_shown f
 fix-pieces f name spec d e = ap (λ t. joined (codes "fix " ∷ t ∷ codes " " ∷ spec ∷ codes "\n" ∷ [])) d
-    ∙ ap (λ t. joined (codes "fix " ∷ name_shown (removed_of f).name ∷ codes " " ∷ t ∷ codes "\n" ∷ [])) e
+    ∙ ap (λ t. joined (codes "fix " ∷ name_or_dash (removed_of f).name ∷ codes " " ∷ t ∷ codes "\n" ∷ [])) e

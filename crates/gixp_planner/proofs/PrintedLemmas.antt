@@ -27,14 +27,14 @@ use Rattle.gixp_planner.specs.declared.negotiation.PrintingNegotiation.{Printing
 use Rattle.gixp_planner.specs.declared.printed.PrintedMap.{PrintedMap}
 use Rattle.gixp_planner.specs.Text.{mapping_shown, fix_shown, map_shown}
 use Rattle.gixp_planner.specs.Session.{planner_call, Carries, CarriesOn, FetchesMapped}
-use Rattle.gixp_planner.specs.Printed.{text_behind, printed_text, left_of, over, calls_over}
+use Rattle.gixp_planner.specs.Printed.{text_then, printed_text, left_of, over, calls_over}
 use Rattle.gixp_planner.proofs.SessionLemmas.{fetches-over}
 use Rattle.gixp_planner.proofs.StandInLemmas.{StandsFor, world_of, stands_in}
 
 -- a text of mappings behind the texts of those before them
 pub part_printed : (texts : List (Vec ℕ Global)) (text : Vec ℕ Global) (ms later : List Mapping) (fixes : List Fix)
     → text.items ≡ flat_map mapping_shown ms
-    → text_behind (flat_map vec_items (texts ++ text ∷ [])) later fixes ≡ text_behind (flat_map vec_items texts) (ms ++ later) fixes
+    → text_then (flat_map vec_items (texts ++ text ∷ [])) later fixes ≡ text_then (flat_map vec_items texts) (ms ++ later) fixes
 part_printed texts text ms later fixes e =
     let before = flat_map vec_items texts in
     let behind = flat_map fix_shown fixes in
@@ -52,9 +52,9 @@ left_printed before printed e f = ap (λ ms. ms ++ reverse printed.later.items) 
 -- where no mapping is a text yet, that of the ref map is printed
 pub all_printed : (p : PrintedMap) (m : RefMap) → p.map ≡ m → p.texts.items ≡ [] → p.later.items ≡ [] → printed_text p ≡ map_shown m
 all_printed p m e f h =
-    ap (λ ts. text_behind (flat_map vec_items ts) (p.map.mappings.items ++ p.later.items) p.map.fixes.items) f
-    ∙ ap (λ ls. text_behind [] (p.map.mappings.items ++ ls) p.map.fixes.items) h
-    ∙ ap (λ ms. text_behind [] ms p.map.fixes.items) (append-nil p.map.mappings.items) ∙ ap map_shown e
+    ap (λ ts. text_then (flat_map vec_items ts) (p.map.mappings.items ++ p.later.items) p.map.fixes.items) f
+    ∙ ap (λ ls. text_then [] (p.map.mappings.items ++ ls) p.map.fixes.items) h
+    ∙ ap (λ ms. text_then [] ms p.map.fixes.items) (append-nil p.map.mappings.items) ∙ ap map_shown e
 
 -- the lines of mappings, and of those behind them
 wishes_both : (ignores : Mapping → Bool) (objects : Objects) (by_name new_only : Bool) (xs ys : List Mapping) (known : List Bool)

@@ -19,7 +19,7 @@ use Rattle.gixp_refmap.specs.declared.refmap.map.RefMap.{RefMap}
 use Rattle.gixp_refmap.specs.Mapping.{source_id, source_name, found_in, IsRemote, IsMapping, AnswersBy}
 use Rattle.gixp_negotiate.specs.NegotiationMapping.{is_unborn}
 use Rattle.gixp_text.specs.Pieces.{joined}
-use Rattle.gixp_listing.specs.MappingNames.{name_shown}
+use Rattle.gixp_refmap.specs.MappingNames.{name_or_dash}
 use Rattle.gixp_planner.specs.Text.{id_shown, mapping_shown, removed_shown, fix_shown, map_shown}
 
 -- what is seen of a mapping: the id and the name that it takes, whether what it takes isn't there yet, and the local name
@@ -83,7 +83,7 @@ mapping-seen refs count m x h = remote-seen refs m.item m.source x.remote (optio
 -- ---- what is printed
 
 abbrev seen_shown : Seen → List ℕ
-seen_shown s = joined (codes "map " ∷ id_shown s.id ∷ codes " " ∷ name_shown s.name ∷ codes " " ∷ name_shown s.local ∷ codes "\n" ∷ [])
+seen_shown s = joined (codes "map " ∷ id_shown s.id ∷ codes " " ∷ name_or_dash s.name ∷ codes " " ∷ name_or_dash s.local ∷ codes "\n" ∷ [])
 
 abbrev pub map_text : List Spec → List RefValue → List ℕ
 map_text specs refs = flat_map (λ m. seen_shown (mapped_seen refs m)) (kept (found_in specs refs))

@@ -1,5 +1,5 @@
--- Sessions over recorded bodies, refused ones too: what they send, what is printed of them and how they end follow from the bodies, the
--- refspecs, the objects that are there and the haves.
+-- Sessions over recorded bodies, also failed ones: their requests, the text of their ref maps and their outcome follow from the bodies,
+-- the refspecs, the objects and the haves.
 use Rattle.std.specs.Prelude.{ℕ, ◌≡◌, ◌⊎◌, ⊤, Bool, List, codes, Option, Result, Ok, Err}
 use Rattle.gixp_packetline.specs.declared.read.Error.{Error as ReadError}
 use Rattle.gixp_packetline.specs.declared.read.Error.TheVariants as read
@@ -17,19 +17,18 @@ use Rattle.gixp_planner.specs.Session.{FetchesMapped}
 use Rattle.gixp_planner.specs.Text.{Course, mapped_shown, course_shown}
 use Rattle.gixp_planner.specs.PlannedText.{IsCourse}
 
--- a read was refused for an interrupt
+-- a read failed for an interrupt
 abbrev pub IsInterrupted : ReadError → Type 0
 IsInterrupted read.Interrupted = ⊤
 IsInterrupted _ = ⊥
 
--- a pack was, or since an allocation failed for what is told on the way
+-- the pack's consumer failed for an interrupt, or an allocation failed for its messages
 abbrev pub IsPackDisturbed : CopyError → Type 0
 IsPackDisturbed (copy.Read read.Memory) = ⊤
 IsPackDisturbed (copy.Read e) = IsInterrupted e
 IsPackDisturbed (copy.Write kind) = ⊥
 
--- a fetch was refused by the repository or its boundary, or its pack for an interrupt or since an allocation failed: no body has a part
--- in it
+-- the repository, its boundary, an interrupt or an allocation failure made a fetch fail: no body determines this
 abbrev pub IsDisturbed : {A : Type 0} → FetchError A CopyError → Type 0
 IsDisturbed (fetch.Negotiate e) = IsOwn e
 IsDisturbed (fetch.FetchResponse e) = ⊥
@@ -51,7 +50,7 @@ IsUndisturbed (Err e) = IsDisturbed e → ⊥
 abbrev pub EndsForMemory : Result Bool PlanRefusal → Type 0
 EndsForMemory ended = (step : List ℕ) × (ended ≡ Err (refusal step (codes "Memory")))
 
--- two sessions sent the same, the same is printed of their ref maps, and they have the same end, so the whole text is the same
+-- two sessions sent the same requests, their ref maps have the same text, and their outcome is the same: so the whole text is the same
 pub record GoAlike (c d : Course) : Type 0 where
   pub sent : c.sent ≡ d.sent
   pub printed : mapped_shown c.mapped ≡ mapped_shown d.mapped
@@ -60,12 +59,12 @@ pub record GoAlike (c d : Course) : Type 0 where
 
 module _ {N I A S C P : Type 0} (parties : Parties N I A S C P CopyError) (IsOver : RefMap → N → Type 0) (IsEmpty : S → Type 0)
     (bodies : List Body) (specs : List (List ℕ)) where
-  -- a session over these bodies, refused or not, whose fetch nothing disturbed and whose transport counted no failure
+  -- a session over these bodies, failed or not, whose fetch had no such failure and whose transport counted none
   pub record GoesSteadily (course : Course) : Type 0 where
     pub is_course : IsCourse (λ m h old new r. FetchesMapped parties (IsOver m) IsEmpty h old new r × IsUndisturbed r) bodies specs course
     pub unfailed : is_course.last.failures ≡ 0
 
--- two such sessions go alike, unless an allocation failed
+-- two such sessions have the same requests, text and outcome, unless an allocation failed
 abbrev pub CoursesFollow : {N I A S C P : Type 0} → Parties N I A S C P CopyError → (IsOne IsOther : RefMap → N → Type 0) → (S → Type 0)
     → List Body → List (List ℕ) → Type 0
 CoursesFollow parties IsOne IsOther IsEmpty bodies specs = (c d : Course) → GoesSteadily parties IsOne IsEmpty bodies specs c

@@ -1,4 +1,4 @@
--- What a handshake over recorded bodies comes to, as a function of the first of them (gitprotocol-pack, "Reference Discovery";
+-- The outcome of a handshake over recorded bodies, as a function of the first body (gitprotocol-pack, "Reference Discovery";
 -- gitprotocol-v2, "Capability Advertisement").
 use Rattle.std.specs.Prelude.{ℕ, ◌≡◌, ◌⊎◌, Bool, true, false, List, [], map, codes, Option, Some, None, Vec, Result, Ok, Err}
 use Rattle.std.specs.Option.{option_map}
@@ -24,7 +24,7 @@ use Rattle.gixp_handshake.specs.Shake.{is_accepted}
 use Rattle.gixp_planner.specs.Refusal.{handshake_name}
 use Rattle.gixp_planner.specs.Session.{GreetsWithoutAccount}
 
--- what a server says first, and its refs where they come first
+-- the server's version and capabilities, and its refs where they come first
 pub record Discovery : Type 0 where
   pub version : Protocol
   pub capabilities : List CapabilityValue
@@ -33,12 +33,12 @@ pub record Discovery : Type 0 where
 abbrev pub discovered : Advertised → Option (List RefValue) → Discovery
 discovered said refs = record { version = said.version; capabilities = said.capabilities; refs = refs }
 
--- the lines of refs are refused, or these are their refs
+-- the refs of the lines, or the name of their error
 abbrev pub with_refs : Advertised → Result (List RefValue) RefsRefusal → Result Discovery (List ℕ)
 with_refs said (Ok refs) = Ok (discovered said (Some refs))
 with_refs said (Err e) = Err (codes "ParseRefs")
 
--- a capability `symref` is refused, or its refs are read by these
+-- the symbolic refs of the capabilities `symref`, or the name of their error
 abbrev pub by_symrefs : Advertised → Result (List Symref) RefsRefusal → Result Discovery (List ℕ)
 by_symrefs said (Ok symrefs) = with_refs said (v1_refs symrefs (lines_from_stop said.stopped said.version said.rest))
 by_symrefs said (Err e) = Err (codes "ParseRefs")
@@ -48,7 +48,7 @@ abbrev pub by_refs : Bool → Advertised → Result Discovery (List ℕ)
 by_refs false said = Ok (discovered said None)
 by_refs true said = by_symrefs said (symref_table said.capabilities)
 
--- whether its version is accepted
+-- whether the version is accepted
 abbrev pub by_acceptance : Bool → Advertised → Result Discovery (List ℕ)
 by_acceptance false said = Err (codes "TransportProtocolPolicyViolation")
 by_acceptance true said = by_refs said.has_refs said
@@ -57,7 +57,7 @@ abbrev pub by_advertisement : List Protocol → Result Advertised ClientRefusal 
 by_advertisement accepted (Ok said) = by_acceptance (is_accepted accepted said.version) said
 by_advertisement accepted (Err e) = Err (codes "Transport")
 
--- what an answer says where these versions are accepted, or the name by which its handshake is refused
+-- what an answer has where these versions are accepted, or the name of the handshake's error
 abbrev pub discovery : List Protocol → Pieces → Result Discovery (List ℕ)
 discovery accepted answer = by_advertisement accepted (advertisement answer)
 
@@ -71,18 +71,18 @@ pub record HasDiscovered (said : Discovery) (h : Handshake) : Type 0 where
   pub capabilities : h.capabilities ≡ said.capabilities
   pub refs : values_of h.refs ≡ said.refs
 
--- a handshake ended as it was to end, or an allocation failed
+-- a handshake had this outcome, or an allocation failed
 abbrev pub IsDiscovered : Result Discovery (List ℕ) → Result Handshake HandshakeError → Type 0
 IsDiscovered (Ok said) (Ok h) = HasDiscovered said h
 IsDiscovered (Ok said) (Err e) = e ≡ handshake.Memory
 IsDiscovered (Err name) (Ok h) = ⊥
 IsDiscovered (Err name) (Err e) = (handshake_name e ≡ name) ⊎ (e ≡ handshake.Memory)
 
--- what the first body reads as; one that is missing is empty
+-- the first body as it is read; a missing body is empty
 abbrev pub first_pieces : List Body → Pieces
 first_pieces bodies = answer_pieces (first_answer (map answer_of bodies))
 
--- a handshake over these bodies ended so, though no read failed
+-- a handshake over these bodies had this outcome, and no read failed
 pub record GreetsOver (bodies : List Body) (r : Result Handshake HandshakeError) : Type 0 where
   pub transport : Bodies
   pub last : Reading
@@ -90,7 +90,7 @@ pub record GreetsOver (bodies : List Body) (r : Result Handshake HandshakeError)
   pub greets : GreetsWithoutAccount true (bodies_reading transport) last r
   pub unfailed : last.failures ≡ 0
 
--- how a handshake ends follows from the first body, but for memory
+-- the outcome of a handshake follows from the first body, except for allocation failures
 abbrev pub GreetingsFollow : Type 0
 GreetingsFollow = (bodies : List Body) (r : Result Handshake HandshakeError) → GreetsOver bodies r
     → IsDiscovered (discovery [] (first_pieces bodies)) r

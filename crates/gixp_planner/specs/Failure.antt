@@ -1,14 +1,14 @@
--- Why the program ends early: what it names, and its status.
+-- The failures of the program, and their status.
 use Rattle.std.specs.Prelude.{ℕ, List, codes, Result, Ok, Err}
 use Rattle.std.specs.declared.io.ErrorKind.{ErrorKind}
 use Rattle.std.specs.declared.io.ErrorKind.TheVariants.{OutOfMemory}
-use Rattle.gixp_listing.specs.declared.list.ListError.{ListError}
-use Rattle.gixp_listing.specs.ErrorName.{list_error_name}
+use Rattle.gixp_planner.specs.declared.listing.ListError.{ListError}
+use Rattle.gixp_planner.specs.ListErrorName.{list_error_name}
 use Rattle.gixp_planner.specs.Refusal.{PlanRefusal, refusal_of}
 use Rattle.gixp_planner.specs.declared.command.failure.Failure.{Failure}
 use Rattle.gixp_planner.specs.declared.command.failure.Failure.TheVariants.{Usage, Refused, Unplanned}
 
--- the words are none of the usage; what was refused, by its name; or by which step of a plan
+-- the words don't fit the usage; an error's name; or a plan's error
 pub data FailureName : Type 0 where
   usage : FailureName
   named : List ℕ → FailureName
@@ -24,11 +24,11 @@ abbrev pub words_refusal : ErrorKind → FailureName
 words_refusal OutOfMemory = named (codes "Memory")
 words_refusal _ = usage
 
--- a list of refs that is refused
+-- the refs can't be listed
 abbrev pub list_refusal : ListError → FailureName
 list_refusal e = named (list_error_name e)
 
--- 2 where the words are none of the usage, 1 where something was refused
+-- 2 where the words don't fit the usage, 1 after another failure
 abbrev pub status_of : Result (Unit {0}) Failure → ℕ
 status_of (Ok x) = 0
 status_of (Err Usage) = 2

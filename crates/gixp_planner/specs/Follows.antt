@@ -1,4 +1,4 @@
--- What follows from the bodies, the refspecs, the objects that are there and the haves: how a session ends, and all that it sends and
+-- What follows from the bodies, the refspecs, the objects and the haves: the outcome of a session, and all that it sends and
 -- writes.
 use Rattle.std.specs.Prelude.{ℕ, ◌≡◌, ◌⊎◌, ◌++◌, ◌∷◌, Bool, true, false, List, [], codes, Option, Result, Ok, Err, IsOk}
 use Rattle.std.specs.Io.KnownBytes.{Appends, Keeps}
@@ -14,13 +14,13 @@ use Rattle.gixp_planner.specs.Session.{FetchesMapped}
 use Rattle.gixp_planner.specs.PlannedText.{IsCourse, PlannedText}
 use Rattle.gixp_planner.specs.Mapped.{IsMapped}
 
--- after the requests up to its ref map a session sent those of a fetch, or none where nothing came
+-- after the requests up to its ref map a session sent those of a fetch, or none where nothing was wanted
 abbrev pub AsksBehind : Result Bool PlanRefusal → List (List ℕ) → List (List ℕ) → Type 0
 AsksBehind (Ok true) mapping sent = (first : List ℕ) × (later : List (List ℕ)) × (sent ≡ mapping ++ first ∷ later)
 AsksBehind (Ok false) mapping sent = sent ≡ mapping
 AsksBehind (Err e) mapping sent = ⊥
 
--- two sessions over these bodies sent the same, came to the same end, and print the same
+-- two sessions over these bodies sent the same, have the same outcome, and print the same
 pub record AreSame (bodies : List Body) (specs : List (List ℕ)) (c d : Course) : Type 0 where
   pub sent : c.sent ≡ d.sent
   pub ended : c.ended ≡ d.ended
@@ -31,7 +31,7 @@ pub record AreSame (bodies : List Body) (specs : List (List ℕ)) (c d : Course)
   pub mapped : IsMapped bodies specs mapping made
   pub asked : AsksBehind c.ended mapping c.sent
 
--- a plan is refused for a refspec by the name of this error, or for memory
+-- a plan fails with this refspec's error, or with an allocation failure
 abbrev pub RefusedForSpec : SpecError → Result (Unit {0}) PlanError → Type 0
 RefusedForSpec error (Ok x) = ⊥
 RefusedForSpec error (Err e) = (refusal_of e ≡ refusal (codes "spec") (spec_name error)) ⊎ IsPlanMemory (codes "spec") e
@@ -39,19 +39,19 @@ RefusedForSpec error (Err e) = (refusal_of e ≡ refusal (codes "spec") (spec_na
 
 module _ {N I A S C P X : Type 0} (parties : Parties N I A S C P X) (IsOver : RefMap → N → Type 0) (IsEmpty : S → Type 0)
     (bodies : List Body) (specs : List (List ℕ)) where
-  -- a session that came to its end, over a negotiation that is so
+  -- a session that succeeded, over such a negotiation
   abbrev pub EndsSession : Course → Type 0
   EndsSession course = IsCourse (λ m h old new r. FetchesMapped parties (IsOver m) IsEmpty h old new r) bodies specs course
       × IsOk course.ended
 
-  -- one that is written whole
+  -- a session whose whole text was written
   abbrev pub IsWritten : Option (List ℕ) → Option (List ℕ) → Type 0
   IsWritten old new = PlannedText (λ m h from to r. FetchesMapped parties (IsOver m) IsEmpty h from to r) bodies specs old new (Ok tt)
 
 module _ {N I A S C P X : Type 0} (parties : Parties N I A S C P X) (IsOne IsOther : RefMap → N → Type 0) (IsEmpty : S → Type 0)
     (bodies : List Body) (specs : List (List ℕ)) where
-  -- sessions of both kinds that came to their ends are the same, and the same text is written of them; where a refspec is refused
-  -- nothing is written, and each plan is refused so, or for memory; where a handshake is refused nothing is written
+  -- two sessions that succeeded are the same, and the same text is written. Where a refspec is an error, each plan fails with it or with
+  -- an allocation failure, and nothing is written. Where a handshake fails nothing is written
   pub record Follow : Type 0 where
     pub session : (c d : Course) → EndsSession parties IsOne IsEmpty bodies specs c → EndsSession parties IsOther IsEmpty bodies specs d
         → AreSame bodies specs c d

@@ -1,4 +1,4 @@
--- The haves that a text names, one id on each line (gitprotocol-common, "ABNF Notation", `obj-id`).
+-- The ids of a text, one on each line (gitprotocol-common, "ABNF Notation", `obj-id`).
 use Rattle.std.specs.Prelude.{ℕ, ◌≡◌, ◌⊎◌, List, [], ◌∷◌, map, codes, Option, Some, None, Vec, Result, Ok, Err}
 use Rattle.std.specs.declared.alloc.Global.{Global}
 use Rattle.gixp_hash.specs.declared.object_id.ObjectId.{ObjectId}
@@ -11,7 +11,7 @@ abbrev pub with_id : Option (List ℕ) → Option (List (List ℕ)) → Option (
 with_id (Some id) (Some ids) = Some (id ∷ ids)
 with_id _ _ = None
 
--- the bytes of the ids that the lines are, unless one of them is none
+-- the ids of the lines, unless a line is no id
 abbrev pub ids_of : List (List ℕ) → Option (List (List ℕ))
 ids_of [] = Some []
 ids_of (line ∷ lines) = with_id (id_of line) (ids_of lines)
@@ -19,7 +19,7 @@ ids_of (line ∷ lines) = with_id (id_of line) (ids_of lines)
 abbrev pub bytes_of : List ObjectId → List (List ℕ)
 bytes_of ids = map (λ (id : ObjectId). id.bytes) ids
 
--- these are the ids of the text; or a line of it is none, or an allocation failed
+-- these are the ids of the text; or a line is no id, or an allocation failed
 abbrev pub ReadsHaves : List ℕ → Result (Vec ObjectId Global) PlanError → Type 0
 ReadsHaves text (Ok ids) = ids_of (text_lines text) ≡ Some (bytes_of ids.items)
 ReadsHaves text (Err e) = ((refusal_of e ≡ refusal (codes "have") (codes "Decode")) × (ids_of (text_lines text) ≡ None))

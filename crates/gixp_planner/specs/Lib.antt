@@ -13,4 +13,6 @@ pub mod Follows
 pub mod Alike
 pub mod Printed
 pub mod Failure
-pub mod Words
+pub mod Argv
+pub mod ListErrorName
+pub mod ListedRefs

@@ -1,5 +1,5 @@
--- A session over recorded bodies up to its ref map: what it sent by then, and that this and what is printed of the ref map follow from
--- the bodies and the refspecs.
+-- A session over recorded bodies up to its ref map: its requests up to then and the text of its ref map follow from the bodies and the
+-- refspecs.
 use Rattle.std.specs.Prelude.{ℕ, ◌≡◌, ◌++◌, Bool, true, List, [], codes, Option, Result, Ok, Err}
 use Rattle.std.specs.Io.KnownBytes.{Appends}
 use Rattle.gixp_wire.specs.declared.bodies.Body.{Body}
@@ -15,7 +15,7 @@ use Rattle.gixp_planner.specs.Specs.{IsContext}
 use Rattle.gixp_planner.specs.Text.{requests_shown, map_shown, end_shown}
 use Rattle.gixp_planner.specs.Session.{GreetsWithoutAccount, MapsRefs}
 
--- a session over these bodies came to the ref map of these refspecs, and had sent these requests by then
+-- a session over these bodies has the ref map of these refspecs, after these requests
 pub record IsMapped (bodies : List Body) (specs : List (List ℕ)) (sent : List (List ℕ)) (m : RefMap) : Type 0 where
   pub context : Context
   pub transport : Bodies
@@ -28,13 +28,13 @@ pub record IsMapped (bodies : List Body) (specs : List (List ℕ)) (sent : List 
   pub maps : MapsRefs context handshake true mid behind (Ok m)
   pub by_then : behind.held.sent ≡ sent
 
--- whatever objects, graph and negotiator two sessions had: up to the ref map they sent the same, and the same is printed of their ref maps
+-- whatever objects, graph and negotiator two sessions have: up to the ref map they send the same, and their ref maps have the same text
 abbrev pub MappingsFollow : Type 0
 MappingsFollow = (bodies : List Body) (specs : List (List ℕ)) (sent others : List (List ℕ)) (m n : RefMap)
     → IsMapped bodies specs sent m → IsMapped bodies specs others n
     → (sent ≡ others) × (map_shown m ≡ map_shown n)
 
--- the requests of a session, of which the first are those up to its ref map, then its mappings, and how it ended
+-- the requests of a session, beginning with those up to its ref map, then its mappings, and its outcome
 pub record ShowsMapped (bodies : List Body) (specs : List (List ℕ)) (old new : Option (List ℕ))
     (ended : Result Bool PlanRefusal) : Type 0 where
   pub sent : List (List ℕ)
@@ -43,7 +43,7 @@ pub record ShowsMapped (bodies : List Body) (specs : List (List ℕ)) (old new :
   pub later : List (List ℕ)
   pub text : Appends old new (requests_shown (sent ++ later) ++ map_shown made ++ end_shown ended)
 
--- by its result: one that wasn't refused, or whose fetch was, came to its ref map
+-- by its result: a session that succeeded, or whose fetch failed, has a ref map
 abbrev pub ShowsFetch : List Body → List (List ℕ) → Option (List ℕ) → Option (List ℕ) → Result (Unit {0}) PlanError → Type 0
 ShowsFetch bodies specs old new (Ok x) = (pack : Bool) × ShowsMapped bodies specs old new (Ok pack)
 ShowsFetch bodies specs old new (Err e) = e.step.now ≡ codes "fetch" → ShowsMapped bodies specs old new (Err (refusal_of e))

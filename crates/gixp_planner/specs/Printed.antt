@@ -1,4 +1,4 @@
--- A ref map that gives way to what is printed of it, and a negotiation over such a map.
+-- A ref map whose mappings become text, and a negotiation over such a map.
 use Rattle.std.specs.Prelude.{◌≡◌, ℕ, List, [], ◌++◌, flat_map, reverse, Option, Some, None, vec_items}
 use Rattle.std.specs.declared.alloc.AllocError.{AllocError}
 use Rattle.gixp_graph.specs.declared.empty.NoRefs.{NoRefs}
@@ -13,29 +13,29 @@ use Rattle.gixp_planner.specs.declared.negotiation.PrintingNegotiation.{Printing
 use Rattle.gixp_planner.specs.declared.printed.PrintedMap.{PrintedMap}
 use Rattle.gixp_planner.specs.Text.{mapping_shown, fix_shown}
 
--- what is printed of mappings of which the first are a text, and of those that were taken out
-abbrev pub text_behind : List ℕ → List Mapping → List Fix → List ℕ
-text_behind text ms fixes = text ++ (flat_map mapping_shown ms ++ flat_map fix_shown fixes)
+-- the text of mappings, of which the first are text already, and of the removed mappings
+abbrev pub text_then : List ℕ → List Mapping → List Fix → List ℕ
+text_then text ms fixes = text ++ (flat_map mapping_shown ms ++ flat_map fix_shown fixes)
 
--- what is printed of a ref map
+-- the text of a ref map
 abbrev pub printed_text : PrintedMap → List ℕ
-printed_text p = text_behind (flat_map vec_items p.texts.items) (p.map.mappings.items ++ p.later.items) p.map.fixes.items
+printed_text p = text_then (flat_map vec_items p.texts.items) (p.map.mappings.items ++ p.later.items) p.map.fixes.items
 
 -- where the refs were mapped
 abbrev pub mapped_text : Option PrintedMap → List ℕ
 mapped_text None = []
 mapped_text (Some p) = printed_text p
 
--- the mappings that are left while they are taken
+-- the mappings that remain between `begin` and `end`
 abbrev pub left_of : PrintedMap → List Mapping
 left_of p = p.map.mappings.items ++ reverse p.later.items
 
--- what is printed of it then
+-- the text then
 abbrev pub taken_text : PrintedMap → List ℕ
-taken_text p = text_behind (flat_map vec_items p.texts.items) (left_of p) p.map.fixes.items
+taken_text p = text_then (flat_map vec_items p.texts.items) (left_of p) p.map.fixes.items
 
 module _ {O N G : Type 0} where
-  -- the same negotiation over a whole ref map, which asks for no tags and no change of the boundary
+  -- the same negotiation over a whole ref map, without tags and without a change of the boundary
   abbrev pub over : RefMap → PrintingNegotiation O N G → Negotiation O NoRefs N G AllocError
   over map n = record {
     context = n.context;
@@ -45,8 +45,7 @@ module _ {O N G : Type 0} where
     tags = tags.None;
   }
 
-  -- calls that do what those over the whole ref map do: the first step and rounds keep what is held of the map, and wants what is
-  -- printed of it
+  -- calls that do the same as over the whole ref map: the first step and the rounds keep the ref map, and the wants keep its text
   abbrev pub calls_over : NegotiationCalls (Negotiation O NoRefs N G AllocError) AllocError
       → NegotiationCalls (PrintingNegotiation O N G) AllocError
   calls_over calls = record {

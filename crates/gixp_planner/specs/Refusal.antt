@@ -1,4 +1,4 @@
--- Why a plan isn't made: which step was refused, and the name of the variant of its own error.
+-- Why a plan isn't made: which step failed, and the name of the variant of its own error.
 use Rattle.std.specs.Prelude.{ℕ, zero, suc, ◌≡◌, ◌⊎◌, List, codes, Result, Ok, Err}
 use Rattle.std.specs.declared.io.Error.{Error as IoError}
 use Rattle.std.specs.declared.io.ErrorKind.{ErrorKind}
@@ -28,11 +28,11 @@ refusal_of e = refusal e.step.now e.variant.now
 abbrev pub IsPlanMemory : List ℕ → PlanError → Type 0
 IsPlanMemory step e = refusal_of e ≡ refusal step (codes "Memory")
 
--- a write failed, or an allocation for what is written
+-- a write failed, or an allocation for the text
 abbrev pub IsUnwritten : PlanError → Type 0
 IsUnwritten e = (refusal_of e ≡ refusal (codes "file") (codes "Io")) ⊎ IsPlanMemory (codes "file") e
 
--- a file can't be read, or an allocation failed for what it holds
+-- a file can't be read, or an allocation failed for its bytes
 abbrev pub FileIsUnread : PlanError → Type 0
 FileIsUnread e = (refusal_of e ≡ refusal (codes "file") (codes "Io")) ⊎ IsPlanMemory (codes "file") e
 
@@ -40,28 +40,28 @@ FileIsUnread e = (refusal_of e ≡ refusal (codes "file") (codes "Io")) ⊎ IsPl
 abbrev pub IsNoHave : PlanError → Type 0
 IsNoHave e = (refusal_of e ≡ refusal (codes "have") (codes "Decode")) ⊎ IsPlanMemory (codes "have") e
 
--- how a read or a write of a file is refused that failed by this kind
+-- the error of a failed read or write of a file
 abbrev pub device_refusal : ErrorKind → PlanRefusal
 device_refusal OutOfMemory = refusal (codes "file") (codes "Memory")
 device_refusal _ = refusal (codes "file") (codes "Io")
 
--- how many bytes are said to be taken, as plain data
-abbrev pub amount_told : Result ℕ PlanError → Result ℕ PlanRefusal
-amount_told (Ok n) = Ok n
-amount_told (Err e) = Err (refusal_of e)
+-- the result of a write as plain data
+abbrev pub amount_value : Result ℕ PlanError → Result ℕ PlanRefusal
+amount_value (Ok n) = Ok n
+amount_value (Err e) = Err (refusal_of e)
 
--- what a write comes to that failed by this kind: it took nothing where it was interrupted, and is refused else
+-- the result of a failed write: it took nothing where it was interrupted, and is an error else
 abbrev pub failed_amount : ErrorKind → Result ℕ PlanRefusal
 failed_amount Interrupted = Ok 0
 failed_amount kind = Err (device_refusal kind)
 
--- how many bytes a write took; one that took none is refused
+-- how many bytes a write took; a write that took none is an error
 abbrev pub written_amount : Result ℕ IoError → Result ℕ PlanRefusal
 written_amount (Ok zero) = Err (refusal (codes "file") (codes "Io"))
 written_amount (Ok (suc n)) = Ok (suc n)
 written_amount (Err e) = failed_amount (error_kind e)
 
--- a flush is refused exactly where it failed, by its kind
+-- a flush is an error exactly where it failed, by its kind
 abbrev pub AnswersWrite : Result (Unit {0}) IoError → Result (Unit {0}) PlanError → Type 0
 AnswersWrite (Ok x) r = r ≡ Ok tt
 AnswersWrite (Err e) (Ok x) = ⊥

@@ -1,4 +1,4 @@
--- A session of a planner: a handshake without an account, the ref map of the server's refs, and a fetch of what is mapped.
+-- A session of a planner: a handshake without an account, the ref map of the server's refs, and a fetch of the mapped refs.
 use Rattle.std.specs.Prelude.{ℕ, ◌≡◌, ◌==◌, ◌⊎◌, ⊤, Bool, true, false, if◌then◌else◌, List, [], ◌∷◌, codes, Option, Some, None, Result, Ok, Err, IfOk, IsOk}
 use Rattle.std.specs.declared.alloc.AllocError.{AllocError}
 use Rattle.gixp_graph.specs.GraphData.{GraphValue}
@@ -30,11 +30,11 @@ use Rattle.gixp_fetch.specs.Fetched.{FetchCall, Fetches}
 use Rattle.gixp_planner.specs.Refusal.{PlanRefusal, refusal, handshake_name, map_name, fetch_name}
 use Rattle.gixp_planner.specs.Text.{mapped_shown}
 
--- how the planner names itself
+-- the agent of the planner
 abbrev pub planner_agent : FeatureValue
 planner_agent = record { name = codes "agent"; value = Some (codes "git/gixp-plan") }
 
--- whoever was asked for an account had none
+-- the credential helper had no account
 abbrev pub AreUnanswered : List CredentialCall → Type 0
 AreUnanswered [] = ⊤
 AreUnanswered (t ∷ ts) = (t.answer ≡ Ok None) × AreUnanswered ts
@@ -45,14 +45,14 @@ pub record GreetsWithoutAccount (plain : Bool) (old new : Reading) (r : Result H
   pub unanswered : AreUnanswered turns
   pub shakes : CompletesHandshake UploadPack [] plain old new turns r
 
--- the ref map of the server, which is asked for the refspecs' prefixes
+-- the ref map, with a request for the refspecs' prefixes
 abbrev pub MapsRefs : Context → Handshake → Bool → Reading → Reading → Result RefMap MapError → Type 0
 MapsRefs context h plain old new (Ok m) = (made : RefMap) × Obtains git_table planner_agent context h plain old new (Ok made)
     × IsWithoutRefs made m
 MapsRefs context h plain old new (Err e) = Obtains git_table planner_agent context h plain old new (Err e)
     ⊎ ((new ≡ old) × (e ≡ map.Memory))
 
--- what a fetch is handed in: the boundary is to stay, and no tags come but those that are mapped
+-- the options of a fetch: the boundary stays, and no tags are added to the mapped refs
 abbrev pub planner_call : Handshake → FetchCall
 planner_call h = record {
   table = git_table;
@@ -69,18 +69,18 @@ pub record Carries {N I A S C P X : Type 0} (parties : Parties N I A S C P X) (h
     (r : Result (Option Outcome) (FetchError A X)) (last : World N I S C) (progress : P) : Type 0 where
   pub fetched : Fetches parties (planner_call h) first r last progress
 
--- a negotiation over these objects, this graph, this negotiator and this ref map, with no alternates, that asks for no tags and no
+-- a negotiation over these objects, this graph, this negotiator and this ref map, without alternates, tags, or a
 -- change of the boundary
 abbrev pub NegotiatesOver : {O N G : Type 0} → O → GraphValue → N → RefMap → Negotiation O NoRefs N G AllocError → Type 0
 NegotiatesOver objects graph negotiator map n = (n.context.objects.now ≡ objects) × (n.context.graph.now ≡ graph)
     × (n.context.negotiator.now ≡ negotiator) × (n.ref_map.now ≡ map) × (n.shallow.now ≡ NoChange) × (n.tags ≡ tags.None)
     × IfOk n.context.alternates (λ a. a.now ≡ []) × IsOk n.context.alternates
 
--- a boundary without a commit, whose lock nobody has
+-- an empty boundary that nobody has locked
 abbrev pub IsEmptyBoundary : ShallowMemory → Type 0
 IsEmptyBoundary s = (s.ids.items ≡ []) × (s.locked ≡ false)
 
--- one that asks some interrupt and lends its pack to some consumer, with no lock before or after it
+-- a fetch with some interrupt and some consumer, with no lock before or after it
 pub record CarriesOn {N I A S C P X : Type 0} (parties : Parties N I A S C P X) (h : Handshake) (negotiate : N) (old : Reading)
     (store : S) (r : Result (Option Outcome) (FetchError A X)) (negotiate' : N) (new : Reading) (store' : S) : Type 0 where
   pub interrupt : I
@@ -93,7 +93,7 @@ pub record CarriesOn {N I A S C P X : Type 0} (parties : Parties N I A S C P X) 
       (record { negotiate = negotiate'; reading = new; interrupt = interrupt'; store = store'; locked = false; consumer = consumer' })
       progress
 
--- a fetch over a negotiation and a store of the boundary that are so
+-- a fetch over such a negotiation and store of the boundary
 pub record FetchesOver {N I A S C P X : Type 0} (parties : Parties N I A S C P X) (IsOver : N → Type 0) (IsEmpty : S → Type 0)
     (h : Handshake) (old new : Reading) (r : Result (Option Outcome) (FetchError A X)) : Type 0 where
   pub first : World N I S C
@@ -111,20 +111,20 @@ abbrev pub FetchesMapped : {N I A S C P X : Type 0} → Parties N I A S C P X �
     → Reading → Result (Option Outcome) (FetchError A X) → Type 0
 FetchesMapped parties IsOver IsEmpty h old new r = FetchesOver parties IsOver IsEmpty h old new r ⊎ ((new ≡ old) × (r ≡ Err fetch.Memory))
 
--- whether a pack came, or why the fetch was refused
+-- whether a pack came, or why the fetch failed
 abbrev pub end_of : {A X : Type 0} → Result (Option Outcome) (FetchError A X) → Result Bool PlanRefusal
 end_of (Ok (Some outcome)) = Ok true
 end_of (Ok None) = Ok false
 end_of (Err e) = Err (refusal (codes "fetch") (fetch_name e))
 
--- how a session ended, by how often its transport failed: after a failure an answer may have been cut short, so it didn't come to its end
+-- the outcome of a session, by its transport's failures: after a failure an answer may have been cut short, so the session failed
 abbrev pub end_counted : ℕ → Result Bool PlanRefusal → Result Bool PlanRefusal
 end_counted failures (Ok pack) = if failures == 0 then Ok pack else Err (refusal (codes "fetch") (codes "FetchResponse"))
 end_counted failures (Err e) = Err e
 
 module _ {A X : Type 0} (Receives : RefMap → Handshake → Reading → Reading → Result (Option Outcome) (FetchError A X) → Type 0)
     (context : Context) (plain : Bool) (old : Reading) where
-  -- a session: its handshake was refused, or its ref map was, or what is mapped was fetched
+  -- a session: its handshake failed, or its ref map did, or the mapped refs were fetched
   pub data Runs (new : Reading) (mapped : Option RefMap) (ended : Result Bool PlanRefusal) : Type 0 where
     ungreeted : (e : HandshakeError) → GreetsWithoutAccount plain old new (Err e) → mapped ≡ None
         → ended ≡ Err (refusal (codes "handshake") (handshake_name e)) → Runs new mapped ended
@@ -135,7 +135,7 @@ module _ {A X : Type 0} (Receives : RefMap → Handshake → Reading → Reading
         → GreetsWithoutAccount plain old mid (Ok h) → MapsRefs context h plain mid behind (Ok m)
         → Receives m (without_refs h) behind new r → mapped ≡ Some m → ended ≡ end_of r → Runs new mapped ended
 
-  -- a session of which this is printed of its ref map
+  -- a session whose ref map has this text
   pub record RunsPrinted (new : Reading) (text : List ℕ) (ended : Result Bool PlanRefusal) : Type 0 where
     pub mapped : Option RefMap
     pub runs : Runs new mapped ended

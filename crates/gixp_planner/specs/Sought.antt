@@ -1,5 +1,5 @@
--- What a ref map over recorded bodies is made of, as a function of what the server said, the refspecs and the answer to its list: the
--- requests for it, and the refs or the name by which it is refused (gitprotocol-v2, "ls-refs"; git-fetch, "<refspec>").
+-- The ref map over recorded bodies, as a function of the server's handshake, the refspecs and the answer to `ls-refs`: the
+-- requests for it, and the refs or the name of its error (gitprotocol-v2, "ls-refs"; git-fetch, "<refspec>").
 use Rattle.std.specs.Prelude.{ℕ, ◌≡◌, ◌⊎◌, Bool, true, false, List, [], ◌∷◌, map, codes, Option, Some, None, Result, Ok, Err}
 use Rattle.gixp_packetline.specs.declared.protocol.Protocol.{Protocol}
 use Rattle.gixp_packetline.specs.Pieces.{Pieces}
@@ -30,35 +30,35 @@ use Rattle.gixp_planner.specs.Specs.{specs_of, IsContext}
 use Rattle.gixp_planner.specs.Session.{planner_agent, GreetsWithoutAccount, MapsRefs}
 use Rattle.gixp_planner.specs.Discovered.{Discovery, discovery, first_pieces}
 
--- the requests for refs, and the refs, or the name by which there are none
+-- the requests for refs, and the refs, or the name of the error
 pub record Sought : Type 0 where
   pub requests : List (List ℕ)
   pub refs : Result (List RefValue) (List ℕ)
 
--- there are these refs, and nothing is asked
+-- these are the refs, and no request is sent
 abbrev pub at_hand : List RefValue → Sought
 at_hand refs = record { requests = []; refs = Ok refs }
 
--- the list isn't asked for
+-- no request is sent
 abbrev pub unasked : Sought
 unasked = record { requests = []; refs = Err (codes "ListRefs") }
 
--- the refs of an answer, unless it is refused
+-- the refs of an answer, or the name of its error
 abbrev pub of_answer : Result (List RefValue) RefsRefusal → Result (List RefValue) (List ℕ)
 of_answer (Ok refs) = Ok refs
 of_answer (Err e) = Err (codes "ListRefs")
 
--- whether the request fits
+-- whether the request is valid
 abbrev pub by_size : Bool → Listing → Protocol → Pieces → Sought
 by_size false l version answer = unasked
 by_size true l version answer = record { requests = listing_text l ∷ []; refs = of_answer (v2_refs (lines_of version answer)) }
 
--- whether the server offers what is asked for
+-- whether the server offers the features of the request
 abbrev pub by_offer : Option ValidationRefusal → Listing → Protocol → Pieces → Sought
 by_offer (Some refusal) l version answer = unasked
 by_offer None l version answer = by_size (listing_fits l) l version answer
 
--- the list that is asked for of a server that can do this
+-- the request of a server that has the command, and its refs
 abbrev pub list_for : List CapabilityValue → List Spec → Listing
 list_for capabilities specs = listing git_table (prefixes_if true specs) capabilities planner_agent
 
@@ -66,35 +66,35 @@ abbrev pub by_arrival : Option (List RefValue) → Listing → Protocol → Piec
 by_arrival (Some refs) l version answer = at_hand refs
 by_arrival None l version answer = by_offer (listing_refusal l) l version answer
 
--- the refs that came first, or those that are listed, in this answer
+-- the refs of the handshake, or those of this answer
 abbrev pub sought : Discovery → List Spec → Pieces → Sought
 sought said specs answer = by_arrival said.refs (list_for said.capabilities specs) said.version answer
 
--- refspecs that are in conflict are refused
+-- refspecs in conflict are an error
 abbrev pub by_conflicts : List Conflict → Option (List ℕ)
 by_conflicts [] = None
 by_conflicts (c ∷ cs) = Some (codes "MappingValidation")
 
--- and before them an object format that isn't known
+-- an unknown object format is an error before that
 abbrev pub by_format : Option (List ℕ) → List Conflict → Option (List ℕ)
 by_format (Some format) cs = Some (codes "UnknownObjectFormat")
 by_format None cs = by_conflicts cs
 
--- the name by which a ref map is refused that is to be made of these, if it is
+-- the name of the ref map's error, if it has one
 abbrev pub map_refusal : List CapabilityValue → List Spec → Result (List RefValue) (List ℕ) → Option (List ℕ)
 map_refusal capabilities specs (Ok refs) = by_format (unknown_format capabilities) (conflicts specs (found_in specs refs))
 map_refusal capabilities specs (Err name) = Some name
 
--- a ref map ended as it was to end after these requests, or an allocation failed
+-- a ref map had this outcome after these requests, or an allocation failed
 abbrev pub IsSought : Option (List ℕ) → (requests sent : List (List ℕ)) → Result RefMap MapError → Type 0
 IsSought refusal requests sent (Ok m) = (refusal ≡ None) × (sent ≡ requests)
 IsSought refusal requests sent (Err e) = ((refusal ≡ Some (map_name e)) × (sent ≡ requests)) ⊎ (e ≡ the_map.Memory)
 
--- what the second body reads as; one that is missing is empty
+-- the second body as it is read; a missing body is empty
 abbrev pub second_pieces : List Body → Pieces
 second_pieces bodies = answer_pieces (first_answer (later_answers (map answer_of bodies)))
 
--- a session over these bodies got its handshake, and the ref map of these refspecs ended so after these requests, though no read failed
+-- a session over these bodies had its handshake, the ref map of these refspecs had this outcome after these requests, and no read failed
 pub record MapsOver (bodies : List Body) (words : List (List ℕ)) (sent : List (List ℕ)) (r : Result RefMap MapError) : Type 0 where
   pub context : Context
   pub transport : Bodies
@@ -108,7 +108,7 @@ pub record MapsOver (bodies : List Body) (words : List (List ℕ)) (sent : List 
   pub by_then : last.held.sent ≡ sent
   pub unfailed : last.failures ≡ 0
 
--- what a ref map of these bodies and refspecs comes to
+-- the outcome of the ref map of these bodies and refspecs
 pub record Plans (bodies : List Body) (words : List (List ℕ)) (sent : List (List ℕ)) (r : Result RefMap MapError) : Type 0 where
   pub said : Discovery
   pub specs : List Spec
@@ -117,7 +117,7 @@ pub record Plans (bodies : List Body) (words : List (List ℕ)) (sent : List (Li
   pub ends : IsSought (map_refusal said.capabilities specs (sought said specs (second_pieces bodies)).refs)
       (sought said specs (second_pieces bodies)).requests sent r
 
--- whether there is a ref map, why not, and what is sent for it follow from the bodies and the refspecs, but for memory
+-- whether there is a ref map, its error, and the requests for it follow from the bodies and the refspecs, except for allocation failures
 abbrev pub RefMapsFollow : Type 0
 RefMapsFollow = (bodies : List Body) (words : List (List ℕ)) (sent : List (List ℕ)) (r : Result RefMap MapError)
     → MapsOver bodies words sent r → Plans bodies words sent r

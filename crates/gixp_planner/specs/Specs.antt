@@ -1,4 +1,4 @@
--- The refspecs that some texts are, or the first refusal (git-fetch, "<refspec>").
+-- The refspecs of some texts, or the first error (git-fetch, "<refspec>").
 use Rattle.std.specs.Prelude.{ℕ, ◌≡◌, ◌⊎◌, List, [], ◌∷◌, map, codes, Result, Ok, Err}
 use Rattle.gixp_refspec.specs.declared.parse.Error.{Error as SpecError}
 use Rattle.gixp_refspec.specs.declared.spec.RefSpec.{RefSpec}
@@ -13,12 +13,12 @@ with_spec (Err e) rest = Err e
 with_spec (Ok s) (Ok specs) = Ok (s ∷ specs)
 with_spec (Ok s) (Err e) = Err e
 
--- the values of some texts, or why the first one that has none has none
+-- the values of the texts, or the error of the first one that is no refspec
 abbrev pub specs_of : List (List ℕ) → Result (List Spec) SpecError
 specs_of [] = Ok []
 specs_of (text ∷ texts) = with_spec (spec_of text) (specs_of texts)
 
--- a refusal of the texts, or an allocation failure
+-- an error of the texts, or an allocation failure
 abbrev pub RefusesSpecs : List (List ℕ) → PlanError → Type 0
 RefusesSpecs texts e = ((error : SpecError) × (specs_of texts ≡ Err error) × (refusal_of e ≡ refusal (codes "spec") (spec_name error)))
     ⊎ IsPlanMemory (codes "spec") e

@@ -1,4 +1,4 @@
--- What is printed of a session: its requests (gitprotocol-common, "pkt-line Format"), the mappings of its refs, and whether a pack came.
+-- The printed text of a session: its requests (gitprotocol-common, "pkt-line Format"), the mappings of its refs, and whether a pack came.
 use Rattle.std.specs.Prelude.{ℕ, ◌+◌, Bool, true, false, List, [], ◌∷◌, ◌++◌, flat_map, map, codes, Option, Some, None, Vec, vec_items, Result, Ok, Err}
 use Rattle.std.specs.declared.alloc.Global.{Global}
 use Rattle.std.specs.Fmt.{decimal}
@@ -16,11 +16,11 @@ use Rattle.gixp_refmap.specs.declared.refmap.mapping.Mapping.{Mapping}
 use Rattle.gixp_refmap.specs.declared.refmap.map.RefMap.{RefMap}
 use Rattle.gixp_refmap.specs.Mapping.{source_id, source_name}
 use Rattle.gixp_text.specs.Pieces.{joined}
-use Rattle.gixp_listing.specs.MappingNames.{name_shown}
+use Rattle.gixp_refmap.specs.MappingNames.{name_or_dash}
 use Rattle.gixp_planner.specs.declared.error.PlanError.{PlanError}
 use Rattle.gixp_planner.specs.Refusal.{PlanRefusal, refusal_of}
 
--- a payload without its ending LF, or the digits of a packet line that has none
+-- a payload without its LF, or the digits of a packet line without a payload
 abbrev pub frame_content : Frame → List ℕ
 frame_content (payload text) = strip_last 10 text
 frame_content (special kind) = message_text kind
@@ -32,33 +32,33 @@ frame_shown f = joined (codes "> " ∷ frame_content f ∷ codes "\n" ∷ [])
 abbrev pub request_shown : ℕ → List Frame → List ℕ
 request_shown k frames = joined (codes "request " ∷ decimal k ∷ codes "\n" ∷ []) ++ flat_map frame_shown frames
 
--- requests after so many others, each as its bytes
-abbrev pub requests_behind : ℕ → List (List ℕ) → List ℕ
-requests_behind k [] = []
-requests_behind k (r ∷ rs) = request_shown (k + 1) (frames_of r).list ++ requests_behind (k + 1) rs
+-- requests after `k` others, each as its bytes
+abbrev pub requests_after : ℕ → List (List ℕ) → List ℕ
+requests_after k [] = []
+requests_after k (r ∷ rs) = request_shown (k + 1) (frames_of r).list ++ requests_after (k + 1) rs
 
 -- requests, numbered from 1 on
 abbrev pub requests_shown : List (List ℕ) → List ℕ
-requests_shown requests = requests_behind 0 requests
+requests_shown requests = requests_after 0 requests
 
 abbrev pub id_shown : Option ObjectId → List ℕ
 id_shown (Some id) = encode_lower id.bytes
 id_shown None = codes "unborn"
 
--- a mapping: what is taken, its name, and the local name
+-- a mapping: the remote id and name, and the local name
 abbrev pub mapping_shown : Mapping → List ℕ
 mapping_shown m =
-    joined (codes "map " ∷ id_shown (source_id m.remote) ∷ codes " " ∷ name_shown (source_name m.remote) ∷ codes " "
-    ∷ name_shown (option_map bstring_bytes m.local) ∷ codes "\n" ∷ [])
+    joined (codes "map " ∷ id_shown (source_id m.remote) ∷ codes " " ∷ name_or_dash (source_name m.remote) ∷ codes " "
+    ∷ name_or_dash (option_map bstring_bytes m.local) ∷ codes "\n" ∷ [])
 
 abbrev pub removed_shown : Removed → List ℕ
-removed_shown r = joined (codes "fix " ∷ name_shown r.name ∷ codes " " ∷ r.spec ∷ codes "\n" ∷ [])
+removed_shown r = joined (codes "fix " ∷ name_or_dash r.name ∷ codes " " ∷ r.spec ∷ codes "\n" ∷ [])
 
--- a mapping that was taken out: its local name, and its refspec
+-- a mapping that was removed: its local name, and its refspec
 abbrev pub fix_shown : Fix → List ℕ
 fix_shown f = removed_shown (removed_of f)
 
--- the mappings, and then those that were taken out
+-- the mappings, and then the removed mappings
 abbrev pub map_shown : RefMap → List ℕ
 map_shown m = flat_map mapping_shown m.mappings.items ++ flat_map fix_shown m.fixes.items
 
@@ -67,13 +67,13 @@ abbrev pub mapped_shown : Option RefMap → List ℕ
 mapped_shown None = []
 mapped_shown (Some m) = map_shown m
 
--- whether a pack came, unless a step was refused
+-- whether a pack came, unless a step failed
 abbrev pub end_shown : Result Bool PlanRefusal → List ℕ
 end_shown (Ok true) = codes "pack\n"
 end_shown (Ok false) = codes "nothing\n"
 end_shown (Err r) = []
 
--- how far a session came: its requests, the ref map where it was made, and whether a pack came or which step was refused
+-- the course of a session: its requests, the ref map if it was made, and whether a pack came or which step failed
 pub record Course : Type 0 where
   pub sent : List (List ℕ)
   pub mapped : Option RefMap
@@ -82,7 +82,7 @@ pub record Course : Type 0 where
 abbrev pub course_shown : Course → List ℕ
 course_shown c = requests_shown c.sent ++ mapped_shown c.mapped ++ end_shown c.ended
 
--- how it ended, as plain data
+-- the outcome as plain data
 abbrev pub ended_of : Result Bool PlanError → Result Bool PlanRefusal
 ended_of (Ok pack) = Ok pack
 ended_of (Err e) = Err (refusal_of e)

@@ -1,11 +1,11 @@
--- What is written of a text: all of it, or a beginning where a write fails.
+-- The writes of a text: all of it, or a beginning where a write fails.
 use Rattle.std.specs.Prelude.{ℕ, ◌≡◌, ◌++◌, ◌≤◌, List, length, take, Option, Result, Ok, Err}
 use Rattle.std.specs.declared.io.Error.{Error as IoError}
 use Rattle.std.specs.Io.KnownBytes.{Appends, Keeps}
 use Rattle.gixp_planner.specs.declared.error.PlanError.{PlanError}
 use Rattle.gixp_planner.specs.Refusal.{IsUnwritten, AnswersWrite}
 
--- of a text some was written, and the rest is left
+-- some of a text was written, and the rest remains
 pub record WritesPart (old new : Option (List ℕ)) (left text : List ℕ) : Type 0 where
   pub done : List ℕ
   pub written : Appends old new done
@@ -20,14 +20,14 @@ abbrev pub WritesPlan : Option (List ℕ) → Option (List ℕ) → List ℕ →
 WritesPlan old new text (Ok x) = Appends old new text
 WritesPlan old new text (Err e) = WritesBeginning old new text × IsUnwritten e
 
--- a text was written and a flush made behind it, whose answer is the result; or a write failed after a beginning of it
+-- a text was written and then flushed, with the flush's result; or a write failed after a beginning of it
 module _ {W : Type 0} (contents : W → Option (List ℕ)) (Flushes : W → Result (Unit {0}) IoError → W → Type 0) (text : List ℕ) where
   pub data EndsInFlush (old new : W) (r : Result (Unit {0}) PlanError) : Type 0 where
     flushed : (mid : W) (answer : Result (Unit {0}) IoError) → Appends (contents old) (contents mid) text → Flushes mid answer new
         → AnswersWrite answer r → EndsInFlush old new r
     unwritten : (e : PlanError) → r ≡ Err e → WritesBeginning (contents old) (contents new) text → IsUnwritten e → EndsInFlush old new r
 
--- of a text some was written, and the rest is held; or a write failed after a beginning of it
+-- some of a text was written, and the rest is pending; or a write failed after a beginning of it
 abbrev pub HoldsRest : Option (List ℕ) → Option (List ℕ) → List ℕ → List ℕ → Result (Unit {0}) PlanError → Type 0
 HoldsRest old new rest text (Ok x) = WritesPart old new rest text
 HoldsRest old new rest text (Err e) = WritesBeginning old new text × IsUnwritten e

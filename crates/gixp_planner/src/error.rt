@@ -1,6 +1,6 @@
 //! Why a plan isn't made.
 ghost use Rattle.std.specs.Prelude.{◌≡◌, IfErr};
-ghost use Rattle.gixp_planner.specs.Refusal.{refusal, refusal_of, IsPlanMemory, FileIsUnread, IsUnwritten, device_refusal, amount_told, written_amount, AnswersWrite};
+ghost use Rattle.gixp_planner.specs.Refusal.{refusal, refusal_of, IsPlanMemory, FileIsUnread, IsUnwritten, device_refusal, amount_value, written_amount, AnswersWrite};
 
 use std::io;
 use std::io::ErrorKind;
@@ -17,21 +17,19 @@ pub struct PlanError {
 }
 
 impl PlanError {
-    // A step that failed with this variant of its error.
     pub(crate) fn new(step: &'static str, variant: &'static str) -> PlanError
         ensures { refusal_of result ≡ refusal step.now variant.now }
     {
         PlanError { step, variant }
     }
 
-    // A step in which an allocation failed.
     pub(crate) fn memory(step: &'static str) -> PlanError
         ensures { IsPlanMemory step.now result }
     {
         PlanError::new(step, "Memory")
     }
 
-    // A read or a write of a file that failed with this kind.
+    // The error of a failed read or write of a file.
     pub(crate) fn device(kind: ErrorKind) -> PlanError
         ensures by_kind { refusal_of result ≡ device_refusal kind }
         ensures unread { FileIsUnread result }
@@ -43,9 +41,9 @@ impl PlanError {
     }
 }
 
-// How many bytes a write took: none where it was interrupted. One that took nothing is an error, and so is any other failure, by its kind.
+// How many bytes a write took, and 0 after an interrupt. A write that took nothing is an error.
 pub(crate) fn amount_of(written: io::Result<usize>) -> Result<usize, PlanError>
-    ensures amount { amount_told result ≡ written_amount written }
+    ensures amount { amount_value result ≡ written_amount written }
     ensures unwritten { IfErr result IsUnwritten }
 {
     match written {
@@ -58,8 +56,7 @@ pub(crate) fn amount_of(written: io::Result<usize>) -> Result<usize, PlanError>
     }
 }
 
-// What a flush returned: an error exactly where it failed, by its kind.
-pub(crate) fn answered(answer: io::Result<()>) -> Result<(), PlanError>
+pub(crate) fn flush_result(answer: io::Result<()>) -> Result<(), PlanError>
     ensures answer { AnswersWrite answer result }
     ensures unwritten { IfErr result IsUnwritten }
 {

@@ -6,8 +6,7 @@ use gix_protocol::transport::ObjectId;
 use gixp_text::text_lines;
 use std::alloc::Global;
 
-/// The ids of a text, one on each line, in their order and with their repeats. Each line ends in LF, which the last one
-/// may lack.
+/// The ids of a text, one on each line, in their order, repeats included. The last line may lack its LF.
 ///
 /// # Errors
 ///

@@ -1,4 +1,4 @@
-//! Laws of the definitions that contracts cite. The functions do nothing: a caller that cites a law calls one.
+//! Laws of the definitions that contracts cite. The functions do nothing. A caller that needs a law calls its function.
 ghost use Rattle.std.specs.Prelude.{◌≡◌, ℕ, true, List};
 ghost use Rattle.gixp_fetch.specs.Fetch.{parties_of};
 ghost use Rattle.gixp_wire.specs.declared.bodies.Body.{Body};
@@ -16,34 +16,33 @@ use gix_protocol::fetch::{ConsumePack, ReadToEnd, ShallowMemory, ShallowStore};
 use gix_protocol::transport::{Discard, Interrupt, NeverInterrupt};
 use std::alloc::AllocError;
 
-/// How a handshake without an account ends is a function of the first body, but for failed allocations and reads: it has the
-/// version, the capabilities and the refs that the body says, or it fails with the error whose name follows from the body.
+/// The outcome of a handshake without an account is a function of the first body, except for failed allocations and reads: it has the
+/// version, the capabilities and the refs of the body, or it fails with the error whose name follows from the body.
 pub fn greetings_follow_bodies()
     ensures { GreetingsFollow }
 {}
 
-/// What a client sends up to its ref map, and the lines of the mappings and of those taken out, are a function of the
-/// bodies and the refspecs: two sessions over the same have the same, whatever their objects, graphs and negotiators.
-/// Sessions whose fetch failed too: [`plan`](crate::plan) says of each that it came to a ref map, and writes its lines.
+/// The requests up to the ref map, and the lines of the mappings and of the removed mappings, are a function of the
+/// bodies and the refspecs, whatever the objects, graphs and negotiators. This includes sessions whose fetch failed:
+/// [`plan`](crate::plan) says that each of them has a ref map, and writes its lines.
 pub fn mappings_follow_bodies()
     ensures { MappingsFollow }
 {}
 
-/// Whether a session after its handshake comes to a ref map, the name of the map's error if it fails, and what was sent for it by
-/// then are a function of the bodies and the refspecs, but for failed allocations and reads.
+/// Whether a session has a ref map after its handshake, the name of the map's error if it fails, and the requests up to then
+/// are a function of the bodies and the refspecs, except for failed allocations and reads.
 pub fn ref_maps_follow_bodies()
     ensures { RefMapsFollow }
 {}
 
-/// With a [`HaveList`], what a client sends and how its session ends are a function of the bodies, the refspecs, the objects
-/// and the ids, unless it fails: two sessions over the same that didn't fail send the same requests and end alike,
-/// and [`plan`](crate::plan) writes the same text.
+/// With a [`HaveList`], the requests and the outcome of a session that succeeds are a function of the bodies, the refspecs, the
+/// objects and the ids, and so is the text that [`plan`](crate::plan) writes.
 ///
-/// The objects are what the repository and the graph have, whatever the graph holds by then; with `NoObjects` there are
-/// none. A session whose transport counted a failure fails, so each answer is the one that its body holds.
+/// The objects are those of the repository and of the graph, whatever the graph has looked up; `NoObjects` has
+/// none. A session whose transport counted a failure fails, so that each answer is its body's.
 ///
-/// Where a refspec is an error, each plan over these refspecs fails with its name, or with an allocation failure, and nothing is
-/// written; nor is anything of a plan whose handshake fails.
+/// If a refspec is an error, each plan over these refspecs fails with its name, or with an allocation failure, and nothing is
+/// written. Nothing is written either by a plan whose handshake fails.
 pub fn texts_follow_bodies<'a, O: Objects + 'a, G: Objects + 'a>()
     ensures { (bodies : List Body) (specs : List (List ℕ)) (haves : List ObjectId) (objects others : O) (graph another : GraphValue)
         → O.contents objects ≡ O.contents others → graph.graph.objects ≡ another.graph.objects
@@ -56,13 +55,12 @@ pub fn texts_follow_bodies<'a, O: Objects + 'a, G: Objects + 'a>()
         bodies specs }
 {}
 
-/// With a [`HaveList`], two sessions over the same bodies, refspecs, objects and ids go alike, failed ones too: they send the
-/// same requests, the same is printed of their ref maps, and they end at the same step, with the same end there or by the same
-/// name. So [`plan`](crate::plan) writes the same text, of a pack too whether it was taken or not.
+/// With a [`HaveList`], two sessions over the same bodies, refspecs, objects and ids send the same requests, print the same ref map,
+/// and end at the same step with the same result or the same error name. This includes failed sessions. So [`plan`](crate::plan)
+/// writes the same text, whether a pack was read to its end or not.
 ///
-/// An allocation failure, a failure that the transport counted, one of the repository or its boundary, and an interrupt of a pack,
-/// of which there are none here, come from no body: sessions with such are left out, and so are those that end with `Memory`.
-/// That an answer isn't interrupted follows, since the interrupt never says so.
+/// Sessions that end with `Memory`, or after a failure that the transport counted or a failure of the repository or its boundary, are
+/// left out, since no body determines these. No session is interrupted.
 pub fn courses_follow_bodies<'a, O: Objects + 'a, G: Objects + 'a>()
     ensures { (bodies : List Body) (specs : List (List ℕ)) (haves : List ObjectId) (objects others : O) (graph another : GraphValue)
         → O.contents objects ≡ O.contents others → graph.graph.objects ≡ another.graph.objects

@@ -1,11 +1,12 @@
-//! What a client would send to a server, and what it would map, planned over recorded answers; and the whole run of the program
-//! `gixp_plan`, so that each stored run has a program of one call.
+//! What a client would send to a server and what it would map, planned over recorded answers; the refs of a recorded answer; and
+//! the run of the program `gixp_plan`.
 #![tactic(auto)]
 
 mod command;
 mod error;
 mod haves;
 pub mod laws;
+pub mod listing;
 mod names;
 mod negotiation;
 mod planning;

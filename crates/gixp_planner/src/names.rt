@@ -1,4 +1,4 @@
-//! The names of the variants of each step's error.
+//! The variants' names of each step's error.
 ghost use Rattle.std.specs.Prelude.{◌≡◌};
 ghost use Rattle.gixp_planner.specs.Refusal.{spec_name, handshake_name, map_name, fetch_name};
 
@@ -6,7 +6,6 @@ use gix_protocol::fetch::{self, refmap};
 use gix_protocol::handshake;
 use gix_protocol::refspec::parse;
 
-// Of a refspec's error.
 pub(crate) fn spec_variant(e: &parse::Error) -> &'static str
     ensures { result.now ≡ spec_name e.now }
 {
@@ -20,7 +19,6 @@ pub(crate) fn spec_variant(e: &parse::Error) -> &'static str
     }
 }
 
-// Of a handshake's.
 pub(crate) fn handshake_variant(e: &handshake::Error) -> &'static str
     ensures { result.now ≡ handshake_name e.now }
 {
@@ -37,7 +35,6 @@ pub(crate) fn handshake_variant(e: &handshake::Error) -> &'static str
     }
 }
 
-// Of a ref map's.
 pub(crate) fn refs_variant(e: &refmap::init::Error) -> &'static str
     ensures { result.now ≡ map_name e.now }
 {
@@ -49,7 +46,6 @@ pub(crate) fn refs_variant(e: &refmap::init::Error) -> &'static str
     }
 }
 
-// Of a fetch's.
 pub(crate) fn fetch_variant<A, E>(e: &fetch::Error<A, E>) -> &'static str
     ensures { result.now ≡ fetch_name e.now }
 {

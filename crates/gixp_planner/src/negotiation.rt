@@ -1,4 +1,4 @@
-//! A negotiation over a ref map that gives way to its text once it is asked for.
+//! A negotiation that replaces the mappings of its ref map by their text after it added their wants.
 ghost use Rattle.std.specs.Prelude.{◌≡◌, ◌||◌, [], false, true, codes, drop, length, IfErr, IfOk, IsOk, OnErr};
 ghost use Rattle.gixp_requests.specs.Arguments.{can_use};
 ghost use Rattle.gixp_negotiate.specs.declared.negotiate.Error.TheVariants.{Memory};
@@ -16,25 +16,24 @@ use gix_protocol::fetch::{Arguments, Response, Shallow};
 use std::alloc::{AllocError, Global};
 use std::mem;
 
-/// A negotiation over a ref map whose mappings become their text as they are asked for.
+/// A negotiation whose mappings become text as their wants are added.
 #[derive(Drop)]
 pub(crate) struct PrintingNegotiation<'a, O, N, G: Objects> {
     context: NegotiateContext<'a, O, NoRefs, N, G, AllocError>,
-    // The alternates that the last first step was handed.
+    // The alternates of the last call of `mark_complete_and_common_ref`.
     handed: Result<&'a mut [NoRefs], AllocError>,
     alloc: Global,
     printed: PrintedMap,
 }
 
-// Each mapping counts.
 fn is_never_ignored(_mapping: &Mapping) -> bool
     ensures { result ≡ false }
 {
     false
 }
 
-// What is known after these mappings.
-fn known_behind<'a>(known: &'a [bool], mappings: &[Mapping]) -> &'a [bool]
+// The rest of `known` after these mappings.
+fn known_after<'a>(known: &'a [bool], mappings: &[Mapping]) -> &'a [bool]
     ensures { result.now ≡ drop (length mappings.now) known.now }
 {
     match known.get(mappings.len()..) {
@@ -50,7 +49,7 @@ fn is_any(first: bool, second: bool) -> bool
 }
 
 impl<'a, O, N, G: Objects> PrintingNegotiation<'a, O, N, G> {
-    /// A negotiation over these mappings, with no alternates. The context is made here, where all of it has one lifetime.
+    /// Without alternates. The context is made here, where all of its parts have one lifetime.
     pub(crate) fn new(
         alloc: Global,
         objects: &'a O,
@@ -81,7 +80,7 @@ impl<'a, O, N, G: Objects> PrintingNegotiation<'a, O, N, G> {
         }
     }
 
-    /// What is left of the ref map, and the text of the rest.
+    /// The remaining mappings, and the text of the others.
     pub(crate) fn into_printed(self) -> PrintedMap
         ensures { result ≡ self.entry.printed }
     {
@@ -89,7 +88,7 @@ impl<'a, O, N, G: Objects> PrintingNegotiation<'a, O, N, G> {
     }
 }
 
-// Asks for what isn't there yet of the mappings, part by part.
+// Adds the wants of the mappings, part by part.
 fn add_parts<O: Objects>(
     alloc: Global,
     objects: &O,
@@ -118,7 +117,7 @@ fn add_parts<O: Objects>(
             &is_never_ignored,
         )?;
         any = is_any(any, more);
-        rest = known_behind(rest, &printed.map.mappings);
+        rest = known_after(rest, &printed.map.mappings);
         printed.print_part(alloc)?;
         if !printed.next_part(alloc)? {
             return Ok(any);

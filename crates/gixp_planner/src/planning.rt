@@ -19,7 +19,7 @@ use gixp_fetch::laws::sessions_are_bounded;
 use std::alloc::{AllocError, Global};
 use std::io::Write;
 
-// Why a session isn't shown, or else which of its steps failed.
+// A failed write, or else the error of the session.
 fn outcome(written: Result<(), PlanError>, ended: Result<bool, PlanError>) -> Result<(), PlanError>
     ensures { IsOutcome written ended result }
 {
@@ -32,7 +32,7 @@ fn outcome(written: Result<(), PlanError>, ended: Result<bool, PlanError>) -> Re
     }
 }
 
-// How a session ended by its steps: after a failure that its transport counted it didn't come to its end.
+// The result of a session: a failure that its transport counted is an error too.
 fn counted(failures: u64, ended: Result<bool, PlanError>) -> Result<bool, PlanError>
     ensures { ended_of result ≡ end_counted failures (ended_of ended) }
 {
@@ -51,31 +51,32 @@ fn counted(failures: u64, ended: Result<bool, PlanError>) -> Result<bool, PlanEr
 /// Writes what a client would send to a server whose answers were recorded, and what it would map.
 ///
 /// The bodies answer one handshake for `git-upload-pack`, an `ls-refs` command under version 2, and the requests of a
-/// fetch, one after another; one that is missing is empty. The objects, the graph and the negotiator decide what is asked
-/// for: no refs are there, no tags are added, and the shallow boundary is empty and stays. A pack is read to its end and
-/// dropped. What the graph and the negotiator are afterwards is left open.
+/// fetch, in this order. A missing body is empty. The objects, the graph and the negotiator determine the wants and haves. The
+/// client has no refs, requests no tags, and keeps an empty shallow boundary. A pack is read to its end and dropped. The contract
+/// leaves open what the graph and the negotiator are afterwards.
 ///
-/// For each request a line `request`, with its number from 1 on, and a line for each of its packet lines: `> ` and its
-/// payload without an ending LF, or its four digits where it has none. Then, where the refs were mapped, a line
-/// `map ID NAME LOCAL` for each mapping, with `unborn` for an id that isn't there and `-` for a name that isn't, and a line
-/// `fix LOCAL REFSPEC` for each that was taken out. Then `pack`, or `nothing` where there was nothing to ask for. All is
-/// written after the session, and the writer is flushed. The text goes through a buffer, in pieces of 64 KiB, or a line or the
-/// lines of 512 mappings more, or in one piece where it is shorter; of each a write may take less.
+/// The text has a line `request` for each request, with its number from 1 on, and a line for each of its packet lines: `> ` and the
+/// payload without its LF, or the four digits of a packet line without a payload. If the refs were mapped, a line
+/// `map ID NAME LOCAL` follows for each mapping, with `unborn` for a missing id and `-` for a missing name, and a line
+/// `fix LOCAL REFSPEC` for each mapping that was removed. The last line is `pack`, or `nothing` where nothing was wanted. The text is
+/// written after the session, and the writer is flushed. The text is written in pieces of 64 KiB, plus at most a line or the
+/// lines of 512 mappings, or in one piece where it is shorter. A write may take less.
 ///
-/// Of a plan that succeeds, or whose fetch fails, the requests up to the ref map, the mappings and those taken out are a
+/// The requests up to the ref map, the mappings and the removed mappings of a plan that succeeds, or whose fetch fails, are a
 /// function of the bodies and the refspecs alone ([`mappings_follow_bodies`](crate::laws::mappings_follow_bodies)). With a
-/// [`HaveList`](gix_protocol::fetch::negotiate::HaveList) the whole text is one of these, the objects and the ids, whatever
-/// version the server speaks ([`texts_follow_bodies`](crate::laws::texts_follow_bodies)). Plans that fail go alike too
+/// [`HaveList`](gix_protocol::fetch::negotiate::HaveList) the whole text is a function of these, the objects and the ids, whatever
+/// version the server has ([`texts_follow_bodies`](crate::laws::texts_follow_bodies)). The same holds for plans that fail
 /// ([`courses_follow_bodies`](crate::laws::courses_follow_bodies)).
 ///
 /// # Errors
 ///
-/// `spec` with the variant of a refspec's error, and `file Memory` where no transport can be made: nothing is written then.
-/// `handshake`, `refs` and `fetch` with the outermost variant of that step's error: the requests and mappings so far are
-/// written. `fetch FetchResponse` also where the fetch came to its end, but the transport has counted a failure: a read that
-/// failed may have cut an answer short, so all is written but for whether a pack came. `file Io` where a write or the flush failed, and
-/// `file Memory` where an allocation for what is written did, or a write failed by an allocation failure: a beginning of the text is
-/// written.
+/// - `spec` with the variant of a refspec's error, and `file Memory` where no transport can be made. Nothing is written then.
+/// - `handshake`, `refs` and `fetch` with the outermost variant of that step's error. The requests and mappings so far are
+///   written.
+/// - `fetch FetchResponse` also where the fetch succeeded, but the transport counted a failure. A failed read may have cut an answer
+///   short, so that all is written but the last line.
+/// - `file Io` where a write or the flush failed, and `file Memory` on an allocation failure for the text or in a write. A beginning
+///   of the text is written.
 pub fn plan<'a, O: Objects, G: Objects, N: Negotiator, W: Write>(
     alloc: Global,
     bodies: Vec<Body>,

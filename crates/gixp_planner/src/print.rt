@@ -1,4 +1,4 @@
-//! What is printed of a session. The text goes through a buffer, so that little of it is held, however long it is.
+//! The printed text of a session. It goes through a buffer, so that little of a long text is in memory.
 ghost use Rattle.std.specs.Prelude.{◌≡◌, ◌++◌, ◌≤◌, ◌<◌, [], OnOk, drop, flat_map, length, map, vec_items};
 ghost use Rattle.std.specs.Fn.{FnOnceReturnsAtMut};
 ghost use Rattle.std.specs.Io.KnownBytes.{Keeps};
@@ -7,23 +7,23 @@ ghost use Rattle.gixp_packetline.specs.FrameText.{message_text};
 ghost use Rattle.gixp_packetline.specs.PacketLine.{frame_of};
 ghost use Rattle.gixp_planner.specs.Written.{EndsInFlush, HoldsRest, WritesPlan, WritesSome};
 ghost use Rattle.gixp_planner.specs.Text.{frame_content, frame_shown, request_shown, requests_shown, mapping_shown, fix_shown, end_shown, ended_of};
-ghost use Rattle.gixp_planner.specs.Printed.{text_behind, printed_text, mapped_text};
+ghost use Rattle.gixp_planner.specs.Printed.{text_then, printed_text, mapped_text};
 
-use crate::error::{PlanError, amount_of, answered};
+use crate::error::{PlanError, amount_of, flush_result};
 use crate::printed::PrintedMap;
 use gix_protocol::fetch::refmap::Mapping;
 use gix_protocol::refspec::match_group::validate::Fix;
-use gixp_listing::{local_name, remote_name};
 use gixp_packetline::{MessageKind, PacketLine, split_packet_line};
+use gixp_refmap::mapping_names::{local_name, remote_name};
 use gixp_text::{append, without_line_end};
 use std::alloc::{AllocError, Global};
 use std::io;
 use std::io::Write;
 
-// A text of this length or more is written before more is appended.
+// A pending text of this length or more is written.
 const LONG: usize = 65_536;
 
-// The digits of a packet line without a payload.
+// The four digits of a packet line without a payload.
 fn mark(kind: MessageKind) -> &'static [u8]
     ensures { result.now ≡ message_text kind }
 {
@@ -35,7 +35,6 @@ fn mark(kind: MessageKind) -> &'static [u8]
     }
 }
 
-// What is shown of a packet line.
 fn content<'a>(line: PacketLine<'a>) -> &'a [u8]
     ensures { result.now ≡ frame_content (frame_of line.entry) }
 {
@@ -45,22 +44,20 @@ fn content<'a>(line: PacketLine<'a>) -> &'a [u8]
     }
 }
 
-// How many bytes of the text one write takes: none where it is interrupted.
 fn write_some<W: Write>(writer: &mut W, text: &[u8]) -> Result<usize, PlanError>
     ensures { WritesSome (W.contents writer.old) (W.contents writer.new) text.now result }
 {
     amount_of(writer.write(text))
 }
 
-// What is left after so many bytes.
-fn behind(text: &[u8], amount: usize) -> &[u8]
+fn text_after(text: &[u8], amount: usize) -> &[u8]
     requires { amount ≤ length text.now }
     ensures { result.now ≡ drop amount text.now }
 {
     &text[amount..]
 }
 
-// Writes the text. A write that was interrupted is made again.
+// Writes the text. Repeats an interrupted write.
 fn write_text<W: Write>(writer: &mut W, text: &[u8]) -> Result<(), PlanError>
     ensures { WritesPlan (W.contents writer.old) (W.contents writer.new) text.now result }
 {
@@ -70,12 +67,12 @@ fn write_text<W: Write>(writer: &mut W, text: &[u8]) -> Result<(), PlanError>
             return Ok(());
         }
         let amount = write_some(writer, rest)?;
-        rest = behind(rest, amount);
+        rest = text_after(rest, amount);
     }
     Err(PlanError::new("file", "Io"))
 }
 
-// The same, and then a flush, by this call of the writer.
+// Writes the text, and then flushes the writer by this call.
 fn write_then_flush<W: Write, F: FnOnce(&mut W) -> io::Result<()>>(
     writer: &mut W,
     text: &[u8],
@@ -85,12 +82,11 @@ fn write_then_flush<W: Write, F: FnOnce(&mut W) -> io::Result<()>>(
     ensures { EndsInFlush W.contents (FnOnceReturnsAtMut F.FnOnce flush) text.now writer.old writer.new result }
 {
     match write_text(writer, text) {
-        Ok(()) => answered(flush(writer)),
+        Ok(()) => flush_result(flush(writer)),
         Err(e) => Err(e),
     }
 }
 
-// The same, and no byte of it left in the writer.
 fn write_whole<W: Write>(writer: &mut W, text: &[u8]) -> Result<(), PlanError>
     ensures { WritesPlan (W.contents writer.old) (W.contents writer.new) text.now result }
 {
@@ -103,8 +99,8 @@ fn write_whole<W: Write>(writer: &mut W, text: &[u8]) -> Result<(), PlanError>
     )
 }
 
-// Writes what is pending once it is long. Its room is kept, and serves for what comes.
-fn settle<W: Write>(writer: &mut W, pending: &mut Vec<u8>) -> Result<(), PlanError>
+// Writes the pending text if it is long. Keeps its capacity.
+fn write_if_long<W: Write>(writer: &mut W, pending: &mut Vec<u8>) -> Result<(), PlanError>
     ensures text { HoldsRest (W.contents writer.old) (W.contents writer.new) pending.new.items pending.old.items result }
     ensures short { OnOk result (length pending.new.items < LONG) }
 {
@@ -116,20 +112,22 @@ fn settle<W: Write>(writer: &mut W, pending: &mut Vec<u8>) -> Result<(), PlanErr
     Ok(())
 }
 
-// Appends the pieces to what is pending.
 #[tactic(auto, using(crate::proofs::PrintLemmas::written_none))]
-fn put<W: Write>(writer: &mut W, pending: &mut Vec<u8>, pieces: &[&[u8]]) -> Result<(), PlanError>
+fn append_pieces<W: Write>(
+    writer: &mut W,
+    pending: &mut Vec<u8>,
+    pieces: &[&[u8]],
+) -> Result<(), PlanError>
     ensures text { HoldsRest (W.contents writer.old) (W.contents writer.new) pending.new.items
         (pending.old.items ++ flat_map (λ piece. piece.now) pieces.now) result }
     ensures short { OnOk result (length pending.new.items < LONG) }
 {
     match append(pending, pieces) {
-        Ok(()) => settle(writer, pending),
+        Ok(()) => write_if_long(writer, pending),
         Err(AllocError) => Err(PlanError::memory("file")),
     }
 }
 
-// The packet lines of a request.
 fn write_packet_lines<W: Write>(
     writer: &mut W,
     pending: &mut Vec<u8>,
@@ -141,9 +139,9 @@ fn write_packet_lines<W: Write>(
     let mut rest = request;
     'lines: loop {
         match split_packet_line(rest) {
-            Ok(Some((line, behind))) => {
-                put(writer, pending, &[b"> ", content(line), b"\n"])?;
-                rest = behind;
+            Ok(Some((line, after))) => {
+                append_pieces(writer, pending, &[b"> ", content(line), b"\n"])?;
+                rest = after;
             }
             Ok(None) => return Ok(()),
             Err(_) => return Ok(()),
@@ -151,7 +149,6 @@ fn write_packet_lines<W: Write>(
     }
 }
 
-// A request after its number.
 fn write_request<W: Write>(
     alloc: Global,
     writer: &mut W,
@@ -165,11 +162,11 @@ fn write_request<W: Write>(
     let Ok(number) = number.to_string(alloc) else {
         return Err(PlanError::memory("file"));
     };
-    put(writer, pending, &[b"request ", number.as_bytes(), b"\n"])?;
+    append_pieces(writer, pending, &[b"request ", number.as_bytes(), b"\n"])?;
     write_packet_lines(writer, pending, request)
 }
 
-// The requests, numbered from 1 on.
+// Numbers the requests from 1 on.
 fn write_requests<W: Write>(
     alloc: Global,
     writer: &mut W,
@@ -185,7 +182,7 @@ fn write_requests<W: Write>(
     Ok(())
 }
 
-/// Appends what is printed of a mapping.
+/// Appends the line of a mapping.
 #[inline(always)]
 pub(crate) fn append_mapping(text: &mut Vec<u8>, mapping: &Mapping) -> Result<(), AllocError>
     ensures { OnOk result (text.new.items ≡ text.old.items ++ mapping_shown mapping.now) }
@@ -201,7 +198,6 @@ pub(crate) fn append_mapping(text: &mut Vec<u8>, mapping: &Mapping) -> Result<()
     }
 }
 
-// A mapping.
 #[inline(always)]
 #[tactic(auto, using(crate::proofs::PrintLemmas::written_none))]
 fn write_mapping<W: Write>(
@@ -215,10 +211,9 @@ fn write_mapping<W: Write>(
     let Ok(()) = append_mapping(pending, mapping) else {
         return Err(PlanError::memory("file"));
     };
-    settle(writer, pending)
+    write_if_long(writer, pending)
 }
 
-// The mappings.
 fn write_mappings<W: Write>(
     writer: &mut W,
     pending: &mut Vec<u8>,
@@ -233,19 +228,18 @@ fn write_mappings<W: Write>(
     Ok(())
 }
 
-// A mapping that was taken out.
+// The line of a mapping that was removed.
 fn write_fix<W: Write>(writer: &mut W, pending: &mut Vec<u8>, fix: &Fix) -> Result<(), PlanError>
     ensures { HoldsRest (W.contents writer.old) (W.contents writer.new) pending.new.items (pending.old.items ++ fix_shown fix.now) result }
 {
     let Fix::MappingWithPartialDestinationRemoved { name, spec } = fix;
-    put(
+    append_pieces(
         writer,
         pending,
         &[b"fix ", name.as_bytes(), b" ", spec.as_bytes(), b"\n"],
     )
 }
 
-// Those that were taken out.
 fn write_fixes<W: Write>(
     writer: &mut W,
     pending: &mut Vec<u8>,
@@ -260,7 +254,6 @@ fn write_fixes<W: Write>(
     Ok(())
 }
 
-// Texts of mappings.
 fn write_texts<W: Write>(
     writer: &mut W,
     pending: &mut Vec<u8>,
@@ -270,12 +263,12 @@ fn write_texts<W: Write>(
         (pending.old.items ++ flat_map vec_items texts.now) result }
 {
     for text in texts {
-        put(writer, pending, &[text])?;
+        append_pieces(writer, pending, &[text])?;
     }
     Ok(())
 }
 
-// The mappings that are no text yet.
+// Writes the mappings that aren't text yet.
 fn write_left<W: Write>(
     writer: &mut W,
     pending: &mut Vec<u8>,
@@ -288,21 +281,20 @@ fn write_left<W: Write>(
     write_mappings(writer, pending, &printed.later)
 }
 
-// These, and then those that were taken out.
+// Writes these, and then the removed mappings.
 fn write_rest<W: Write>(
     writer: &mut W,
     pending: &mut Vec<u8>,
     printed: &PrintedMap,
 ) -> Result<(), PlanError>
     ensures { HoldsRest (W.contents writer.old) (W.contents writer.new) pending.new.items
-        (pending.old.items ++ text_behind [] (printed.now.map.mappings.items ++ printed.now.later.items) printed.now.map.fixes.items)
+        (pending.old.items ++ text_then [] (printed.now.map.mappings.items ++ printed.now.later.items) printed.now.map.fixes.items)
         result }
 {
     write_left(writer, pending, printed)?;
     write_fixes(writer, pending, &printed.map.fixes)
 }
 
-// The texts of mappings, and then the others and those that were taken out.
 fn write_map<W: Write>(
     writer: &mut W,
     pending: &mut Vec<u8>,
@@ -315,7 +307,6 @@ fn write_map<W: Write>(
     write_rest(writer, pending, printed)
 }
 
-// Where the refs were mapped.
 fn write_mapped<W: Write>(
     writer: &mut W,
     pending: &mut Vec<u8>,
@@ -330,7 +321,6 @@ fn write_mapped<W: Write>(
     }
 }
 
-// Whether a pack came.
 fn end_text(ended: &Result<bool, PlanError>) -> &'static [u8]
     ensures { result.now ≡ end_shown (ended_of ended.now) }
 {
@@ -341,7 +331,7 @@ fn end_text(ended: &Result<bool, PlanError>) -> &'static [u8]
     }
 }
 
-// Whether a pack came, after what is pending. Nothing is left to be written.
+// Writes what is pending and whether a pack came, and flushes the writer.
 #[tactic(auto, using(crate::proofs::PrintLemmas::written_none))]
 fn write_end<W: Write>(
     writer: &mut W,
@@ -356,7 +346,6 @@ fn write_end<W: Write>(
     }
 }
 
-// The requests, and then the mappings.
 #[tactic(auto, using(crate::proofs::PrintLemmas::first_fails, crate::proofs::PrintLemmas::second_rests))]
 fn write_steps<W: Write>(
     alloc: Global,

@@ -1,4 +1,4 @@
-//! A ref map whose mappings give way to what is printed of them.
+//! A ref map whose mappings become their printed text.
 ghost use Rattle.std.specs.Prelude.{◌≡◌, ◌<◌, ◌++◌, [], false, true, IfOk, OnErr, OnOk, flat_map, length, reverse};
 ghost use Rattle.gixp_planner.specs.Text.{mapping_shown};
 ghost use Rattle.gixp_planner.specs.Printed.{left_of, printed_text, taken_text};
@@ -9,22 +9,22 @@ use gix_protocol::fetch::refmap::Mapping;
 use std::alloc::{AllocError, Global};
 use std::mem;
 
-// How many mappings are taken at once: few enough that what they leave free serves for the texts of those after them.
+// How many mappings become text at once: few enough that the memory that they free serves for later texts.
 const PART: usize = 512;
 
-/// A ref map, of which the first mappings may be held as their text.
+/// A ref map whose first mappings may be text.
 #[derive(Drop)]
 pub(crate) struct PrintedMap {
-    /// The texts of the mappings that are no longer there.
+    /// The texts of the first mappings.
     pub(crate) texts: Vec<Vec<u8>>,
-    /// The ref map, with the mappings after these.
+    /// The ref map, with the next mappings.
     pub(crate) map: RefMap,
-    /// The mappings after the ones in the ref map; while mappings are taken, the last first.
+    /// The mappings after those. Between `begin` and `end` they are in reverse order.
     pub(crate) later: Vec<Mapping>,
 }
 
 impl PrintedMap {
-    /// With all mappings.
+    /// No mapping is text yet.
     pub(crate) fn new(alloc: Global, map: RefMap) -> PrintedMap
         ensures map { result.map ≡ map }
         ensures texts { result.texts.items ≡ [] }
@@ -37,7 +37,7 @@ impl PrintedMap {
         }
     }
 
-    /// Before the first mappings are taken. A list gives its room back at its end alone, so they are to stand there.
+    /// Reverses the mappings, since a list can free memory at its end alone.
     pub(crate) fn begin(&mut self)
         ensures text { taken_text self.new ≡ printed_text self.old }
         ensures left { self.old.later.items ≡ [] → left_of self.new ≡ self.old.map.mappings.items }
@@ -48,18 +48,18 @@ impl PrintedMap {
         self.later.reverse();
     }
 
-    /// After the last ones were taken, or some couldn't be.
+    /// Restores the order of the remaining mappings.
     pub(crate) fn end(&mut self)
         ensures { printed_text self.new ≡ taken_text self.old }
     {
         self.later.reverse();
     }
 
-    /// The mappings of the ref map become their text.
+    /// Replaces the mappings of the ref map by their text.
     ///
     /// # Errors
     ///
-    /// An allocation failure: they stay.
+    /// An allocation failure; the mappings stay then.
     pub(crate) fn print_part(&mut self, alloc: Global) -> Result<(), AllocError>
         ensures text { taken_text self.new ≡ taken_text self.old }
         ensures taken { OnOk result (self.new.map.mappings.items ≡ []) }
@@ -71,11 +71,11 @@ impl PrintedMap {
         Ok(())
     }
 
-    /// The ref map, which has none, gets the next mappings, where there are any.
+    /// Moves the next mappings into the ref map, which has none. Returns whether there are any.
     ///
     /// # Errors
     ///
-    /// An allocation failure: nothing changes.
+    /// An allocation failure; nothing changes then.
     pub(crate) fn next_part(&mut self, alloc: Global) -> Result<bool, AllocError>
         requires { self.old.map.mappings.items ≡ [] }
         ensures text { taken_text self.new ≡ taken_text self.old }
@@ -86,13 +86,12 @@ impl PrintedMap {
         if self.later.is_empty() {
             return Ok(false);
         }
-        self.map.mappings = taken(alloc, &mut self.later)?;
+        self.map.mappings = next_mappings(alloc, &mut self.later)?;
         self.later.shrink_to_fit();
         Ok(true)
     }
 }
 
-// What is printed of some mappings.
 fn text_of(alloc: Global, mappings: &[Mapping]) -> Result<Vec<u8>, AllocError>
     ensures { IfOk result (λ text. text.items ≡ flat_map mapping_shown mappings.now) }
 {
@@ -104,8 +103,8 @@ fn text_of(alloc: Global, mappings: &[Mapping]) -> Result<Vec<u8>, AllocError>
     Ok(text)
 }
 
-// The next mappings, which stand at the end, the last one first.
-fn taken(alloc: Global, later: &mut Vec<Mapping>) -> Result<Vec<Mapping>, AllocError>
+// Takes the next mappings, which are at the end of `later` in reverse order.
+fn next_mappings(alloc: Global, later: &mut Vec<Mapping>) -> Result<Vec<Mapping>, AllocError>
     ensures taken { IfOk result (λ part. part.items ++ reverse later.new.items ≡ reverse later.old.items) }
     ensures some { IfOk result (λ part. 0 < length later.old.items → 0 < length part.items) }
     ensures refused { OnErr result (later.new.items ≡ later.old.items) }

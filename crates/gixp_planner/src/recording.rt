@@ -1,7 +1,7 @@
-//! A recorded session in a folder: what a server sent, and the haves to offer.
+//! A recorded session in a folder: the server's answers, and the haves to offer.
 ghost use Rattle.std.specs.Prelude.{◌≡◌, ◌⊎◌, IfErr};
 ghost use Rattle.gixp_planner.specs.Refusal.{FileIsUnread, IsNoHave};
-ghost use Rattle.gixp_planner.specs.Recorded.{file_given, ReadsBodies, ReadsGiven, TellsBodies};
+ghost use Rattle.gixp_planner.specs.Recorded.{file_bytes, ReadsBodies, ReadsHavesOf, IsBodiesOrError};
 
 use crate::error::PlanError;
 use crate::haves::parse_haves;
@@ -10,9 +10,9 @@ use std::alloc::Global;
 use std::io::ErrorKind;
 use std::{fs, io};
 
-// What a read of a file gives: its bytes, nothing where it isn't there, or why it can't be read.
-fn given(read: io::Result<Vec<u8>>) -> Result<Option<Vec<u8>>, ErrorKind>
-    ensures { result ≡ file_given read }
+// The bytes of a file, none where it doesn't exist, or why it can't be read.
+fn file_bytes(read: io::Result<Vec<u8>>) -> Result<Option<Vec<u8>>, ErrorKind>
+    ensures { result ≡ file_bytes read }
 {
     match read {
         Ok(bytes) => Ok(Some(bytes)),
@@ -23,15 +23,13 @@ fn given(read: io::Result<Vec<u8>>) -> Result<Option<Vec<u8>>, ErrorKind>
     }
 }
 
-// The same of a file of the folder.
 fn read_file(rt: &HostRuntime, folder: &str, name: &str) -> Result<Option<Vec<u8>>, ErrorKind> {
     match format!(in rt.alloc(); "{folder}/{name}") {
-        Ok(path) => given(fs::read(rt, path.as_str())),
+        Ok(path) => file_bytes(fs::read(rt, path.as_str())),
         Err(_) => Err(ErrorKind::OutOfMemory),
     }
 }
 
-// The same of the body of this number.
 fn read_body(rt: &HostRuntime, folder: &str, number: u64) -> Result<Option<Vec<u8>>, ErrorKind> {
     match number.to_string(rt.alloc()) {
         Ok(name) => read_file(rt, folder, name.as_str()),
@@ -39,7 +37,7 @@ fn read_body(rt: &HostRuntime, folder: &str, number: u64) -> Result<Option<Vec<u
     }
 }
 
-// The bodies that files give, by their numbers from 0 on, up to the first that isn't there.
+// The bodies of the files from number 0 on, up to the first that doesn't exist.
 fn bodies_of<F: Fn(u64) -> Result<Option<Vec<u8>>, ErrorKind>>(
     alloc: Global,
     file: F,
@@ -62,9 +60,8 @@ fn bodies_of<F: Fn(u64) -> Result<Option<Vec<u8>>, ErrorKind>>(
     Err(ErrorKind::OutOfMemory)
 }
 
-// The bodies that were read, or why they can't be.
-fn told_bodies(read: Result<Vec<Body>, ErrorKind>) -> Result<Vec<Body>, PlanError>
-    ensures bodies { TellsBodies read result }
+fn bodies_or_error(read: Result<Vec<Body>, ErrorKind>) -> Result<Vec<Body>, PlanError>
+    ensures bodies { IsBodiesOrError read result }
     ensures unread { IfErr result FileIsUnread }
 {
     match read {
@@ -73,23 +70,22 @@ fn told_bodies(read: Result<Vec<Body>, ErrorKind>) -> Result<Vec<Body>, PlanErro
     }
 }
 
-/// The bodies of a folder: the files `0`, `1`, `2` and so on, up to the first that isn't there.
+/// The bodies of a folder: the files `0`, `1`, `2` and so on, up to the first that doesn't exist.
 ///
 /// # Errors
 ///
-/// `file Io` where one is there and can't be read, `file Memory` on an allocation failure.
+/// `file Io` where one exists and can't be read, `file Memory` on an allocation failure.
 pub fn read_bodies(rt: &HostRuntime, folder: &str) -> Result<Vec<Body>, PlanError>
     ensures { IfErr result FileIsUnread }
 {
-    told_bodies(bodies_of(rt.alloc(), |number| { read_body(rt, folder, number) }))
+    bodies_or_error(bodies_of(rt.alloc(), |number| { read_body(rt, folder, number) }))
 }
 
-// The ids of what a file gives, none where it isn't there.
 fn haves_of(
     alloc: Global,
     file: Result<Option<Vec<u8>>, ErrorKind>,
 ) -> Result<Vec<ObjectId>, PlanError>
-    ensures { ReadsGiven file result }
+    ensures { ReadsHavesOf file result }
 {
     match file {
         Ok(Some(text)) => parse_haves(alloc, &text),
@@ -98,11 +94,11 @@ fn haves_of(
     }
 }
 
-/// The ids of the folder's file `haves`, none where it isn't there.
+/// The ids of the folder's file `haves`, none where it doesn't exist.
 ///
 /// # Errors
 ///
-/// `file Io` where it is there and can't be read, `file Memory` on an allocation failure, else as `parse_haves`.
+/// `file Io` where it exists and can't be read, `file Memory` on an allocation failure, else as `parse_haves`.
 pub fn read_haves(rt: &HostRuntime, folder: &str) -> Result<Vec<ObjectId>, PlanError>
     ensures { IfErr result (λ e. FileIsUnread e ⊎ IsNoHave e) }
 {

@@ -11,7 +11,6 @@ use gix_protocol::refspec::RefSpec;
 use gix_protocol::refspec::parse::{Operation, parse};
 use std::alloc::Global;
 
-// The refspec of a text.
 fn read_spec(alloc: Global, text: &BString) -> Result<RefSpec, PlanError>
     ensures { ReadsSpec (bstring_bytes text.now) result }
 {
@@ -24,7 +23,6 @@ fn read_spec(alloc: Global, text: &BString) -> Result<RefSpec, PlanError>
     }
 }
 
-// The refspecs of these texts, or the first error.
 pub(crate) fn read_specs(alloc: Global, texts: &[BString]) -> Result<Context, PlanError>
     ensures { ReadsSpecs (map bstring_bytes texts.now) result }
 {

@@ -24,23 +24,22 @@ use gix_protocol::transport::{Discard, Interrupt, NeverInterrupt, Service, Trans
 use gix_protocol::{Handshake, agent_feature};
 use std::alloc::{AllocError, Global};
 
-/// How far a session came.
+/// The outcome of a session.
 #[derive(Drop)]
 pub(crate) struct Course {
-    /// The ref map, where it was made, or what is printed of it.
+    /// The ref map, if it was made, or its text.
     pub(crate) mapped: Option<PrintedMap>,
     /// Whether a pack came, or which step failed.
     pub(crate) ended: Result<bool, PlanError>,
 }
 
-// How the planner names itself.
 fn planner_feature(alloc: Global) -> Result<Feature, AllocError>
     ensures { IfOk result (λ f. feature_value f ≡ planner_agent) }
 {
     agent_feature(alloc, "git/gixp-plan")
 }
 
-// A handshake without an account.
+// Performs a handshake without an account.
 fn greet<T: Transport>(alloc: Global, transport: &mut T) -> Result<Handshake, handshake::Error>
     ensures { GreetsWithoutAccount T.is_plain (T.reading transport.old) (T.reading transport.new) result }
 {
@@ -57,8 +56,7 @@ fn greet<T: Transport>(alloc: Global, transport: &mut T) -> Result<Handshake, ha
     )
 }
 
-// The ref map of the server, which is asked for the refspecs' prefixes. The mappings hold the refs that are fetched, and
-// no other is looked at.
+// Requests the refs by the refspecs' prefixes, and makes the ref map. Its mappings have the refs, and no other ref is kept.
 fn map_refs<T: Transport>(
     alloc: Global,
     handshake: &mut Handshake,
@@ -76,7 +74,7 @@ fn map_refs<T: Transport>(
     )
 }
 
-// The fetch of what a negotiation asks for. The pack is read to its end.
+// Fetches by a negotiation, and reads the pack to its end.
 fn fetch_over<N: Negotiate, T: Transport>(
     alloc: Global,
     negotiation: &mut N,
@@ -119,7 +117,7 @@ fn fetch_over<N: Negotiate, T: Transport>(
     )
 }
 
-// The fetch of what is mapped, and the ref map after it, of which the same is printed.
+// Fetches the mapped refs. Returns the ref map too, whose printed text is the same as before.
 fn fetch_mapped<'a, O: Objects, G: Objects, N: Negotiator, T: Transport>(
     alloc: Global,
     objects: &'a O,
@@ -159,7 +157,6 @@ fn fetch_mapped<'a, O: Objects, G: Objects, N: Negotiator, T: Transport>(
     (negotiation.into_printed(), fetched)
 }
 
-// How a fetch ended.
 fn ended(
     fetched: Result<Option<Outcome>, fetch::Error<AllocError, CopyError>>,
 ) -> Result<bool, PlanError>
@@ -172,7 +169,7 @@ fn ended(
     }
 }
 
-// A session of which no ref map came.
+// The outcome of a session without a ref map.
 fn unmapped(error: PlanError) -> Course
     ensures mapped { result.mapped ≡ None }
     ensures ended { result.ended ≡ Err error }
@@ -183,7 +180,7 @@ fn unmapped(error: PlanError) -> Course
     }
 }
 
-/// A whole session.
+/// Runs a session.
 pub(crate) fn run<'a, O: Objects, G: Objects, N: Negotiator, T: Transport>(
     alloc: Global,
     objects: &'a O,

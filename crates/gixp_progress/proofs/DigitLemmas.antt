@@ -1,15 +1,15 @@
--- Numbers that digits write, by places.
+-- The number that decimal digits write, digit by digit.
 use Rattle.std.proofs.Common.{◌≡◌, ℕ, ◌+◌, ◌-◌, ◌*◌, List, [], ◌∷◌, ◌++◌, length, ap, sym, ◌∙◌, refl, arith, add-mul, mul_assoc, mul_comm, pow-suc}
 use Rattle.std.specs.Prelude.{◌^◌}
 use Rattle.gixp_progress.specs.Numbers.{number_after}
 use Rattle.gixp_progress.specs.Laws.{NumberByPlaces}
 
--- the digits after others
+-- digits that follow other digits
 after_append : (front back : List ℕ) (n : ℕ) → number_after n (front ++ back) ≡ number_after (number_after n front) back
 after_append [] back n = refl
 after_append (d ∷ front) back n = after_append front back (n * 10 + (d - 48))
 
--- one place more
+-- one more digit
 one_place : (n p : ℕ) → n * 10 * p ≡ n * (p * 10)
 one_place n p = mul_assoc n 10 p ∙ ap (λ k. n * k) (mul_comm 10 p)
 

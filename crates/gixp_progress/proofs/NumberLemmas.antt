@@ -1,4 +1,4 @@
--- Numbers that grow digit by digit.
+-- Numbers that grow with each digit.
 use Rattle.std.proofs.Common.{◌≡◌, ℕ, ◌+◌, ◌-◌, ◌*◌, ◌<◌, ◌≤◌, Bool, true, false, List, [], ◌∷◌, length, drop, get_or, nat_lt, Some, None, ap, refl, sym, ◌∙◌, arith}
 use Rattle.std.specs.Bool.{if◌then◌else◌}
 use Rattle.std.proofs.lemmas.Bool.{ltb-true, ltb-false, le-ltb, lt-ltb}
@@ -17,13 +17,12 @@ small_at : (b : Bool) (lim k m : ℕ) → nat_lt k lim ≡ b → (if b then Some
 small_at true lim k m e h = let same : m ≡ k = some_at true k m h in rw same (ltb-true k lim e)
 small_at false lim k m e h = cc
 
--- a number with one digit more fits
+-- a number with one more digit fits
 pub still_fits : (n d m : ℕ) → Some m ≡ with_digit n d → m < 18446744073709551616
 still_fits n d m step =
     let grown = n * 10 + (d - 48) in
     small_at (nat_lt grown 18446744073709551616) 18446744073709551616 grown m refl (sym step)
 
--- one digit more
 pub digit_more : (run : List ℕ) (n m i total : ℕ) → i < length run → Some m ≡ with_digit n (get_or run i 0)
     → total ≡ number_after n (drop i run) → total ≡ number_after m (drop (i + 1) run)
 digit_more run n m i total l step kept =
@@ -35,7 +34,6 @@ digit_more run n m i total l step kept =
 below : (k grown n d : ℕ) → grown ≡ n * 10 + d → grown ≤ k → n ≤ k
 below k grown n d e h = omega arith
 
--- a number grows with each digit
 grows : (ds : List ℕ) (n : ℕ) → n ≤ number_after n ds
 grows [] n = omega arith
 grows (d ∷ ds) n = below (number_after (n * 10 + (d - 48)) ds) (n * 10 + (d - 48)) n (d - 48) refl (grows ds (n * 10 + (d - 48)))
@@ -46,7 +44,7 @@ over lim k m h g = omega arith
 exceeds : (lim k : ℕ) → lim ≤ k → (if nat_lt k lim then Some k else None) ≡ None
 exceeds lim k h = rw (le-ltb k lim h) refl
 
--- a number that exceeds 64 bits with one digit more does so with all
+-- a number that exceeds 64 bits with one more digit exceeds them with all digits
 pub too_large : (run : List ℕ) (n i : ℕ) → i < length run → None ≡ with_digit n (get_or run i 0)
     → number_after 0 run ≡ number_after n (drop i run) → None ≡ fit_number run
 unfolding fit_number
@@ -58,7 +56,7 @@ too_large run n i l step kept =
     let all = over lim grown (number_after grown (drop (i + 1) run)) at (grows (drop (i + 1) run) grown) in
     rw (kept ∙ split) (sym (exceeds lim (number_after grown (drop (i + 1) run)) all))
 
--- a number whose digits are all read fits
+-- a number whose digits were all read fits
 pub all_read : (run : List ℕ) (n i : ℕ) → length run ≤ i → n < 18446744073709551616 → number_after 0 run ≡ number_after n (drop i run)
     → Some n ≡ fit_number run
 unfolding fit_number

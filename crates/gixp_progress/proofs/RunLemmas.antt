@@ -14,11 +14,11 @@ not_false : (b : Bool) → not b ≡ false → b ≡ true
 not_false true h = refl
 not_false false h = sym h
 
--- a byte that isn't another one is a digit
+-- a byte is a digit, or it is another byte
 same_test : (λ (b : ℕ). not (is_other b)) ≡ is_digit
 same_test = λ i b. not_not (is_digit b) i
 
--- where all pass up to one that fails
+-- all bytes before the first failing one pass
 module _ (p : ℕ → Bool) where
   front_passes : (xs : List ℕ) → list_all p (take (prefix_len p xs) xs) ≡ true
   front_passes [] = refl
@@ -38,7 +38,7 @@ module _ (p : ℕ → Bool) where
       by true e h = let on : 1 + prefix_len p xs ≡ suc (prefix_len p xs) = omega arith in rw on h
       by false e h = e
 
-  -- and so many are those
+  -- and there are no more than these
   front_is : (xs ys : List ℕ) → list_all p xs ≡ true → begins_with p ys ≡ false → prefix_len p (xs ++ ys) ≡ length xs
   front_is [] [] a b = refl
   front_is [] (y ∷ ys) a b = rw b refl
@@ -55,7 +55,7 @@ drop_front : (xs ys : List ℕ) → drop (length xs) (xs ++ ys) ≡ ys
 drop_front [] ys = refl
 drop_front (x ∷ xs) ys = drop_front xs ys
 
--- a text that doesn't begin with another byte is empty or begins with a run
+-- a text that begins with no other byte is empty or begins with a run
 found_at : (text : List ℕ) → begins_with is_other text ≡ false
     → is_found (take (prefix_len is_digit text) text) (drop (prefix_len is_digit text) text) ≡ true
 found_at [] h = refl
@@ -64,7 +64,7 @@ found_at (d ∷ text) h =
     let on : 1 + prefix_len is_digit text ≡ suc (prefix_len is_digit text) = omega arith in
     rw (digit, on) refl
 
--- the run and the rest of a text, by the digits at its front
+-- the first run of a text, and the rest
 run_at : (rest : List ℕ) → take (position_or_len is_other rest) rest ≡ take (prefix_len is_digit rest) rest
 run_at rest = ap (λ test. take (prefix_len test rest) rest) same_test
 

@@ -1,4 +1,4 @@
--- The order of lines of progress.
+-- The order of progress lines.
 use Rattle.std.specs.Prelude.{ℕ, Option}
 use Rattle.std.specs.declared.cmp.Ordering.{Ordering}
 use Rattle.std.specs.Ordering.{nat_cmp, ordering_then}
@@ -6,7 +6,7 @@ use Rattle.std.specs.Option.{option_cmp}
 use Rattle.std.specs.Cmp.Lexicographic.{slice_cmp}
 use Rattle.gixp_progress.specs.Line.{LineValue}
 
--- a number that isn't there stands first
+-- an absent number precedes each number
 abbrev pub number_cmp : Option ℕ → Option ℕ → Ordering
 number_cmp = option_cmp nat_cmp
 

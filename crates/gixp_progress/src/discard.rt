@@ -4,7 +4,7 @@ ghost use Rattle.std.specs.Prelude.{⊤, None};
 use crate::progress::{NestedProgress, Progress};
 use std::alloc::AllocError;
 
-/// Shows nothing, for a caller that has no progress reporter of its own.
+/// Shows nothing, for callers without a progress reporter of their own.
 #[derive(Clone, Copy, Debug, Drop)]
 pub struct Discard;
 

@@ -4,7 +4,7 @@ ghost use Rattle.std.specs.Prelude.{◌≡◌, codes};
 /// Which part of a fetch a progress reporter shows.
 #[derive(Clone, Copy, Debug, PartialEq, Eq)]
 pub enum ProgressId {
-    /// What the server reports of itself.
+    /// The progress that the server reports.
     RemoteProgress,
 }
 

@@ -1,8 +1,7 @@
-//! Laws of the definitions that contracts cite. The function does nothing: a caller that cites a law calls it.
+//! Theorems about the definitions that contracts cite. A function without a body states each; a caller that needs one calls it.
 ghost use Rattle.gixp_progress.specs.Laws.{RunIsFirst, RunIsOnly, NumberByPlaces};
 
-/// A run of digits of a progress line is as long as it goes, the first one of its text, and the only one with these
-/// properties; and its digits write a number by their places.
+/// The first run of digits of a text is unique: no digit precedes it and no digit follows it. Its digits write a decimal number.
 pub fn runs_are_longest()
     ensures first { RunIsFirst }
     ensures only { RunIsOnly }

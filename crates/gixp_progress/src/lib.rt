@@ -1,5 +1,5 @@
-//! Progress reporters, and the progress that a server reports on band 2 of its answer (gitprotocol-pack, "Packfile Data"),
-//! with what it makes a reporter show.
+//! Progress reporters, and the progress that a server reports on band 2 of its response (gitprotocol-pack, "Packfile
+//! Data"), with the calls that it becomes.
 #![tactic(auto)]
 
 mod discard;

@@ -3,7 +3,7 @@ ghost use Rattle.std.specs.Prelude.{◌≡◌, ◌≤◌, length};
 ghost use Rattle.std.specs.List.{position, position_or_len};
 ghost use Rattle.gixp_progress.specs.Numbers.{is_digit, is_other, from_digit, first_run, behind_run, with_digit, fit_number, number_in, small, is_percentage, dealt_behind, dealt};
 
-/// What a progress line says in numbers.
+/// The numbers of a progress line.
 #[derive(Clone, Copy)]
 pub(crate) struct Numbers {
     pub(crate) percent: Option<u32>,
@@ -11,28 +11,27 @@ pub(crate) struct Numbers {
     pub(crate) max: Option<usize>,
 }
 
-// Whether a byte is a decimal digit.
 fn is_digit(byte: u8) -> bool
     ensures { result ≡ is_digit byte }
 {
     b'0' <= byte && byte <= b'9'
 }
 
-// Whether a byte is anything else.
+// Whether a byte is not a decimal digit.
 fn is_other(byte: u8) -> bool
     ensures { result ≡ is_other byte }
 {
     !is_digit(byte)
 }
 
-// The place of the first digit.
+// The offset of the first digit.
 fn digit_in(text: &[u8]) -> Option<usize>
     ensures { result ≡ position is_digit text.now }
 {
     text.iter().position(|byte| is_digit(*byte))
 }
 
-// The place of the first digit, or the end.
+// The offset of the first digit, or the end.
 fn digit_at(text: &[u8]) -> usize
     ensures place { result ≡ position_or_len is_digit text.now }
     ensures within { result ≤ length text.now }
@@ -40,14 +39,14 @@ fn digit_at(text: &[u8]) -> usize
     digit_in(text).unwrap_or(text.len())
 }
 
-// The place of the first byte that is no digit.
+// The offset of the first byte that is not a digit.
 fn other_in(text: &[u8]) -> Option<usize>
     ensures { result ≡ position is_other text.now }
 {
     text.iter().position(|byte| is_other(*byte))
 }
 
-// The place of the first byte that is no digit, or the end.
+// The offset of the first byte that is not a digit, or the end.
 fn other_at(text: &[u8]) -> usize
     ensures place { result ≡ position_or_len is_other text.now }
     ensures within { result ≤ length text.now }
@@ -55,14 +54,13 @@ fn other_at(text: &[u8]) -> usize
     other_in(text).unwrap_or(text.len())
 }
 
-// The text from its first digit on.
 fn from_digit(text: &[u8]) -> &[u8]
     ensures { result.now ≡ from_digit text.now }
 {
     &text[digit_at(text)..]
 }
 
-// The first run of digits, as long as it goes.
+// The first run of digits, in full.
 fn first_run(text: &[u8]) -> &[u8]
     ensures { result.now ≡ first_run text.now }
 {
@@ -70,7 +68,7 @@ fn first_run(text: &[u8]) -> &[u8]
     &rest[..other_at(rest)]
 }
 
-// What comes after the first run of digits.
+// The text after the first run of digits.
 fn behind_run(text: &[u8]) -> &[u8]
     ensures { result.now ≡ behind_run text.now }
 {
@@ -78,7 +76,7 @@ fn behind_run(text: &[u8]) -> &[u8]
     &rest[other_at(rest)..]
 }
 
-// A number with one digit more.
+// `None` where the number exceeds 64 bits.
 fn with_digit(number: usize, digit: u8) -> Option<usize>
     ensures { result ≡ with_digit number digit }
 {
@@ -88,7 +86,7 @@ fn with_digit(number: usize, digit: u8) -> Option<usize>
     tens.checked_add(digit.saturating_sub(b'0') as usize)
 }
 
-// The number that the digits write, unless it exceeds 64 bits.
+// `None` where the number exceeds 64 bits.
 fn fit_number(run: &[u8]) -> Option<usize>
     ensures { result ≡ fit_number run.now }
 {
@@ -102,7 +100,7 @@ fn fit_number(run: &[u8]) -> Option<usize>
     Some(number)
 }
 
-// The number of a run, if it has digits.
+// `None` where the run is empty or its number exceeds 64 bits.
 fn number_in(run: &[u8]) -> Option<usize>
     ensures { result ≡ number_in run.now }
 {
@@ -112,7 +110,7 @@ fn number_in(run: &[u8]) -> Option<usize>
     fit_number(run)
 }
 
-// A number of at most 32 bits.
+// `None` where the number exceeds 32 bits.
 fn small(number: Option<usize>) -> Option<u32>
     ensures { result ≡ small number }
 {
@@ -128,14 +126,14 @@ fn small(number: Option<usize>) -> Option<u32>
     }
 }
 
-// Whether the run in front of this text is a percentage.
+// Whether the run before this text is a percentage.
 fn is_percentage(rest: &[u8]) -> bool
     ensures { result ≡ is_percentage rest.now }
 {
     rest.starts_with(b"%")
 }
 
-// The next run is the step, and the one after it the maximum.
+// The first run of this text is the step, the next one the maximum.
 fn dealt_behind(percent: Option<u32>, text: &[u8]) -> Numbers
     ensures { result ≡ dealt_behind percent text.now }
 {
@@ -146,7 +144,7 @@ fn dealt_behind(percent: Option<u32>, text: &[u8]) -> Numbers
     }
 }
 
-// The numbers of what comes after the colon of a progress line.
+// The numbers of the text after the colon of a progress line.
 pub(crate) fn dealt(text: &[u8]) -> Numbers
     ensures { result ≡ dealt text.now }
 {

@@ -5,54 +5,54 @@ ghost use Rattle.gixp_progress.specs.Progress.{ProgressCall, init, step, set, se
 
 use std::alloc::AllocError;
 
-/// A progress reporter: it shows how far a call has come.
+/// A progress reporter: it shows the progress of a call.
 ///
-/// Nothing is asked of it: each call says what it does as one relation of before and after.
+/// A reporter may do anything with its calls. Its contract describes each call as one relation of the states before and after it.
 pub trait Progress {
-    /// What a call does.
+    /// The effect of a call.
     ghost told: { Self → ProgressCall → Self → Type 0 };
 
-    /// The name that it shows now.
+    /// The current name.
     ghost name_of: { Self → Option (List ℕ) };
 
-    /// Begins anew: as many steps are to come, if that is known, of this unit.
+    /// Starts a new count. `max` is the number of steps to come, if it is known, in this unit.
     fn init(&mut self, max: Option<usize>, unit: &'static str)
         ensures { told self.old (init max unit.now) self.new };
 
-    /// One more step was made.
+    /// Reports one more step.
     fn step(&mut self)
         ensures { told self.old step self.new };
 
-    /// As many steps were made so far.
+    /// Reports that this many steps are done.
     fn set(&mut self, step: usize)
         ensures { told self.old (set step) self.new };
 
-    /// What is done now.
+    /// Sets the name: what is being done now.
     fn set_name(&mut self, name: String)
         ensures { told self.old (set_name (string_bytes name)) self.new };
 
-    /// The name that it shows now, if it has one.
+    /// The current name, if there is one.
     fn name(&self) -> Option<&str>
         ensures { option_copied result ≡ name_of self.now };
 
-    /// Something went wrong, as the message says.
+    /// Reports a failure with this message.
     fn fail(&mut self, message: String)
         ensures { told self.old (fail (string_bytes message)) self.new };
 }
 
-/// Progress that has parts, each reported on its own.
+/// A progress reporter with parts, each of which reports on its own.
 pub trait NestedProgress: Progress {
-    /// A part of it.
+    /// The reporter of a part.
     type SubProgress: Progress + Drop;
 
-    /// What is done to it, by the name and the id of a new part, and that part as it begins.
+    /// The effect on the reporter of adding a part with this name and id, and the state of the new part.
     ghost adds: { Self → List ℕ → List ℕ → Self.SubProgress → Self → Type 0 };
 
-    /// Adds a part of this name and id.
+    /// Adds a part with this name and id.
     ///
     /// # Errors
     ///
-    /// `AllocError` alone. What it is then is left open.
+    /// Only `AllocError`. It leaves the reporter in any state.
     fn add_child_with_id(
         &mut self,
         name: &str,

@@ -1,4 +1,4 @@
-//! What a text of a server makes a progress reporter show.
+//! The calls of a progress reporter for a text that the server sent.
 ghost use Rattle.std.specs.Prelude.{◌≡◌, [], ◌∷◌, ◌++◌, IfOk, OnOk, OnErr, codes, string_bytes};
 ghost use Rattle.std.specs.List.{before_first};
 ghost use Rattle.std.specs.Str.Lossy.{utf8_lossy};
@@ -21,7 +21,7 @@ fn front(shown: &str) -> &str
     }
 }
 
-// The name after a text, where one is shown.
+// The new name: the current name up to its first colon, and this text.
 fn joined_name(alloc: Global, shown: &str, text: &[u8]) -> Result<String, AllocError>
     ensures { IfOk result (λ name. string_bytes name ≡ before_first is_colon shown.now ++ codes ": " ++ utf8_lossy text.now) }
 {
@@ -32,7 +32,7 @@ fn joined_name(alloc: Global, shown: &str, text: &[u8]) -> Result<String, AllocE
     Ok(name)
 }
 
-// The name after a text.
+// The new name; without a current one it is this text.
 fn name_for<P: Progress>(alloc: Global, progress: &P, text: &[u8]) -> Result<String, AllocError>
     ensures { IfOk result (λ name. string_bytes name ≡ name_for (P.name_of progress.now) text.now) }
 {
@@ -42,7 +42,7 @@ fn name_for<P: Progress>(alloc: Global, progress: &P, text: &[u8]) -> Result<Str
     }
 }
 
-// An error of the server, if it says one.
+// Reports an error text of the server, unless it is empty.
 fn report_error<P: Progress>(alloc: Global, text: &[u8], progress: &mut P) -> Result<(), AllocError>
     ensures ok { OnOk result (ToldCalls P.told progress.old (error_calls text.now) progress.new) }
     ensures err { OnErr result (progress.new ≡ progress.old) }
@@ -55,7 +55,6 @@ fn report_error<P: Progress>(alloc: Global, text: &[u8], progress: &mut P) -> Re
     Ok(())
 }
 
-// How many steps are done, if that is known.
 fn set_step<P: Progress>(progress: &mut P, step: Option<usize>)
     ensures { ToldCalls P.told progress.old (set_calls step) progress.new }
 {
@@ -64,7 +63,6 @@ fn set_step<P: Progress>(progress: &mut P, step: Option<usize>)
     }
 }
 
-// A line of progress.
 fn show_line<P: Progress>(
     alloc: Global,
     line: RemoteProgress<'_>,
@@ -82,7 +80,7 @@ fn show_line<P: Progress>(
     Ok(())
 }
 
-// Any other text.
+// Shows any other text as a name.
 fn show_text<P: Progress>(alloc: Global, text: &[u8], progress: &mut P) -> Result<(), AllocError>
     ensures ok { OnOk result (ToldCalls P.told progress.old (set_name (name_for (P.name_of progress.old) text.now) ∷ []) progress.new) }
     ensures err { OnErr result (progress.new ≡ progress.old) }
@@ -93,13 +91,17 @@ fn show_text<P: Progress>(alloc: Global, text: &[u8], progress: &mut P) -> Resul
 }
 
 impl RemoteProgress<'_> {
-    /// Shows a text of a server: an error as a failure, unless it is empty; a progress line as a name, a maximum of
-    /// objects and a step; any other text as a name. A name is the one that is shown so far, up to its first colon, `: `
-    /// and what is new, with U+FFFD for what isn't UTF-8.
+    /// Shows a text that the server sent.
+    ///
+    /// - An error text is a failure, unless it is empty.
+    /// - A progress line sets the name, a maximum in objects, and the step.
+    /// - Any other text sets the name.
+    ///
+    /// A new name is the current one up to its first colon, then `: `, then the new text. U+FFFD replaces what isn't UTF-8.
     ///
     /// # Errors
     ///
-    /// An allocation failure alone. Nothing was reported then.
+    /// Only an allocation failure. Nothing was reported then.
     pub fn translate_to_progress<P: Progress>(
         alloc: Global,
         is_error: bool,

@@ -1,4 +1,4 @@
--- The lines of an advertisement, one after another, and the refs of their groups.
+-- The lines of an advertisement in sequence, and their refs.
 use Rattle.std.proofs.Common.{◌≡◌, ℕ, ◌+◌, ◌<◌, ◌≤◌, Bool, true, false, min, List, [], ◌∷◌, ◌++◌, length, take, drop, refl, sym, ap, ◌∙◌, arith, append_assoc, Option, Some, None, Result, Ok, Err}
 use Rattle.std.specs.Prelude.{◌==◌, All, is_some, map}
 use Rattle.std.specs.Option.{option_map}
@@ -30,7 +30,7 @@ use Rattle.std.proofs.lemmas.List.{take_more_set, drop-set-lt, drop-drop, map_pu
 use Rattle.std.proofs.lemmas.List.Elements.{All-push, All-same}
 use Rattle.gixp_records.proofs.SpanLemmas.{length-text_at}
 
--- the text of a line, which is cut where it is the first ref line
+-- the text of a line; the first ref line is cut
 abbrev pub shown_text : Bool → ℕ → List ℕ → List ℕ
 shown_text true n text = take n text
 shown_text false n text = text
@@ -56,13 +56,13 @@ none_cut : (b : Bool) (n : ℕ) (e : Ending) → cut_lines b n (no_lines e) ≡ 
 none_cut true n e = refl
 none_cut false n e = refl
 
--- behind the first ref line no line is cut
+-- after the first ref line no line is cut
 later_uncut : (n first next : ℕ) (l : Lines) → first < next → cut_lines (next == first) n l ≡ l
 later_uncut n first next l h =
     let other : (next == first) ≡ false = false_from_ne_true _ (λ t. let e = eqb-true next first t in absurd (omega arith)) in
     rw other refl
 
--- a line comes next
+-- the next line exists
 pub line_comes : (bytes : List ℕ) (o : RefsOpening) (at next : ℕ) (text : List ℕ) → o.first ≤ at → at < next
     → pieces_at bytes at ≡ with_piece (line text) (pieces_at bytes next)
     → advertised_lines bytes o at ≡ before (shown_text (at == o.first) o.cut text ∷ []) (advertised_lines bytes o next)
@@ -72,12 +72,12 @@ line_comes bytes o at next text f b e =
     ap (λ p. cut_lines (at == o.first) o.cut (lines_of o.version p)) e ∙ lines_cut (at == o.first) o.cut text rest
     ∙ ap (before (shown_text (at == o.first) o.cut text ∷ [])) (sym (later_uncut o.cut o.first next rest after))
 
--- no line comes next
+-- there is no next line
 pub none_comes : (bytes : List ℕ) (o : RefsOpening) (at : ℕ) (e : Ending) → lines_of o.version (pieces_at bytes at) ≡ no_lines e
     → advertised_lines bytes o at ≡ no_lines e
 none_comes bytes o at e h = ap (cut_lines (at == o.first) o.cut) h ∙ none_cut (at == o.first) o.cut e
 
--- the refs behind a line are those that it makes of the ref line before
+-- the refs of the rest, after this ref line
 abbrev pub refs_after : List ℕ → RefsOpening → List Symref → ℕ → Option NamedRef → Result (List RefValue) RefsRefusal
 refs_after bytes o t next last = let l = advertised_lines bytes o next in groups l.lines (end_refusal l.ending) t last
 
@@ -102,7 +102,7 @@ pub front_more : (xs : List RefValue) (v : RefValue) (x : Result (List RefValue)
 front_more xs v (Ok ys) = ap Ok (sym (append_assoc xs (v ∷ []) ys))
 front_more xs v (Err e) = refl
 
--- a line that makes no ref, behind which the same ref line is open
+-- a line that completes no ref and leaves the same ref line open
 pub passed : (bytes : List ℕ) (o : RefsOpening) (t : List Symref) (at next : ℕ) (last : Option NamedLine) (text : List ℕ) (l : V1Line)
     → advertised_lines bytes o at ≡ before (text ∷ []) (advertised_lines bytes o next) → v1_line text ≡ Ok l
     → group_with t (option_map (named_in bytes) last) (Ok l) (refs_after bytes o t next)
@@ -110,7 +110,7 @@ pub passed : (bytes : List ℕ) (o : RefsOpening) (t : List Symref) (at next : �
     → refs_of_lines t last bytes (advertised_lines bytes o at) ≡ refs_of_lines t last bytes (advertised_lines bytes o next)
 passed bytes o t at next last text l e v g = one_more bytes o t at next last text (Ok l) e v ∙ g
 
--- the refs from a ref line on are those behind it, where it is open
+-- a ref line without an open one before it is open
 pub opened : (bytes : List ℕ) (o : RefsOpening) (t : List Symref) (at next : ℕ) (n : NamedLine) (text : List ℕ)
     → advertised_lines bytes o at ≡ before (text ∷ []) (advertised_lines bytes o next)
     → v1_line text ≡ Ok (names n.object.bytes (text_at bytes n.name))
@@ -119,7 +119,7 @@ opened bytes o t at next n text e v =
     one_more bytes o t at next None text (Ok (names n.object.bytes (text_at bytes n.name))) e v
     ∙ front_none (refs_after bytes o t next (Some (named_in bytes n)))
 
--- a ref line behind an open one
+-- a ref line after an open one
 pub closes : (bytes : List ℕ) (o : RefsOpening) (t : List Symref) (at next : ℕ) (b n : NamedLine) (text : List ℕ)
     → advertised_lines bytes o at ≡ before (text ∷ []) (advertised_lines bytes o next)
     → v1_line text ≡ Ok (names n.object.bytes (text_at bytes n.name))
@@ -129,7 +129,7 @@ closes bytes o t at next b n text e v =
     one_more bytes o t at next (Some b) text (Ok (names n.object.bytes (text_at bytes n.name))) e v
     ∙ ap (in_front (single t (named_in bytes b) ∷ [])) (sym (opened bytes o t at next n text e v))
 
--- a peeled line behind an open ref line
+-- a peeled line after an open ref line
 pub pairs : (bytes : List ℕ) (o : RefsOpening) (t : List Symref) (at next : ℕ) (b : NamedLine) (left base text : List ℕ) (v : RefValue)
     → advertised_lines bytes o at ≡ before (text ∷ []) (advertised_lines bytes o next) → v1_line text ≡ Ok (peels left base)
     → pair t (Some (named_in bytes b)) left base ≡ Ok v
@@ -138,7 +138,7 @@ pairs bytes o t at next b left base text v e l p =
     one_more bytes o t at next (Some b) text (Ok (peels left base)) e l
     ∙ ap (λ x. with_ref x (refs_after bytes o t next None)) p ∙ front_one v (refs_after bytes o t next None)
 
--- a peeled line that is refused
+-- a peeled line with an error
 pub unpaired : (bytes : List ℕ) (o : RefsOpening) (t : List Symref) (at next : ℕ) (last : Option NamedLine) (left base text : List ℕ)
     (e : AdvertisedLineRefused) → advertised_lines bytes o at ≡ before (text ∷ []) (advertised_lines bytes o next)
     → v1_line text ≡ Ok (peels left base) → IsRefusedAs (pair t (option_map (named_in bytes) last) left base) e
@@ -149,7 +149,7 @@ unpaired bytes o t at next last left base text e h l j = (
   j.2,
 )
 
--- a line that is refused
+-- a line with an error
 pub refused_line : (bytes : List ℕ) (o : RefsOpening) (t : List Symref) (at : ℕ) (last : Option NamedLine) (text : List ℕ) (rest : Lines)
     (e : AdvertisedLineRefused) → advertised_lines bytes o at ≡ before (text ∷ []) rest → IsRefusedAs (v1_line text) e
     → IsRefusedAs (refs_of_lines t last bytes (advertised_lines bytes o at)) e
@@ -160,25 +160,24 @@ refused_line bytes o t at last text rest e h j = (
   j.2,
 )
 
--- a symref of another name was passed over
+-- a symref of another name is skipped
 pub symref_passed : (bytes : List ℕ) (s : SymrefSpan) (tail rest : List SymrefSpan) (name : List ℕ) (all : Option Symref)
     → rest ≡ s ∷ tail → all ≡ symref_named (map (symref_at bytes) rest) name → is_text (text_at bytes s.name) name ≡ false
     → all ≡ symref_named (map (symref_at bytes) tail) name
 symref_passed bytes s tail rest name all e h f = h ∙ ap (λ r. symref_named (map (symref_at bytes) r) name) e ∙ (rw f refl)
 
--- a peeled line behind a symref's ref line
+-- a peeled line after the ref line of a symref
 pub pair_of_symref : (bytes : List ℕ) (o : Option SymrefSpan) (p : Option Symref) (n : NamedRef) (left base : List ℕ)
     → option_map (symref_at bytes) o ≡ p → is_some o ≡ true → IsRefusedAs (pair_by p n left base) Peeled
 pair_of_symref bytes None p n left base e h = absurd cc
 pair_of_symref bytes (Some s) p n left base e h = (not_preceded, ap (λ q. pair_by q n left base) (sym e), refl)
 
--- one of another name
+-- a peeled line of another name
 pub pair_of_other : (bytes : List ℕ) (o : Option SymrefSpan) (p : Option Symref) (n : NamedRef) (left base : List ℕ)
     → option_map (symref_at bytes) o ≡ p → is_some o ≡ false → is_text n.name base ≡ false → IsRefusedAs (pair_by p n left base) Peeled
 pair_of_other bytes (Some s) p n left base e h f = absurd cc
 pair_of_other bytes None p n left base e h f = (other_base, ap (λ q. pair_by q n left base) (sym e) ∙ (rw f refl), refl)
 
--- the last ref
 pub reads_last : (bytes : List ℕ) (o : RefsOpening) (t : List Symref) (from place next count : ℕ) (old now : List RefRecord) (r : RefRecord)
     → count < length now → drop count now ≡ drop count old → All (IsRecordWithin bytes) (take count now)
     → refs_behind bytes o t from ≡ in_front (refs_in bytes (take count now)) (refs_behind bytes o t place)

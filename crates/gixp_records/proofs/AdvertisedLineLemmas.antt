@@ -1,4 +1,4 @@
--- The steps of a line of an advertisement, and of a symref.
+-- The steps of reading a line of an advertisement, and a symref.
 use Rattle.std.proofs.Common.{◌≡◌, ℕ, List, [], ◌∷◌, length, refl, sym, ap, ◌∙◌, arith, Option, Some, None, Result, Ok, Err}
 use Rattle.std.specs.Prelude.{true, false, codes, MatchResult}
 use Rattle.std.specs.Char.{is_whitespace}
@@ -10,7 +10,7 @@ use Rattle.gixp_refs.specs.RefAdvertisement.{Symref, symref_by, symref_of, symre
 use Rattle.gixp_records.specs.declared.advertised.refused.AdvertisedLineRefused.{AdvertisedLineRefused}
 use Rattle.gixp_records.specs.V1RecordLine.{IsRefusedAs}
 
--- of what is equal the same is told
+-- equal results have equal errors
 pub refused_same : {A : Type 0} (o p : Result A RefsRefusal) (e : AdvertisedLineRefused) → o ≡ p → IsRefusedAs p e → IsRefusedAs o e
 refused_same o p e h j = (j.0, h ∙ j.1, j.2)
 
@@ -53,7 +53,7 @@ symref_targetless value [] target z = refl
 symref_targetless value (x ∷ xs) [] z = refl
 symref_targetless value (x ∷ xs) (y ∷ ys) z = absurd (omega arith)
 
--- a name whose target isn't told
+-- a symref whose target the server doesn't name
 pub symref_null : (value name target : List ℕ) → (length name ≡ 0 → ⊥) → (length target ≡ 0 → ⊥)
     → is_text target (codes "(null)") ≡ true → symref_by value (name, Some target) ≡ Ok (record { name = name; target = None })
 symref_null value [] target n z h = absurd (n refl)
@@ -71,7 +71,7 @@ pub symref_other_name : (text name : List ℕ) (value : Option (List ℕ)) → c
     → is_text name (codes "symref") ≡ false → symref_in (capability_of text) ≡ Ok None
 symref_other_name text name value e h = ap symref_in (capability_cut text name value e) ∙ (rw h refl)
 
--- one of this name
+-- a capability `symref`
 pub symref_this_name : (text name : List ℕ) (value : Option (List ℕ)) → cut 61 text ≡ (name, value)
     → is_text name (codes "symref") ≡ true → symref_in (capability_of text) ≡ symref_of value
 symref_this_name text name value e h = ap symref_in (capability_cut text name value e) ∙ (rw h refl)

@@ -1,4 +1,4 @@
--- How a call that reads an advertisement ended.
+-- The end of a call that reads an advertisement.
 use Rattle.std.proofs.Common.{ℕ, List, refl, Err}
 use Rattle.gixp_capabilities.specs.Capabilities.{capabilities_of_words}
 use Rattle.gixp_wire.specs.CapabilityAdvertisement.{advertisement}
@@ -13,7 +13,7 @@ use Rattle.gixp_records.specs.Packets.{pieces_at}
 use Rattle.gixp_records.specs.RefsOpening.{IsOpening, AnswersSymrefs}
 use Rattle.gixp_records.specs.AdvertisedRecords.{ReadsAdvertised, no_memory, unnamed}
 
--- the symrefs were refused
+-- the symrefs have an error
 pub reads_no_symrefs : (bytes : List ℕ) (from : ℕ) (old : List RefRecord) (o : RefsOpening) (e : AdvertisedRefused)
     → IsOpening bytes (advertisement (pieces_at bytes 0)) o
     → AnswersSymrefs bytes (symref_table (capabilities_of_words (text_at bytes o.capabilities))) (Err e)

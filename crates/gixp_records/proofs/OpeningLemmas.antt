@@ -1,4 +1,4 @@
--- What a server says up to its first ref line.
+-- The start of an advertisement, up to its first ref line.
 use Rattle.std.proofs.Common.{◌≡◌, ℕ, ◌+◌, ◌<◌, ◌==◌, List, length, take, drop, refl, sym, ap, subst, ◌∙◌, arith, Option, Some, None, Result}
 use Rattle.std.specs.Io.BufRead.{strip_last}
 use Rattle.std.specs.List.{position}
@@ -16,7 +16,7 @@ use Rattle.gixp_records.specs.declared.advertised.refused.AdvertisedRefused.{Adv
 use Rattle.gixp_records.specs.Packets.{pieces_at}
 use Rattle.gixp_records.specs.RefsOpening.{named_as, IsOpened}
 
--- the capabilities behind the first NUL, and its place
+-- the capabilities after the first NUL, and its offset
 pub cut_capabilities : (text front behind : List ℕ) → cut 0 text ≡ (front, Some behind)
     → capabilities_of_line text ≡ Some (capabilities_of_words (strip_last 10 behind), length front)
 cut_capabilities text front behind h = at (position (λ x. x == 0) text) refl h
@@ -57,12 +57,12 @@ names_none two e = cc
 names_none (another text) e = cc
 names_none unnamed e = refl
 
--- by what the first line names
+-- the start by the version that the first line names
 pub opened_by : (bytes : List ℕ) (n m : Named) (all rest : Pieces) (r : Result Opened AdvertisedRefused) → n ≡ m
     → IsOpened bytes (by_version m all rest) r → IsOpened bytes (by_version n all rest) r
 opened_by bytes n m all rest r e h = subst (λ k. IsOpened bytes (by_version k all rest) r) (sym e) h
 
--- by the first line
+-- the start by the first line
 pub opened_first : (bytes text : List ℕ) (rest : Pieces) (r : Result Opened AdvertisedRefused)
     → pieces_at bytes 0 ≡ with_piece (line text) rest → IsOpened bytes (by_version (version_named text) (pieces_at bytes 0) rest) r
     → IsOpened bytes (advertisement (pieces_at bytes 0)) r

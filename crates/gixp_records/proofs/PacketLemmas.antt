@@ -1,4 +1,4 @@
--- A packet line by where it stands.
+-- A packet line at an offset.
 use Rattle.std.proofs.Common.{◌≡◌, ℕ, ◌+◌, ◌-◌, ◌≤◌, true, false, List, ◌∷◌, ◌++◌, length, take, drop, refl, sym, ap, subst, ◌∙◌, arith, append_assoc, length-append, length-drop, Ok, Err}
 use Rattle.std.proofs.lemmas.Bool.{cond-true, cond-false}
 use Rattle.std.proofs.lemmas.List.{take_at, drop_at, drop-drop}
@@ -14,7 +14,7 @@ use Rattle.gixp_records.specs.declared.packets.NextPacket.TheVariants.{Line, Mar
 use Rattle.gixp_records.specs.Span.{text_at, IsWithin}
 use Rattle.gixp_records.specs.Packets.{IsFront, HasFront, pieces_at, IsNextPacket}
 
--- what the grammar says of the first frame
+-- the first frame by the grammar
 pub is_front : (bytes : List ℕ) (f : Frame) (fs : Frames) → AreFrames bytes (frames_of bytes).list (frames_of bytes).end
     → frames_of bytes ≡ with_frame f fs → IsFront f bytes
 is_front bytes f fs h e = at f (subst (λ (k : Frames). AreFrames bytes k.list k.end) e h)
@@ -30,7 +30,7 @@ is_front bytes f fs h e = at f (subst (λ (k : Frames). AreFrames bytes k.list k
     at (special ResponseEnd) g = omega (arith, ap length g.2 ∙ length-append g.0 g.1, g.3.0)
     at (special Text) g = absurd g.3
 
--- where the rest begins
+-- the offset of the rest
 pub rest_at : (bytes rest : List ℕ) (at size : ℕ) → at ≤ length bytes → rest ≡ drop size (drop at bytes) → size ≤ length (drop at bytes)
     → length bytes - length rest ≡ at + size
 rest_at bytes rest at size h e k =
@@ -38,13 +38,13 @@ rest_at bytes rest at size h e k =
     let r : length rest ≡ length (drop at bytes) - size = ap length e ∙ length-drop size (drop at bytes) in
     omega arith
 
--- and that it is the rest
+-- the bytes from that offset are the rest
 pub rest_is : (bytes rest : List ℕ) (at size : ℕ) → at ≤ length bytes → rest ≡ drop size (drop at bytes) → size ≤ length (drop at bytes)
     → rest ≡ drop (length bytes - length rest) bytes
 rest_is bytes rest at size h e k =
     e ∙ drop-drop size at bytes ∙ ap (λ n. drop n bytes) (sym (rest_at bytes rest at size h e k))
 
--- a payload that stands at a place
+-- a payload at an offset
 pub record IsPlaced (bytes : List ℕ) (at : ℕ) (text rest : List ℕ) : Type 0 where
   pub stands : take (length text) (drop (at + 4) bytes) ≡ text
   pub within : at + 4 + length text ≤ length bytes

@@ -1,4 +1,4 @@
--- The steps of a line, one after another.
+-- The steps of reading a line.
 use Rattle.std.proofs.Common.{◌≡◌, ℕ, List, [], ◌∷◌, length, refl, sym, ap, ◌∙◌, arith, Option, Some, None, Result, Ok, Err}
 use Rattle.std.specs.Prelude.{true, false, codes, MatchResult}
 use Rattle.std.specs.Char.{is_whitespace}
@@ -10,7 +10,7 @@ use Rattle.gixp_records.specs.declared.line.LineRefused.{LineRefused}
 use Rattle.gixp_records.specs.declared.line.LineRefused.TheVariants.{Unborn}
 use Rattle.gixp_records.specs.RecordLine.{Judges}
 
--- of what is equal the same is told
+-- equal results have equal errors
 pub judged_same : {A : Type 0} (o p : Result A RefsRefusal) (e : LineRefused) → o ≡ p → Judges p e → Judges o e
 judged_same o p e h j = (j.0, h ∙ j.1, j.2)
 
@@ -19,7 +19,7 @@ pub matched_same : {A B : Type 0} (view : A → Result B RefsRefusal) (o p : Res
 matched_same view o p (Ok x) h m = h ∙ m
 matched_same view o p (Err e) h m = judged_same o p e h m
 
--- a refusal is that of the steps behind it too
+-- an error of a step is the error of the whole
 pub judged_then : {A B : Type 0} (o : Result A RefsRefusal) (f : A → Result B RefsRefusal) (e : LineRefused) → Judges o e
     → Judges (and_then o f) e
 judged_then o f e j = (j.0, ap (λ x. and_then x f) j.1, j.2)

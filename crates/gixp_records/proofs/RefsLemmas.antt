@@ -1,4 +1,4 @@
--- Refs that were read, one after another.
+-- The refs read so far.
 use Rattle.std.proofs.Common.{◌≡◌, ℕ, ◌≤◌, List, [], ◌∷◌, ◌++◌, length, take, drop, refl, sym, ap, ◌∙◌, arith, append_assoc, Ok}
 use Rattle.std.specs.Prelude.{All}
 use Rattle.std.proofs.lemmas.List.{append-nil}
@@ -14,7 +14,6 @@ use Rattle.gixp_records.specs.declared.refs.RefsEnd.TheVariants.{Full, Stop, Ref
 use Rattle.gixp_records.specs.Refs.{refs_in, lines_at, IsRecordWithin, IsRefusedAt, AreLinesTo, ReadsRecords}
 use Rattle.gixp_records.specs.Packets.{pieces_at, IsBehind}
 
--- one more
 pub refs_more : (texts : List (List ℕ)) (values : List RefValue) (text : List ℕ) (value : RefValue) → AreRefs texts values
     → v2_line text ≡ Ok value → AreRefs (texts ++ text ∷ []) (values ++ value ∷ [])
 refs_more [] [] text value h e = (e, tt)
@@ -25,7 +24,6 @@ refs_more (t ∷ ts) (v ∷ vs) text value h e = (h.0, refs_more ts vs text valu
 before-append : (xs ys : List (List ℕ)) (rest : Lines) → before (xs ++ ys) rest ≡ before xs (before ys rest)
 before-append xs ys rest = ap (λ l. record { lines = l; ending = rest.ending }) (append_assoc xs ys rest.lines)
 
--- none
 pub lines_none : (bytes : List ℕ) (from : ℕ) → from ≤ length bytes → AreLinesTo bytes from from []
 lines_none bytes from h = record { texts = []; lines = refl; refs = tt; in_order = omega arith; within = h }
 
@@ -51,7 +49,7 @@ values_of [] (v ∷ vs) kind rest h = absurd h
 values_of (t ∷ ts) [] kind rest h = absurd h
 values_of (t ∷ ts) (v ∷ vs) kind rest h = rw (h.0, values_of ts vs kind rest h.1) refl
 
--- all of them, where the stop comes
+-- the refs are complete at the stop
 pub refs_stopped : (bytes : List ℕ) (from at next : ℕ) (values : List RefValue) (kind : MessageKind) → AreLinesTo bytes from at values
     → lines_at bytes at ≡ no_lines (stop kind (pieces_at bytes next)) → stream_refs (drop from bytes) ≡ Ok values
 refs_stopped bytes from at next values kind so e =
@@ -59,7 +57,7 @@ refs_stopped bytes from at next values kind so e =
     ∙ ap (λ l. refs_from l (stop kind (pieces_at bytes next))) (append-nil so.texts)
     ∙ values_of so.texts values kind (pieces_at bytes next) so.refs
 
--- how a call ended
+-- a call that read the stop
 pub reads_stop : (bytes : List ℕ) (from at next count : ℕ) (old new : List RefRecord) (kind : MessageKind) → count ≤ length new
     → drop count new ≡ drop count old → All (IsRecordWithin bytes) (take count new)
     → AreLinesTo bytes from at (refs_in bytes (take count new)) → lines_at bytes at ≡ no_lines (stop kind (pieces_at bytes next))

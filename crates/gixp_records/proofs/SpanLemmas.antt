@@ -1,4 +1,4 @@
--- Parts of a text by where they stand.
+-- Parts of spans.
 use Rattle.std.proofs.Common.{◌≡◌, ℕ, ◌+◌, ◌-◌, ◌<◌, ◌≤◌, List, length, take, drop, Option, Some, None, refl, sym, ap, ◌∙◌, arith, length-drop}
 use Rattle.std.specs.Prelude.{◌==◌}
 use Rattle.std.specs.List.{position}
@@ -6,22 +6,22 @@ use Rattle.std.proofs.lemmas.List.Quantifiers.{position-Some}
 use Rattle.gixp_capabilities.specs.Cut.{cut, parts_at}
 use Rattle.std.proofs.lemmas.List.{length-take, length-take-le, take-take, drop-drop, drop-take, take_min}
 
--- a text that stands in the bytes is as long as it says
+-- a text within the bytes has the length of its span
 pub length-text_at : (bytes : List ℕ) (at len : ℕ) → at + len ≤ length bytes → length (take len (drop at bytes)) ≡ len
 length-text_at bytes at len h = length-take-le len (drop at bytes) (omega (arith, length-drop at bytes))
 
--- without its first bytes
+-- the text without its first bytes
 pub drop-text_at : (bytes : List ℕ) (at len n : ℕ) → n ≤ len → take (len - n) (drop (at + n) bytes) ≡ drop n (take len (drop at bytes))
 drop-text_at bytes at len n h =
     let whole : n + (len - n) ≡ len = omega arith in
     sym (ap (λ k. drop n (take k (drop at bytes))) (sym whole) ∙ drop-take n (len - n) (drop at bytes)
     ∙ ap (take (len - n)) (drop-drop n at bytes))
 
--- its first bytes
+-- the first bytes of the text
 pub take-text_at : (bytes : List ℕ) (at len n : ℕ) → n ≤ len → take n (drop at bytes) ≡ take n (take len (drop at bytes))
 take-text_at bytes at len n h = sym (take-take n len (drop at bytes) h)
 
--- a beginning of it by how long it is
+-- a prefix of the text, by its length
 pub front-text_at : (bytes : List ℕ) (at len n : ℕ) → let front = take n (take len (drop at bytes)) in
     take (length front) (drop at bytes) ≡ front
 front-text_at bytes at len n =
@@ -30,7 +30,7 @@ front-text_at bytes at len n =
     let short : length front ≤ len = omega (arith, length-take n text, length-take len (drop at bytes)) in
     take-text_at bytes at len (length front) short ∙ ap (λ k. take k text) (length-take n text) ∙ take_min n text
 
--- a text that was cut in two: what comes before the place, and what comes after it
+-- a text that was cut in two: the part before the offset, and the part after it
 pub cut_parts : (byte : ℕ) (text a b : List ℕ) → cut byte text ≡ (a, Some b)
     → (i : ℕ) × (i < length text) × (a ≡ take i text) × (b ≡ drop (i + 1) text)
 cut_parts byte text a b h = at (position (λ x. x == byte) text) refl h
@@ -44,7 +44,7 @@ cut_parts byte text a b h = at (position (λ x. x == byte) text) refl h
         let rest : drop (i + 1) text ≡ b = cc in
         (i, (position-Some (λ x. x == byte) text i 0 p).0, sym first, sym rest)
 
--- where both stand
+-- the spans of both parts
 pub cut-text_at : (bytes : List ℕ) (byte at len : ℕ) (a b : List ℕ) → at + len ≤ length bytes
     → cut byte (take len (drop at bytes)) ≡ (a, Some b)
     → cut byte (take len (drop at bytes)) ≡ (take (length a) (drop at bytes), Some (take (length b) (drop (at + len - length b) bytes)))

@@ -1,4 +1,4 @@
--- Refspecs read line by line: those so far stand in front of those to come.
+-- Refspecs read line by line: those so far precede those of the rest.
 use Rattle.std.proofs.Common.{◌≡◌, ◌==◌, ◌+◌, ◌<◌, ℕ, get_or, Bool, true, false, if◌then◌else◌, List, [], ◌∷◌, ◌++◌, length, map, drop, Result, Ok, Err, refl, sym, ap, ◌∙◌, append_assoc, append-nil}
 use Rattle.std.proofs.lemmas.List.{drop_more}
 use Rattle.gixp_refspec.specs.declared.parse.Error.{Error as SpecError}
@@ -11,7 +11,7 @@ use Rattle.gixp_records.specs.declared.spec_text.SpecsRefused.{SpecsRefused}
 use Rattle.gixp_records.specs.declared.spec_text.SpecsRefused.TheVariants.{Spec as RefusedSpec, Memory}
 use Rattle.gixp_records.specs.SpecText.{then_specs, specs_of_lines, AddsLineSpec, ReadsSpecLines}
 
--- these refspecs in front of those to come
+-- these refspecs before those of the rest
 abbrev pub before_specs : List Spec → Result (List Spec) SpecError → Result (List Spec) SpecError
 before_specs vs (Ok ws) = Ok (vs ++ ws)
 before_specs vs (Err e) = Err e
@@ -37,7 +37,7 @@ by-refused true v x r e = cc
 by-refused false (Ok s) x r e = cc
 by-refused false (Err y) x r e = e
 
--- the refspecs of all lines are those so far in front of those of the lines to come
+-- the refspecs of all lines are those so far, then those of the rest
 pub record SpecLinesSoFar (all left : List (List ℕ)) (specs : List Spec) : Type 0 where
   pub split : specs_of_lines all ≡ before_specs specs (specs_of_lines left)
 
@@ -67,7 +67,6 @@ by-spec true v s e f = cc
 by-spec false (Ok t) s e f = let same : t ≡ s = cc in ap (λ x. Ok (x ∷ [])) same
 by-spec false (Err x) s e f = cc
 
--- the refspec of one line
 pub spec-line : (line : List ℕ) (s : Spec) → (length line == 0) ≡ false → spec_of line ≡ Ok s → specs_of_lines (line ∷ []) ≡ Ok (s ∷ [])
 spec-line line s e f = by-spec (length line == 0) (spec_of line) s e f
 
@@ -75,7 +74,7 @@ left-of : (lines : List BStr) (i : ℕ) (d : BStr) → i < length lines
     → map bstr_bytes (drop i lines) ≡ bstr_bytes (get_or lines i d) ∷ map bstr_bytes (drop (i + 1) lines)
 left-of lines i d h = ap (map bstr_bytes) (drop_more lines i d h)
 
--- with the line at that place
+-- the line at this index is read
 pub spec-lines-next : (lines : List BStr) (i : ℕ) (d : BStr) (old new : List RefSpecRef) (x : Unit {0})
     → SpecLinesSoFar (map bstr_bytes lines) (map bstr_bytes (drop i lines)) (map value_of old) → i < length lines
     → AddsLineSpec (bstr_bytes (get_or lines i d)) old new (Ok x)
@@ -83,7 +82,7 @@ pub spec-lines-next : (lines : List BStr) (i : ℕ) (d : BStr) (old new : List R
 spec-lines-next lines i d old new x so h adds =
     spec-lines-more _ _ _ _ _ _ adds.0 so (left-of lines i d h) adds.1 adds.2
 
--- the line at that place is refused
+-- the line at this index has an error
 pub spec-lines-refused-at : (lines : List BStr) (i : ℕ) (d : BStr) (specs : List Spec) (old new : List RefSpecRef) (e : SpecsRefused)
     → SpecLinesSoFar (map bstr_bytes lines) (map bstr_bytes (drop i lines)) specs → i < length lines
     → AddsLineSpec (bstr_bytes (get_or lines i d)) old new (Err e) → ReadsSpecLines (map bstr_bytes lines) (Err e)

@@ -17,12 +17,11 @@ use Rattle.gixp_records.specs.Span.{text_at, IsWithin}
 use Rattle.gixp_records.proofs.SpanLemmas.{length-text_at, cut_parts}
 use Rattle.gixp_records.specs.V1RecordLine.{IsRefusedAs}
 
--- the parts after the first one
 abbrev pub parts_behind : ℕ → Option (List ℕ) → List (List ℕ)
 parts_behind b None = []
 parts_behind b (Some rest) = slice_split (λ x. x == b) rest
 
--- the first part is what comes before the first separator
+-- the first part ends before the first separator
 parts_by : (b : ℕ) (text : List ℕ) → (position_or_len (λ x. x == b) text < length text) ⊎ (length text ≤ position_or_len
     (λ x. x == b) text) → slice_split (λ x. x == b) text ≡ (cut b text).0 ∷ parts_behind b (cut b text).1
 parts_by b text (inl lt) =
@@ -38,17 +37,17 @@ parts_by b text (inr le) =
 parts_of_cut : (b : ℕ) (text : List ℕ) → slice_split (λ x. x == b) text ≡ (cut b text).0 ∷ parts_behind b (cut b text).1
 parts_of_cut b text = parts_by b text (cases_lt (position_or_len (λ x. x == b) text) (length text))
 
--- the symrefs of the text that is left
+-- the symrefs of the rest of the text
 abbrev pub symrefs_left : Option (List ℕ) → Result (List Symref) RefsRefusal
 symrefs_left None = Ok []
 symrefs_left (Some text) = symref_table (capabilities_of_words text)
 
--- how much text is left, with one for each piece
+-- the length of the rest, plus one for each piece
 abbrev pub span_left : Option Span → ℕ
 span_left None = 0
 span_left (Some s) = s.len + 1
 
--- the symref of a piece, if it isn't empty
+-- the symref of a piece, unless that is empty
 abbrev pub of_piece : List ℕ → Result (List Symref) RefsRefusal → Result (List Symref) RefsRefusal
 of_piece [] rest = rest
 of_piece (x ∷ xs) rest = with_symref (symref_in (capability_of (x ∷ xs))) rest
@@ -61,7 +60,7 @@ of_parts [] (Some text) = refl
 of_parts (x ∷ xs) None = refl
 of_parts (x ∷ xs) (Some text) = refl
 
--- the symrefs of a text, once its first piece is cut off
+-- the symrefs of a text after its first piece is cut off
 symrefs_of_cut : (text word : List ℕ) (rest : Option (List ℕ)) → cut 32 text ≡ (word, rest)
     → symref_table (capabilities_of_words text) ≡ of_piece word (symrefs_left rest)
 unfolding capabilities_of_words
@@ -91,7 +90,7 @@ symref_more all xs text word rest s h e z f =
     h ∙ ap (in_front xs) (symrefs_of_cut text word rest e ∙ piece_some word (symrefs_left rest) z
     ∙ ap (λ o. with_symref o (symrefs_left rest)) f) ∙ added xs s (symrefs_left rest)
 
--- one that is none
+-- a piece that isn't a symref
 pub symref_other : (all : Result (List Symref) RefsRefusal) (xs : List Symref) (text word : List ℕ) (rest : Option (List ℕ))
     → all ≡ in_front xs (symref_table (capabilities_of_words text)) → cut 32 text ≡ (word, rest) → (length word ≡ 0 → ⊥)
     → symref_in (capability_of word) ≡ Ok None → all ≡ in_front xs (symrefs_left rest)
@@ -99,14 +98,14 @@ symref_other all xs text word rest h e z f =
     h ∙ ap (in_front xs) (symrefs_of_cut text word rest e ∙ piece_some word (symrefs_left rest) z
     ∙ ap (λ o. with_symref o (symrefs_left rest)) f)
 
--- an empty one
+-- an empty piece
 pub symref_empty : (all : Result (List Symref) RefsRefusal) (xs : List Symref) (text word : List ℕ) (rest : Option (List ℕ))
     → all ≡ in_front xs (symref_table (capabilities_of_words text)) → cut 32 text ≡ (word, rest) → length word ≡ 0
     → all ≡ in_front xs (symrefs_left rest)
 symref_empty all xs text word rest h e z =
     h ∙ ap (in_front xs) (symrefs_of_cut text word rest e ∙ piece_none word (symrefs_left rest) z)
 
--- one that is refused
+-- a piece with an error
 pub symref_bad : (all : Result (List Symref) RefsRefusal) (xs : List Symref) (text word : List ℕ) (rest : Option (List ℕ))
     (e : AdvertisedLineRefused) → all ≡ in_front xs (symref_table (capabilities_of_words text)) → cut 32 text ≡ (word, rest)
     → (length word ≡ 0 → ⊥) → IsRefusedAs (symref_in (capability_of word)) e → IsRefusedAs all e
@@ -117,7 +116,7 @@ symref_bad all xs text word rest r h e z j = (
   j.2,
 )
 
--- what is behind a piece is less
+-- the rest after a piece is shorter
 pub span_less : (bytes : List ℕ) (text : Span) (word : List ℕ) (o : Option Span) → IsWithin bytes text → IfSome o (IsWithin bytes)
     → cut 32 (text_at bytes text) ≡ (word, option_map (text_at bytes) o) → span_left o < span_left (Some text)
 span_less bytes text word None h k e = omega arith

@@ -1,4 +1,4 @@
--- Records and names that are written one behind another.
+-- Records and names written one after another.
 use Rattle.std.proofs.Common.{◌≡◌, ℕ, ◌+◌, ◌-◌, ◌≤◌, ◌<◌, suc, List, [], ◌∷◌, ◌++◌, length, take, drop, map, set, get_or, refl, sym, ap, subst, ◌∙◌, append_assoc, append-nil, arith, length-append, add_assoc, add-zero, zero-add}
 use Rattle.std.proofs.lemmas.List.{drop_more, set_at, take_at, drop_at, drop-drop, length-take-le, length-drop, length-map, take_more, get_or-map}
 use Rattle.std.proofs.lemmas.List.Folds.{length-flat_map-take}
@@ -6,7 +6,7 @@ use Rattle.gixp_records.specs.declared.told.MappingRecord.{MappingRecord}
 use Rattle.gixp_records.specs.declared.told.Told.{Told}
 use Rattle.gixp_records.specs.Told.{ToldValue, told_value, local_bytes, local_names, record_at, records_from}
 
--- the first so many are written, and the next name comes behind theirs
+-- the first `count` records are written, and the next name follows theirs
 pub record WroteSome (told : List ToldValue) (count : ℕ) (first : List MappingRecord) (buffer : List ℕ) (new : List MappingRecord)
     (now : List ℕ) (at : ℕ) : Type 0 where
   pub records : new ≡ records_from 0 (take count told) ++ drop count first
@@ -30,7 +30,7 @@ pub length-records : (at : ℕ) (xs : List ToldValue) → length (records_from a
 length-records at [] = refl
 length-records at (x ∷ xs) = ap suc (length-records (at + length (local_bytes x)) xs)
 
--- the name of the next one has room
+-- the buffer has room for the next name
 pub next-fits : (all : List Told) (i : ℕ) (d : Told) (first new : List MappingRecord) (buffer now : List ℕ) (at : ℕ) (name : List ℕ)
     → WroteSome (map told_value all) i first buffer new now at → i < length all
     → length (local_names (map told_value all)) ≤ length buffer → name ≡ local_bytes (told_value (get_or all i d))
@@ -75,13 +75,13 @@ module _ (told : List ToldValue) (i : ℕ) (t : ToldValue) (first : List Mapping
   more-place = ap (λ n. n + length (local_bytes t)) w.place ∙ sym (length-append (local_names (take i told)) (local_bytes t))
       ∙ ap length (sym (names-more (take i told) t) ∙ ap local_names (sym e))
 
-  -- with the next one
+  -- the next one is written
   wrote-more : (y : MappingRecord) (ys : List MappingRecord) → i ≤ length told → drop i first ≡ y ∷ ys → drop (i + 1) first ≡ ys
       → WroteSome told (i + 1) first buffer (set new i (record_at at t)) (take at now ++ local_bytes t
       ++ drop (at + length (local_bytes t)) now) (at + length (local_bytes t))
   wrote-more y ys l d r = record { records = more-records y ys l d r; names = more-names; place = more-place }
 
--- with the next one of these
+-- the next one of these is written
 pub wrote-next : (all : List Told) (i : ℕ) (d : Told) (first : List MappingRecord) (y : MappingRecord) (buffer : List ℕ)
     (new : List MappingRecord) (now : List ℕ) (at : ℕ) (name : List ℕ) (r : MappingRecord) (after : List ℕ)
     → WroteSome (map told_value all) i first buffer new now at → i < length all → length all ≤ length first

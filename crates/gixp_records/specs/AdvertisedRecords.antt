@@ -30,7 +30,7 @@ use Rattle.gixp_records.specs.Refs.{ref_in, refs_in, IsRecordWithin}
 use Rattle.gixp_records.specs.V1RecordLine.{IsRefusedAs, named_in, line_in, IsAdvertisedWithin}
 use Rattle.gixp_records.specs.RefsOpening.{IsOpening, IsNotOpened, advertised_lines}
 
--- the line at a place, or the stop, or what is refused
+-- the line at an offset, the stop, or the error
 abbrev pub IsNextAdvertised : List ℕ → RefsOpening → ℕ → Result NextAdvertised AdvertisedRefused → Type 0
 IsNextAdvertised bytes o at (Ok (Line l next)) = (text : List ℕ)
     × (advertised_lines bytes o at ≡ before (text ∷ []) (advertised_lines bytes o next))
@@ -43,15 +43,15 @@ IsNextAdvertised bytes o at (Err (LineRefused e)) = (text : List ℕ) × (rest :
     × (advertised_lines bytes o at ≡ before (text ∷ []) rest) × IsRefusedAs (v1_line text) e
 IsNextAdvertised bytes o at (Err _) = ⊥
 
--- the refs of these lines, behind a ref line after which a peeled one may stand
+-- the refs of these lines after a ref line whose peeled line may follow
 abbrev pub refs_of_lines : List Symref → Option NamedLine → List ℕ → Lines → Result (List RefValue) RefsRefusal
 refs_of_lines t last bytes l = groups l.lines (end_refusal l.ending) t (option_map (named_in bytes) last)
 
--- the refs from a place on, or the first refusal
+-- the refs from an offset on, or the first error
 abbrev pub refs_behind : List ℕ → RefsOpening → List Symref → ℕ → Result (List RefValue) RefsRefusal
 refs_behind bytes o t at = refs_of_lines t None bytes (advertised_lines bytes o at)
 
--- how far the lines were read: the refs from its place on are those behind the ref line that is open
+-- the position of a reader: the refs from its offset on are those of the rest after the open ref line
 pub record IsReach (bytes : List ℕ) (o : RefsOpening) (t : List Symref) (r : Reach) : Type 0 where
   pub refs : refs_behind bytes o t r.place ≡ refs_of_lines t r.last bytes (advertised_lines bytes o r.at)
   pub ending : (advertised_lines bytes o r.place).ending ≡ (advertised_lines bytes o r.at).ending
@@ -60,7 +60,7 @@ pub record IsReach (bytes : List ℕ) (o : RefsOpening) (t : List Symref) (r : R
   pub in_order : r.place ≤ r.at
   pub within : r.at ≤ length bytes
 
--- a line that comes next, and the place behind it
+-- the next line, and the offset after it
 pub record StandsNext (bytes : List ℕ) (o : RefsOpening) (t : List Symref) (r : Reach) (l : AdvertisedLine) (next : ℕ) : Type 0 where
   pub reach : IsReach bytes o t r
   pub text : List ℕ
@@ -68,18 +68,18 @@ pub record StandsNext (bytes : List ℕ) (o : RefsOpening) (t : List Symref) (r 
   pub value : v1_line text ≡ Ok (line_in bytes l)
   pub behind : IsBehind bytes r.at next
 
--- what is refused from a place on
+-- the error of reading refs from an offset on
 abbrev pub IsRefusedBehind : List ℕ → RefsOpening → List Symref → ℕ → AdvertisedRefused → Type 0
 IsRefusedBehind bytes o t at (Packet e) = (refs_behind bytes o t at ≡ Err (refusal_from (refusal_in bytes e))) × AreWordsWithin bytes e
 IsRefusedBehind bytes o t at (LineRefused e) = IsRefusedAs (refs_behind bytes o t at) e
 IsRefusedBehind bytes o t at _ = ⊥
 
--- the lines end with a stop, behind which this place is
+-- the lines end with a stop, and this is the offset after it
 abbrev pub StopsBefore : List ℕ → RefsOpening → ℕ → ℕ → Type 0
 StopsBefore bytes o at next = (kind : MessageKind) × ((advertised_lines bytes o at).ending ≡ stop kind (pieces_at bytes next))
     × (next ≤ length bytes)
 
--- one more line was read: nothing came of it yet, or a ref, or it was the stop, maybe behind one last ref
+-- one more line was read: it completed no ref, or a ref, or it was the stop, possibly after one last ref
 abbrev pub IsStep : List ℕ → RefsOpening → List Symref → Reach → Result Step AdvertisedRefused → Type 0
 IsStep bytes o t old (Ok (On new)) = (refs_behind bytes o t old.place ≡ refs_behind bytes o t new.place)
     × ((advertised_lines bytes o old.place).ending ≡ (advertised_lines bytes o new.place).ending)
@@ -93,7 +93,7 @@ IsStep bytes o t old (Ok (Last r next)) = (refs_behind bytes o t old.place ≡ O
 IsStep bytes o t old (Ok (StopStep next)) = (refs_behind bytes o t old.place ≡ Ok []) × StopsBefore bytes o old.place next
 IsStep bytes o t old (Err e) = IsRefusedBehind bytes o t old.place e
 
--- how a call that read these refs from a place on ended
+-- the end of a call that read these refs from an offset on
 abbrev pub ReadsGroupsTo : List ℕ → RefsOpening → List Symref → ℕ → ℕ → List RefValue → AdvertisedEnd → Type 0
 ReadsGroupsTo bytes o t from next values Full =
     (refs_behind bytes o t from ≡ in_front values (refs_behind bytes o t next)) × (next ≤ length bytes)
@@ -101,7 +101,7 @@ ReadsGroupsTo bytes o t from next values Stop = (refs_behind bytes o t from ≡ 
 ReadsGroupsTo bytes o t from next values (Refused e) =
     (refs_behind bytes o t from ≡ in_front values (refs_behind bytes o t next)) × IsRefusedBehind bytes o t next e × (next ≤ length bytes)
 
--- the refs from a place on, in the first records, and no other record changed
+-- the refs from an offset on are in the first records, and the other records are unchanged
 pub record ReadsGroups (bytes : List ℕ) (o : RefsOpening) (t : List Symref) (from : ℕ) (old : List RefRecord) (found : AdvertisedFound)
     (new : List RefRecord) : Type 0 where
   pub room : found.count ≤ length new
@@ -114,8 +114,8 @@ pub record ReadsGroups (bytes : List ℕ) (o : RefsOpening) (t : List Symref) (f
 abbrev pub ReadsNone : ℕ → AdvertisedRefused → List RefRecord → AdvertisedFound → List RefRecord → Type 0
 ReadsNone from e old found new = (found ≡ record { count = 0; next = from; end = Refused e }) × (new ≡ old)
 
--- a call that reads refs of an advertisement from a place on, but not before its first ref line: what comes before that, and the
--- symrefs, are read first
+-- a call that reads refs of an advertisement from an offset on, but not before its first ref line; it reads the start of the
+-- advertisement and the symrefs first
 pub data ReadsAdvertised (bytes : List ℕ) (from : ℕ) (old : List RefRecord) (found : AdvertisedFound) (new : List RefRecord) : Type 0
   where
     unopened : (e : AdvertisedRefused) → IsNotOpened bytes (advertisement (pieces_at bytes 0)) e → ReadsNone from e old found new

@@ -1,4 +1,4 @@
--- The mappings of refs by refspecs, as records (git-fetch, "<refspec>").
+-- The mappings that refspecs make from refs, as records (git-fetch, "<refspec>").
 use Rattle.std.specs.Prelude.{ℕ, ◌≡◌, ◌≢◌, ◌⊎◌, All, Bool, true, false, List, [], ◌++◌, length, map, Some, Result, Ok, Err, unwrap_or}
 use Rattle.std.specs.declared.alloc.AllocError.{AllocError}
 use Rattle.gixp_refspec.specs.Spec.{Spec}
@@ -13,27 +13,27 @@ use Rattle.gixp_records.specs.Span.{text_at, IsWithin}
 use Rattle.gixp_records.specs.SpecText.{specs_of_lines}
 use Rattle.gixp_records.specs.Told.{ToldValue, MapBuffers, TellsAll, TellsRoom}
 
--- the names of records
+-- the names of the refs
 abbrev pub names_in : List ℕ → List RefRecord → List (List ℕ)
 names_in bytes refs = map (λ (r : RefRecord). text_at bytes r.name) refs
 
--- all of them stand in the bytes
+-- all names are within the bytes
 abbrev pub AreNamesWithin : List ℕ → List RefRecord → Type 0
 AreNamesWithin bytes refs = All (λ (r : RefRecord). IsWithin bytes r.name) refs
 
--- of a mapping: its ref, or how many there are where a refspec names an object; its refspec; its local name
+-- the record of a mapping: the index of its ref, or the number of refs if the refspec names an object; its refspec; its local name
 abbrev pub told_mapping : ℕ → Mapped → ToldValue
 told_mapping refs m = record { item = unwrap_or m.item refs; spec = m.spec; local = m.local }
 
--- of one that was taken out: its local name
+-- the record of a removed mapping: its local name
 abbrev pub told_removed : ℕ → ℕ → Removed → ToldValue
 told_removed refs specs r = record { item = refs; spec = specs; local = r.name }
 
--- of a conflict: how many mappings go to the local name
+-- the record of a conflict: the number of mappings with this local name
 abbrev pub told_conflict : ℕ → Conflict → ToldValue
 told_conflict specs c = record { item = length c.sources; spec = specs; local = Some c.destination }
 
--- the mappings that stay, and those that were taken out
+-- the records of the mappings that remain, then those of the removed ones
 abbrev pub mappings_told : ℕ → List Spec → List Mapped → List ToldValue
 mappings_told refs specs ms = map (told_mapping refs) (kept ms) ++ map (told_removed refs (length specs)) (fixes specs ms)
 
@@ -41,14 +41,15 @@ abbrev pub conflicts_told : List Spec → List Mapped → List ToldValue
 conflicts_told specs ms = map (told_conflict (length specs)) (conflicts specs ms)
 
 module _ (refs : ℕ) (specs : List Spec) (ms : List Mapped) (old new : MapBuffers) where
-  -- the mappings are told, or the conflicts where there are any, or how much room they need
+  -- the buffers have the mappings or else the conflicts, or the sizes that these need
   abbrev pub TellsMap : MapEnd → Type 0
   TellsMap AllMapped = (conflicts specs ms ≡ []) × TellsAll (mappings_told refs specs ms) (length (fixes specs ms)) old new
   TellsMap Conflicts = (conflicts specs ms ≢ []) × TellsAll (conflicts_told specs ms) 0 old new
   TellsMap NoRoom = ((conflicts specs ms ≡ []) × TellsRoom (mappings_told refs specs ms) (length (fixes specs ms)) old new)
       ⊎ ((conflicts specs ms ≢ []) × TellsRoom (conflicts_told specs ms) 0 old new)
 
--- the refs of records are mapped by the refspecs of lines; or a line or a name is refused, or an allocation failed, and nothing is changed
+-- the refs are mapped by the refspecs of the lines; or a refspec or a span is invalid or an allocation failed, and nothing is
+-- changed
 abbrev pub MapsRecords : List ℕ → List RefRecord → List (List ℕ) → MapBuffers → MapBuffers → Result MapEnd MapRefused → Type 0
 MapsRecords bytes refs lines old new (Ok end) = (specs : List Spec) × (specs_of_lines lines ≡ Ok specs) × AreNamesWithin bytes refs
     × TellsMap (length refs) specs (mappings specs (names_in bytes refs)) old new end
@@ -56,7 +57,7 @@ MapsRecords bytes refs lines old new (Err (RefusedSpec e)) = (specs_of_lines lin
 MapsRecords bytes refs lines old new (Err Place) = (¬ (AreNamesWithin bytes refs)) × (new ≡ old)
 MapsRecords bytes refs lines old new (Err Memory) = new ≡ old
 
--- how telling ended, where this is its end
+-- the result of a call, by whether the buffers were large enough
 abbrev pub end_of : Result Bool AllocError → MapEnd → Result MapEnd MapRefused
 end_of (Ok true) whole = Ok whole
 end_of (Ok false) whole = Ok NoRoom

@@ -1,40 +1,40 @@
--- Where the pack begins in an answer to a fetch (gitprotocol-v2, "fetch"; gitprotocol-pack, "Packfile Negotiation").
+-- The offset of the pack in a response to a fetch (gitprotocol-v2, "fetch"; gitprotocol-pack, "Packfile Negotiation").
 use Rattle.std.specs.Prelude.{◌≡◌, ℕ, ◌≤◌, ◌||◌, Bool, true, false, nat_eq, All, List, [], ◌∷◌, ◌++◌, length, codes}
 use Rattle.std.specs.List.{starts_with}
 use Rattle.gixp_packetline.specs.Pieces.{Piece, line, mark, Pieces, no_pieces}
 use Rattle.gixp_records.specs.declared.packets.PacketRefused.{PacketRefused}
 use Rattle.gixp_records.specs.Packets.{pieces_at, refusal_in, AreWordsWithin}
 
--- the header in front of a pack
+-- the header before a pack
 abbrev pub is_header : List ℕ → Bool
 is_header text = starts_with nat_eq text (codes "packfile")
 
--- an acknowledgement, or an update of the boundary
+-- an acknowledgement or a shallow update
 abbrev pub is_told : List ℕ → Bool
 is_told text = starts_with nat_eq text (codes "NAK") || starts_with nat_eq text (codes "ACK ")
     || starts_with nat_eq text (codes "shallow ") || starts_with nat_eq text (codes "unshallow ")
 
--- pieces in front of others
+-- these pieces, then the others
 abbrev pub pieces_before : List Piece → Pieces → Pieces
 pieces_before taken rest = record { list = taken ++ rest.list; end = rest.end }
 
--- it is no line of this kind
+-- the piece isn't such a header
 abbrev pub IsNoHeader : Piece → Type 0
 IsNoHeader (line text) = is_header text ≡ false
 IsNoHeader (mark kind) = Unit {0}
 
--- it is no line of another kind
+-- the piece isn't another line
 abbrev pub IsTold : Piece → Type 0
 IsTold (line text) = is_told text ≡ true
 IsTold (mark kind) = Unit {0}
 
--- from one place to another these pieces stand
+-- from one offset to another there are exactly these pieces
 pub record ArePiecesTo (bytes : List ℕ) (from next : ℕ) (taken : List Piece) : Type 0 where
   pub pieces : pieces_at bytes from ≡ pieces_before taken (pieces_at bytes next)
   pub in_order : from ≤ next
   pub within : next ≤ length bytes
 
--- the first header stands right in front of the place
+-- the offset follows the first header
 pub record FollowsHeader (bytes : List ℕ) (from place : ℕ) : Type 0 where
   pub taken : List Piece
   pub header : List ℕ
@@ -42,7 +42,7 @@ pub record FollowsHeader (bytes : List ℕ) (from place : ℕ) : Type 0 where
   pub others : All IsNoHeader taken
   pub named : is_header header ≡ true
 
--- the first line that tells nothing of the kind stands at the place
+-- the offset is that of the first line that is neither an acknowledgement nor a shallow update
 pub record FollowsTold (bytes : List ℕ) (from place : ℕ) : Type 0 where
   pub taken : List Piece
   pub first : List ℕ
@@ -52,7 +52,7 @@ pub record FollowsTold (bytes : List ℕ) (from place : ℕ) : Type 0 where
   pub line : pieces_at bytes place ≡ pieces_before (line first ∷ []) rest
   pub other : is_told first ≡ false
 
--- after some pieces nothing but a refusal comes
+-- after some pieces the stream has only an error
 pub record RefusedFrom (bytes : List ℕ) (from : ℕ) (e : PacketRefused) : Type 0 where
   pub taken : List Piece
   pub at : ℕ

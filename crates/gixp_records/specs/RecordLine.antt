@@ -1,4 +1,4 @@
--- A line of an `ls-refs` answer by where its parts stand (gitprotocol-v2, "ls-refs").
+-- One line of an `ls-refs` response, as spans (gitprotocol-v2, "ls-refs").
 use Rattle.std.specs.Prelude.{◌≡◌, ℕ, List, IfSome, Result, Err}
 use Rattle.std.specs.Option.{option_map}
 use Rattle.gixp_refs.specs.Ref.{RefValue}
@@ -10,25 +10,25 @@ use Rattle.gixp_records.specs.declared.line.Said.{Said}
 use Rattle.gixp_records.specs.declared.line.LineRef.{LineRef}
 use Rattle.gixp_records.specs.Span.{text_at, IsWithin}
 
--- which of the kinds a line's refusal is
+-- the kind of a line's error
 abbrev pub refused_as : RefsRefusal → LineRefused
 refused_as (bad_id e) = Id
 refused_as (unknown_attribute attribute line) = UnknownAttribute
 refused_as (invariant text) = Unborn
 refused_as _ = Malformed
 
--- it is refused, and so
+-- the result is an error of this kind
 abbrev pub Judges : {A : Type 0} → Result A RefsRefusal → LineRefused → Type 0
 Judges o e = (r : RefsRefusal) × (o ≡ Err r) × (refused_as r ≡ e)
 
--- what the attributes say
+-- the attributes as texts
 abbrev pub said_in : List ℕ → Said → AttributeValues
 said_in bytes a = record { target = option_map (text_at bytes) a.target; peeled = object_of a.peeled }
 
 abbrev pub AreSaidWithin : List ℕ → Said → Type 0
 AreSaidWithin bytes a = IfSome a.target (IsWithin bytes)
 
--- the ref that the line stands for, or why it stands for none
+-- the ref of the line, or its error
 abbrev pub line_ref_value : List ℕ → LineRef → Result RefValue RefsRefusal
 line_ref_value bytes l = value_of (object_of l.object) (text_at bytes l.name) (said_in bytes l.said)
 

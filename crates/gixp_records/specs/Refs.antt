@@ -1,4 +1,4 @@
--- The refs of an `ls-refs` answer as records (gitprotocol-v2, "ls-refs").
+-- The refs of an `ls-refs` response as records (gitprotocol-v2, "ls-refs").
 use Rattle.std.specs.Prelude.{◌≡◌, ℕ, ◌==◌, ◌≤◌, if◌then◌else◌, All, List, [], ◌∷◌, length, take, drop, map, Some, None, Result, Ok, Err}
 use Rattle.gixp_packetline.specs.declared.protocol.MessageKind.{MessageKind}
 use Rattle.gixp_packetline.specs.declared.protocol.Protocol.TheVariants.{V2}
@@ -18,7 +18,7 @@ use Rattle.gixp_records.specs.Span.{text_at, IsWithin}
 use Rattle.gixp_records.specs.Packets.{pieces_at, refusal_in, AreWordsWithin, IsBehind}
 use Rattle.gixp_records.specs.RecordLine.{Judges}
 
--- the ref that a record is, with the bytes that its texts stand in; one of no kind is none of a server's, whose names aren't empty
+-- the ref of a record; a record of an unknown kind has an empty name, which no server's ref has
 abbrev pub ref_in : List ℕ → RefRecord → RefValue
 ref_in bytes r =
     if r.kind == 1 then direct (text_at bytes r.name) r.object
@@ -31,20 +31,20 @@ ref_in bytes r =
 abbrev pub refs_in : List ℕ → List RefRecord → List RefValue
 refs_in bytes records = map (ref_in bytes) records
 
--- its texts stand in the bytes
+-- the texts of the record are within the bytes
 abbrev pub IsRecordWithin : List ℕ → RefRecord → Type 0
 IsRecordWithin bytes r = IsWithin bytes r.name × IsWithin bytes r.target
 
--- the lines of the answer from a place on, up to its stop
+-- the lines of the response from an offset on, up to its stop
 abbrev pub lines_at : List ℕ → ℕ → Lines
 lines_at bytes at = lines_of V2 (pieces_at bytes at)
 
--- what is refused at a place: there is no line, or it stands for no ref
+-- the error at an offset: the packet line can't be read, or the line is malformed
 abbrev pub IsRefusedAt : List ℕ → ℕ → RefsRefused → Type 0
 IsRefusedAt bytes at (Packet e) = (lines_at bytes at ≡ no_lines (refusal (refusal_in bytes e))) × AreWordsWithin bytes e
 IsRefusedAt bytes at (Line e) = (text : List ℕ) × (rest : Lines) × (lines_at bytes at ≡ before (text ∷ []) rest) × Judges (v2_line text) e
 
--- the ref of the line at a place, or the stop, or what is refused
+-- the ref at an offset, or the stop, or the error
 abbrev pub IsNextRef : List ℕ → ℕ → Result NextRef RefsRefused → Type 0
 IsNextRef bytes at (Ok (Ref found next)) = (text : List ℕ) × (lines_at bytes at ≡ before (text ∷ []) (lines_at bytes next))
     × (v2_line text ≡ Ok (ref_in bytes found)) × IsRecordWithin bytes found × IsBehind bytes at next
@@ -52,7 +52,7 @@ IsNextRef bytes at (Ok (StopNext next)) = (kind : MessageKind) × (lines_at byte
     × IsBehind bytes at next
 IsNextRef bytes at (Err e) = IsRefusedAt bytes at e
 
--- the lines from one place to another stand for these refs
+-- the lines from one offset to another are these refs
 pub record AreLinesTo (bytes : List ℕ) (from next : ℕ) (values : List RefValue) : Type 0 where
   pub texts : List (List ℕ)
   pub lines : lines_at bytes from ≡ before texts (lines_at bytes next)
@@ -60,14 +60,14 @@ pub record AreLinesTo (bytes : List ℕ) (from next : ℕ) (values : List RefVal
   pub in_order : from ≤ next
   pub within : next ≤ length bytes
 
--- how a call that read these refs ended
+-- the end of a call that read these refs
 abbrev pub ReadsUpTo : List ℕ → ℕ → ℕ → List RefValue → RefsEnd → Type 0
 ReadsUpTo bytes from next values Full = AreLinesTo bytes from next values
 ReadsUpTo bytes from next values Stop = (stream_refs (drop from bytes) ≡ Ok values) × (kind : MessageKind) × (at : ℕ)
     × AreLinesTo bytes from at values × (lines_at bytes at ≡ no_lines (stop kind (pieces_at bytes next))) × IsBehind bytes at next
 ReadsUpTo bytes from next values (Refused e) = AreLinesTo bytes from next values × IsRefusedAt bytes next e
 
--- the refs of an answer from a place on, in the first records, and no other record changed
+-- the refs from an offset on are in the first records, and the other records are unchanged
 pub record ReadsRecords (bytes : List ℕ) (from : ℕ) (old : List RefRecord) (found : RefsFound) (new : List RefRecord) : Type 0 where
   pub room : found.count ≤ length new
   pub full : found.end ≡ Full → found.count ≡ length new

@@ -1,4 +1,5 @@
--- What a server says up to its first ref line under versions 0 and 1 (gitprotocol-pack, "Reference Discovery" and "Extra Parameters").
+-- The start of an advertisement under versions 0 and 1, up to its first ref line (gitprotocol-pack, "Reference Discovery" and
+-- "Extra Parameters").
 use Rattle.std.specs.Prelude.{◌≡◌, ℕ, ◌==◌, ◌≤◌, true, false, min, Bool, ⊤, List, [], ◌∷◌, length, take, map, Some, None, Vec, Result, Ok, Err}
 use Rattle.std.specs.declared.alloc.Global.{Global}
 use Rattle.gixp_packetline.specs.declared.protocol.MessageKind.{MessageKind}
@@ -29,21 +30,21 @@ named_as two = Two
 named_as (another text) = Another
 named_as unnamed = Unnamed
 
--- the symrefs of capabilities, or the first that is refused; but for memory
+-- the symrefs of the capabilities, or the first error; an allocation failure is always possible
 abbrev pub AnswersSymrefs : List ℕ → Result (List Symref) RefsRefusal → Result (Vec SymrefSpan Global) AdvertisedRefused → Type 0
 AnswersSymrefs bytes o (Ok found) = o ≡ Ok (map (symref_at bytes) found.items)
 AnswersSymrefs bytes o (Err Memory) = ⊤
 AnswersSymrefs bytes o (Err (Line e)) = IsRefusedAs o e
 AnswersSymrefs bytes o (Err _) = ⊥
 
--- where the capabilities of a first ref line stand, which is cut before them
+-- the capabilities of a first ref line, and its length without them
 pub record HasCapabilities (bytes text : List ℕ) (version : Protocol) (first : ℕ) (o : RefsOpening) : Type 0 where
   pub same_version : o.version ≡ version
   pub place : o.first ≡ first
   pub found : capabilities_of_line text ≡ Some (capabilities_of_words (text_at bytes o.capabilities), o.cut)
   pub within : IsWithin bytes o.capabilities
 
--- what was said before the first ref line, and the capabilities of that, which is cut before them
+-- the start of an advertisement up to its first ref line, with the capabilities of that line
 pub record IsOpening (bytes : List ℕ) (said : Result Advertised ClientRefusal) (o : RefsOpening) : Type 0 where
   pub text : List ℕ
   pub rest : Pieces
@@ -58,7 +59,7 @@ pub record IsOpening (bytes : List ℕ) (said : Result Advertised ClientRefusal)
   pub place : o.first ≤ length bytes
   pub within : IsWithin bytes o.capabilities
 
--- why there is no first ref line, nor a stop in its place
+-- the error if there is neither a first ref line nor a stop in its place
 abbrev pub IsNotOpened : List ℕ → Result Advertised ClientRefusal → AdvertisedRefused → Type 0
 IsNotOpened bytes said (Packet e) = (said ≡ Err (client_from (refusal_in bytes e))) × AreWordsWithin bytes e
 IsNotOpened bytes said NoCapabilities = said ≡ Err no_null_byte
@@ -66,28 +67,28 @@ IsNotOpened bytes said UnknownVersion = (text : List ℕ) × (said ≡ Err (unsu
 IsNotOpened bytes said VersionTwo = (p : Pieces) × (said ≡ from_capability_lines p)
 IsNotOpened bytes said _ = ⊥
 
--- what a server said first: a first ref line, a stop in its place, or neither
+-- the start of an advertisement: a first ref line, a stop in its place, or an error
 abbrev pub IsOpened : List ℕ → Result Advertised ClientRefusal → Result Opened AdvertisedRefused → Type 0
 IsOpened bytes said (Ok (Refs o)) = IsOpening bytes said o
 IsOpened bytes said (Ok (Empty next)) = (version : Protocol) × (kind : MessageKind)
     × (said ≡ Ok (empty_advertisement version kind (pieces_at bytes next))) × (next ≤ length bytes)
 IsOpened bytes said (Err e) = IsNotOpened bytes said e
 
--- the first line ends there
+-- the first line is shortened to this length
 abbrev pub with_first_cut : ℕ → List (List ℕ) → List (List ℕ)
 with_first_cut n [] = []
 with_first_cut n (text ∷ texts) = take n text ∷ texts
 
--- the same, where the first ref line is the first of these
+-- the same if the first ref line is among these lines
 abbrev pub cut_lines : Bool → ℕ → Lines → Lines
 cut_lines true n l = record { lines = with_first_cut n l.lines; ending = l.ending }
 cut_lines false n l = l
 
--- the lines from a place on, of which the first ref line is cut before its capabilities
+-- the lines from an offset on; the first ref line ends before its capabilities
 abbrev pub advertised_lines : List ℕ → RefsOpening → ℕ → Lines
 advertised_lines bytes o at = cut_lines (at == o.first) o.cut (lines_of o.version (pieces_at bytes at))
 
--- where the text of a line stands, which is cut where it is the first ref line
+-- the span of a line; the first ref line ends before its capabilities
 abbrev pub cut_span : Bool → ℕ → Span → Span
 cut_span true n s = record { at = s.at; len = min n s.len }
 cut_span false n s = s

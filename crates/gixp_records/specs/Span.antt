@@ -1,11 +1,10 @@
--- A text by where it stands in some bytes.
+-- A text by its offset and length in some bytes.
 use Rattle.std.specs.Prelude.{ℕ, ◌+◌, ◌≤◌, List, length, take, drop}
 use Rattle.gixp_records.specs.declared.span.Span.{Span}
 
--- the text that stands there
 abbrev pub text_at : List ℕ → Span → List ℕ
 text_at bytes s = take s.len (drop s.at bytes)
 
--- all of it stands in the bytes
+-- the whole span is within the bytes
 abbrev pub IsWithin : List ℕ → Span → Type 0
 IsWithin bytes s = s.at + s.len ≤ length bytes

@@ -1,4 +1,4 @@
--- What is told of mappings: records of numbers, and the local names one behind another.
+-- Mappings as records of numbers, and their local names one after another.
 use Rattle.std.specs.Prelude.{ℕ, ◌≡◌, ◌+◌, ◌-◌, ◌^◌, ◌≤◌, min, Bool, true, false, List, [], ◌∷◌, ◌++◌, length, drop, Option, Some, None, Result, Ok, Err}
 use Rattle.std.specs.List.{flat_map}
 use Rattle.std.specs.Option.{option_copied}
@@ -7,7 +7,7 @@ use Rattle.gixp_records.specs.declared.told.Told.{Told}
 use Rattle.gixp_records.specs.declared.told.MappingRecord.{MappingRecord}
 use Rattle.gixp_records.specs.declared.told.MappedRecord.{MappedRecord}
 
--- what a record is to tell: two numbers, and a local name where there is one
+-- the content of a record: two numbers, and a local name if there is one
 pub record ToldValue : Type 0 where
   pub item : ℕ
   pub spec : ℕ
@@ -16,7 +16,7 @@ pub record ToldValue : Type 0 where
 abbrev pub told_value : Told → ToldValue
 told_value t = record { item = t.item; spec = t.spec; local = option_copied t.local }
 
--- the bytes of a local name, none where there is no name
+-- a local name, empty if there is none
 abbrev pub bytes_of : Option (List ℕ) → List ℕ
 bytes_of (Some name) = name
 bytes_of None = []
@@ -24,16 +24,16 @@ bytes_of None = []
 abbrev pub local_bytes : ToldValue → List ℕ
 local_bytes t = bytes_of t.local
 
--- the local names, one behind another
+-- the local names, one after another
 abbrev pub local_names : List ToldValue → List ℕ
 local_names told = flat_map local_bytes told
 
--- whether there is a name, as a number
+-- 1 if there is a name, otherwise 0
 abbrev pub has_name : Option (List ℕ) → ℕ
 has_name (Some name) = 1
 has_name None = 0
 
--- the record whose local name stands at this place of the buffer
+-- the record whose local name is at this offset of the buffer
 abbrev pub record_at : ℕ → ToldValue → MappingRecord
 record_at at t = record {
   item = t.item;
@@ -42,12 +42,12 @@ record_at at t = record {
   local = record { at = at; len = length (local_bytes t) };
 }
 
--- the records whose local names stand one behind another from this place of the buffer on
+-- the records whose local names are one after another from this offset of the buffer on
 abbrev pub records_from : ℕ → List ToldValue → List MappingRecord
 records_from at [] = []
 records_from at (t ∷ told) = record_at at t ∷ records_from (at + length (local_bytes t)) told
 
--- how much there is to tell, of which the last are mappings that were taken out; bytes up to the greatest number
+-- the sizes, where the last records are removed mappings; the number of bytes is limited to the greatest number
 abbrev pub counts_of : List ToldValue → ℕ → MappedRecord
 counts_of told fixes = record {
   mappings = length told - fixes;
@@ -55,7 +55,7 @@ counts_of told fixes = record {
   names = min (length (local_names told)) (2 ^ 64 - 1);
 }
 
--- what a call writes to
+-- the buffers of a call
 pub record MapBuffers : Type 0 where
   pub records : List MappingRecord
   pub names : List ℕ
@@ -64,23 +64,23 @@ pub record MapBuffers : Type 0 where
 abbrev pub buffers : List MappingRecord → List ℕ → MappedRecord → MapBuffers
 buffers records names counts = record { records = records; names = names; counts = counts }
 
--- there is room for all records and all local names
+-- the buffers are large enough for all records and all local names
 abbrev pub HasRoom : List ToldValue → List MappingRecord → List ℕ → Type 0
 HasRoom told records names = (length told ≤ length records) × (length (local_names told) ≤ length names)
 
--- all is told: the first records and the front of the names are written, and nothing behind them
+-- all is written: the first records and the start of the names, and nothing after them
 pub record TellsAll (told : List ToldValue) (last : ℕ) (old new : MapBuffers) : Type 0 where
   pub room : HasRoom told old.records old.names
   pub records : new.records ≡ records_from 0 told ++ drop (length told) old.records
   pub names : new.names ≡ local_names told ++ drop (length (local_names told)) old.names
   pub counts : new.counts ≡ counts_of told last
 
--- there is too little room: how much is needed is told, and nothing else is changed
+-- a buffer is too small: the sizes are written, and nothing else is changed
 pub record TellsRoom (told : List ToldValue) (last : ℕ) (old new : MapBuffers) : Type 0 where
   pub no_room : ¬ (HasRoom told old.records old.names)
   pub rest : new ≡ record old { counts = counts_of told last }
 
--- by whether all is told
+-- the buffers, by whether they were large enough
 abbrev pub TellsBy : List ToldValue → ℕ → MapBuffers → MapBuffers → Bool → Type 0
 TellsBy told last old new true = TellsAll told last old new
 TellsBy told last old new false = TellsRoom told last old new

@@ -1,4 +1,4 @@
--- A line of a version 0 or 1 advertisement by where its parts stand (gitprotocol-pack, "Reference Discovery").
+-- One line of a version 0 or 1 advertisement, as spans (gitprotocol-pack, "Reference Discovery").
 use Rattle.std.specs.Prelude.{◌≡◌, ℕ, ⊤, List, IfSome, Result, Err}
 use Rattle.std.specs.Option.{option_map}
 use Rattle.gixp_refs.specs.RefLine.{RefsRefusal, bad_id, malformed_symref, invariant}
@@ -11,21 +11,21 @@ use Rattle.gixp_records.specs.declared.advertised.line.NamedLine.{NamedLine}
 use Rattle.gixp_records.specs.declared.advertised.symrefs.SymrefSpan.{SymrefSpan}
 use Rattle.gixp_records.specs.Span.{text_at, IsWithin}
 
--- which of the kinds a refusal of an advertisement's lines or symrefs is
+-- the kind of an error of a line or a symref
 abbrev pub advertised_as : RefsRefusal → AdvertisedLineRefused
 advertised_as (bad_id e) = Id
 advertised_as (invariant text) = Peeled
 advertised_as (malformed_symref text) = BadSymref
 advertised_as _ = Malformed
 
--- it is refused, and so
+-- the result is an error of this kind
 abbrev pub IsRefusedAs : {A : Type 0} → Result A RefsRefusal → AdvertisedLineRefused → Type 0
 IsRefusedAs o e = (r : RefsRefusal) × (o ≡ Err r) × (advertised_as r ≡ e)
 
 abbrev pub named_in : List ℕ → NamedLine → NamedRef
 named_in bytes n = record { object = n.object.bytes; name = text_at bytes n.name }
 
--- what the line is
+-- the line as texts
 abbrev pub line_in : List ℕ → AdvertisedLine → V1Line
 line_in bytes Nothing = nothing
 line_in bytes (PeeledLine left base) = peels (text_at bytes left) (text_at bytes base)
@@ -38,7 +38,7 @@ IsAdvertisedWithin bytes (PeeledLine left base) = IsWithin bytes left × IsWithi
 IsAdvertisedWithin bytes (Named n) = IsWithin bytes n.name
 IsAdvertisedWithin bytes (Shallow id) = ⊤
 
--- a symref by where its texts stand
+-- the symref as texts
 abbrev pub symref_at : List ℕ → SymrefSpan → Symref
 symref_at bytes s = record { name = text_at bytes s.name; target = option_map (text_at bytes) s.target }
 

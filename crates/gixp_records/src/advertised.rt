@@ -17,29 +17,29 @@ use opening::{Opened, RefsOpening, open_advertisement};
 pub use refused::{AdvertisedLineRefused, AdvertisedRefused};
 use symrefs::{SymrefSpan, read_symrefs};
 
-/// Why a call read no more refs.
+/// Why a call stopped reading refs.
 #[derive(Clone, Copy, Debug, PartialEq, Eq)]
 pub enum AdvertisedEnd {
-    /// There is no more room: the next call goes on.
+    /// The records are full. The next call continues.
     Full,
-    /// The stop of the advertisement came, and the place is after it.
+    /// The advertisement's stop was read. `next` is the offset after it.
     Stop,
-    /// What stands at the place, or after it, can't be read.
+    /// An error at the offset `next` or after it.
     Refused(AdvertisedRefused),
 }
 
-/// What a call read.
+/// The result of a call that reads refs.
 #[derive(Clone, Copy, Debug, PartialEq, Eq)]
 pub struct AdvertisedFound {
-    /// How many records were written.
+    /// The number of records written.
     pub count: usize,
-    /// The place after the lines of these.
+    /// The offset after the lines of these records.
     pub next: usize,
-    /// Why it read no more.
+    /// Why the call stopped.
     pub end: AdvertisedEnd,
 }
 
-// The refs from a place on, as many as there is room for.
+// Reads refs from an offset on, until the records are full.
 fn read_groups(
     bytes: &[u8],
     opening: &RefsOpening,
@@ -88,14 +88,13 @@ fn read_groups(
     AdvertisedFound { count, next, end }
 }
 
-/// Reads refs of an advertisement of version 0 or 1 from this place on, as many as there is room for (gitprotocol-pack,
-/// "Reference Discovery"). The bytes begin with what the server says first; a place before its first ref line is as that line's.
-/// A tag has one record for its ref line and its peeled line. Shallow lines have none.
+/// Reads refs of a version 0 or 1 advertisement from an offset on, until the records are full (gitprotocol-pack, "Reference
+/// Discovery"). `bytes` begins with the server's first packet line. An offset before the first ref line means that line. A tag has
+/// one record for its ref line and its peeled line. Shallow lines have none.
 ///
-/// Nothing but the places of symrefs, which the first ref line has, is allocated. What can't be read stands at the place that is
-/// returned or after it, and the refs before it are in the records. `Incomplete` comes where the advertisement goes on in
-/// bytes that aren't there yet: a ref line is read once it shows what comes after it. Records after those that were written are
-/// as they were.
+/// Only the list of symrefs in the first ref line is allocated. An error is at the offset `next` or after it, and the records have
+/// the refs before it. The error is `Incomplete` if the advertisement continues after the end of `bytes`: a ref line is read only
+/// when the next line is known. The other records are unchanged.
 pub fn read_advertised(
     alloc: Global,
     bytes: &[u8],

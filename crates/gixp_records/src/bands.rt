@@ -1,4 +1,4 @@
-//! A pack's bands, piece by piece (gitprotocol-pack, "Packfile Data").
+//! The bands of a pack, packet line by packet line (gitprotocol-pack, "Packfile Data").
 ghost use Rattle.std.specs.Prelude.{◌≡◌, ◌≤◌, length};
 ghost use Rattle.gixp_records.specs.Span.{text_at, IsWithin};
 ghost use Rattle.gixp_records.specs.Bands.{IsPieceOf, IsNextPiece};
@@ -7,20 +7,19 @@ use crate::packets::{NextPacket, PacketRefused, behind, next_packet, without_lin
 use crate::span::{Span, text_at};
 use gixp_packetline::MessageKind;
 
-/// What a packet line of a pack says.
+/// The content of a packet line of a pack.
 #[derive(Clone, Copy, Debug, PartialEq, Eq)]
 pub enum BandPiece {
-    /// Bytes of the pack, maybe none.
+    /// Bytes of the pack, possibly none.
     Content(Span),
-    /// A line of progress, without one ending LF, maybe empty.
+    /// A progress message without one trailing LF, possibly empty.
     Progress(Span),
-    /// An error of the server in the same form, after which the pack may still go on.
+    /// An error message of the server in the same form. The pack may continue after it.
     Error(Span),
-    /// The stop after the pack.
+    /// The packet after the pack.
     Stop(MessageKind),
 }
 
-// What a payload says.
 #[inline(always)]
 fn piece_of(bytes: &[u8], line: Span) -> Result<BandPiece, PacketRefused>
     requires { IsWithin bytes.now line }
@@ -35,12 +34,12 @@ fn piece_of(bytes: &[u8], line: Span) -> Result<BandPiece, PacketRefused>
     }
 }
 
-/// What the packet line at this place of an answer says, which stands after the answer's sections, and where the next one
-/// stands (gitprotocol-pack, "Packfile Data"). It allocates nothing.
+/// Reads the packet line at an offset of a response, and returns its content and the offset after it. The offset must be after the
+/// sections of the response (gitprotocol-pack, "Packfile Data"). It allocates nothing.
 ///
 /// # Errors
 ///
-/// Why there is none. `Incomplete` where the answer goes on in bytes that aren't there yet.
+/// The error of the packet line. `Incomplete` if it continues after the end of `bytes`.
 pub fn next_piece(bytes: &[u8], at: usize) -> Result<(BandPiece, usize), PacketRefused>
     requires { at ≤ length bytes.now }
     ensures { IsNextPiece bytes.now at result }

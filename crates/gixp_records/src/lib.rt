@@ -1,4 +1,4 @@
-//! Refs, mappings and packs as records of numbers: where each text stands in the bytes that a server sent, of which none is copied.
+//! Refs, mappings and packs as records of numbers. Texts are spans of the server's bytes, so nothing is copied.
 #![tactic(auto)]
 
 mod advertised;

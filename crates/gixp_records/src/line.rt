@@ -1,4 +1,4 @@
-//! A line of an `ls-refs` answer, of which nothing is copied (gitprotocol-v2, "ls-refs").
+//! One line of an `ls-refs` response, as spans (gitprotocol-v2, "ls-refs").
 ghost use Rattle.std.specs.Prelude.{◌≡◌, Ok, Err, MatchResult, IfOk, IfSome, codes, List, ℕ};
 ghost use Rattle.std.specs.Option.{option_map};
 ghost use Rattle.std.specs.Char.{is_whitespace};
@@ -14,27 +14,27 @@ use crate::span::{Span, cut_at, text_at};
 use bstr::ByteSlice;
 use gixp_hash::{ObjectId, decode};
 
-/// Why a line of an `ls-refs` answer stands for no ref.
+/// The error of reading a line of an `ls-refs` response.
 #[derive(Clone, Copy, Debug, PartialEq, Eq)]
 pub enum LineRefused {
-    /// What should be an object id is none.
+    /// The object id is invalid.
     Id,
-    /// The line lacks its name, or has an attribute without a value.
+    /// The line has no name, or an attribute without a value.
     Malformed,
-    /// It has an attribute other than `peeled` and `symref-target`.
+    /// The line has an attribute other than `peeled` and `symref-target`.
     UnknownAttribute,
-    /// It has no id, and not just a target.
+    /// An unborn ref has no target.
     Unborn,
 }
 
-// What the attributes of a line say.
+// The attributes of a line.
 #[derive(Clone, Copy)]
 pub(crate) struct Said {
     pub(crate) target: Option<Span>,
     pub(crate) peeled: Option<ObjectId>,
 }
 
-// What a line says.
+// The parts of a line.
 #[derive(Clone, Copy)]
 pub(crate) struct LineRef {
     pub(crate) object: Option<ObjectId>,
@@ -42,7 +42,6 @@ pub(crate) struct LineRef {
     pub(crate) said: Said,
 }
 
-// The id that a text is, or why it is none.
 #[inline(always)]
 pub(crate) fn id_in(text: &[u8]) -> Result<ObjectId, decode::Error>
     ensures { MatchResult result (λ id. id_value text.now ≡ Ok id.bytes) (λ e. id_value text.now ≡ Err (bad_id e)) }
@@ -60,7 +59,7 @@ fn read_id(text: &[u8]) -> Result<ObjectId, LineRefused>
     }
 }
 
-// An id, or none for `unborn`.
+// Parses the id of a line, or `unborn`.
 #[inline(always)]
 fn read_first(text: &[u8]) -> Result<Option<ObjectId>, LineRefused>
     ensures { MatchResult result (λ id. first_piece text.now ≡ Ok (object_of id)) (Judges (first_piece text.now)) }
@@ -74,7 +73,7 @@ fn read_first(text: &[u8]) -> Result<Option<ObjectId>, LineRefused>
     }
 }
 
-// One more attribute, by its name and its value, beside those that were there.
+// Adds an attribute to those read so far, by its name and its value.
 fn name_attribute(bytes: &[u8], name: &[u8], value: Span, had: Said) -> Result<Said, LineRefused>
     requires value { IsWithin bytes.now value }
     requires had { AreSaidWithin bytes.now had }
@@ -101,7 +100,7 @@ fn name_attribute(bytes: &[u8], name: &[u8], value: Span, had: Said) -> Result<S
     Err(LineRefused::UnknownAttribute)
 }
 
-// One more attribute of the line, beside those that it had.
+// Adds an attribute to those read so far.
 fn read_attribute(bytes: &[u8], piece: Span, had: Said) -> Result<Said, LineRefused>
     requires piece { IsWithin bytes.now piece }
     requires had { AreSaidWithin bytes.now had }
@@ -122,7 +121,7 @@ fn read_attribute(bytes: &[u8], piece: Span, had: Said) -> Result<Said, LineRefu
     }
 }
 
-// The attributes after a name.
+// Reads the attributes after a name.
 fn read_attributes(bytes: &[u8], rest: Option<Span>) -> Result<Said, LineRefused>
     requires { IfSome rest (IsWithin bytes.now) }
     ensures said { (line : List ℕ) → MatchResult result
@@ -149,7 +148,7 @@ fn read_attributes(bytes: &[u8], rest: Option<Span>) -> Result<Said, LineRefused
     }
 }
 
-// Where the line stands without the white space at its end.
+// The span of a line without trailing white space.
 #[inline(always)]
 pub(crate) fn trimmed(bytes: &[u8], line: Span) -> Span
     requires { IsWithin bytes.now line }
@@ -163,7 +162,7 @@ pub(crate) fn trimmed(bytes: &[u8], line: Span) -> Span
     }
 }
 
-// What the line says after its id.
+// Reads the part of a line after the id.
 #[inline(always)]
 fn read_named(bytes: &[u8], object: Option<ObjectId>, rest: Span) -> Result<LineRef, LineRefused>
     requires { IsWithin bytes.now rest }
@@ -182,7 +181,6 @@ fn read_named(bytes: &[u8], object: Option<ObjectId>, rest: Span) -> Result<Line
     }
 }
 
-// What a line says, or why it says nothing.
 #[inline(always)]
 pub(crate) fn read_line(bytes: &[u8], line: Span) -> Result<LineRef, LineRefused>
     requires { IsWithin bytes.now line }
@@ -202,7 +200,7 @@ pub(crate) fn read_line(bytes: &[u8], line: Span) -> Result<LineRef, LineRefused
     }
 }
 
-// Whether a target is the word for none.
+// Whether a symref's target is `(null)`, which means none.
 #[inline(always)]
 pub(crate) fn is_null(target: &[u8]) -> bool
     ensures { result ≡ is_text target.now (codes "(null)") }

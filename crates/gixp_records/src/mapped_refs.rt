@@ -1,4 +1,4 @@
-//! The mappings of refs by refspecs as records (git-fetch, "<refspec>").
+//! The mappings that refspecs make from refs, as records (git-fetch, "<refspec>").
 ghost use Rattle.std.specs.Prelude.{◌≡◌, ◌↔◌, ◌++◌, IsTrue, IfOk, OnOk, true, false, length, map};
 ghost use Rattle.gixp_text.specs.Lines.{text_lines};
 ghost use Rattle.gixp_refspec.specs.RefSpec.{value_of};
@@ -21,36 +21,35 @@ use gixp_refspec::RefSpecRef;
 use gixp_refspec::parse::Error as SpecError;
 use std::alloc::{AllocError, Global};
 
-/// How a call that maps refs ended.
+/// The result of a call that maps refs.
 #[derive(Clone, Copy, Debug)]
 pub enum MapEnd {
-    /// The records are the mappings, and after them the ones that were taken out.
+    /// The records are the mappings, then the removed ones.
     Mapped,
-    /// Mappings conflict, and the records are the conflicts.
+    /// Mappings conflict. The records are the conflicts.
     Conflicts,
-    /// There is too little room for these: how much is needed is reported, and nothing else is changed.
+    /// A buffer is too small. `counts` has the required sizes. Nothing else is changed.
     NoRoom,
 }
 
-/// Why nothing is mapped.
+/// The error of a call that maps refs.
 #[derive(Clone, Copy, Debug, Drop)]
 pub enum MapRefused {
-    /// The name of a ref doesn't stand in the bytes.
+    /// The span of a ref's name isn't within the bytes.
     Place,
-    /// The first line that is no refspec.
+    /// The first line that isn't a valid refspec.
     Spec(SpecError),
     /// An allocation failed.
     Memory,
 }
 
-// Whether a text stands in the bytes.
 fn is_within(bytes: &[u8], span: Span) -> bool
     ensures { IsTrue result ↔ IsWithin bytes.now span }
 {
     span.at <= bytes.len() && span.len <= bytes.len() - span.at
 }
 
-// Whether the names of all records do.
+// Whether the names of all records are within the bytes.
 fn are_names_within(bytes: &[u8], refs: &[RefRecord]) -> bool
     ensures within { result ≡ true → AreNamesWithin bytes.now refs.now }
     ensures beyond { result ≡ false → ¬ (AreNamesWithin bytes.now refs.now) }
@@ -63,7 +62,7 @@ fn are_names_within(bytes: &[u8], refs: &[RefRecord]) -> bool
     true
 }
 
-// The refs of records. Matching looks at names alone.
+// The refs as items to match. Matching uses only names.
 fn items_of<'a>(
     alloc: Global,
     bytes: &'a [u8],
@@ -85,7 +84,7 @@ fn items_of<'a>(
     Ok(items)
 }
 
-// What is told of a mapping.
+// The record of a mapping.
 fn told_of<'a>(mapping: &'a Mapping, refs: usize) -> Told<'a>
     ensures { told_value result ≡ told_mapping refs (mapped_of mapping.now) }
 {
@@ -99,7 +98,7 @@ fn told_of<'a>(mapping: &'a Mapping, refs: usize) -> Told<'a>
     }
 }
 
-// What is told of a mapping that was taken out.
+// The record of a removed mapping.
 fn told_of_fix<'a>(fix: &'a Fix, refs: usize, specs: usize) -> Told<'a>
     ensures { told_value result ≡ told_removed refs specs (removed_of fix.now) }
 {
@@ -111,7 +110,7 @@ fn told_of_fix<'a>(fix: &'a Fix, refs: usize, specs: usize) -> Told<'a>
     }
 }
 
-// What is told of a conflict.
+// The record of a conflict.
 fn told_of_issue<'a>(issue: &'a Issue, specs: usize) -> Told<'a>
     ensures { told_value result ≡ told_conflict specs (conflict_of issue.now) }
 {
@@ -127,7 +126,7 @@ fn told_of_issue<'a>(issue: &'a Issue, specs: usize) -> Told<'a>
     }
 }
 
-// What is told of mappings.
+// The records of mappings.
 fn tell_of_mappings<'a>(
     alloc: Global,
     found: &'a [Mapping],
@@ -142,7 +141,7 @@ fn tell_of_mappings<'a>(
     Ok(all)
 }
 
-// Adds what is told of those that were taken out.
+// Adds the records of removed mappings.
 fn push_fixes<'a>(
     all: &mut Vec<Told<'a>>,
     fixes: &'a [Fix],
@@ -158,7 +157,7 @@ fn push_fixes<'a>(
     Ok(())
 }
 
-// What is told of conflicts.
+// The records of conflicts.
 fn tell_of_issues<'a>(
     alloc: Global,
     issues: &'a [Issue],
@@ -173,7 +172,7 @@ fn tell_of_issues<'a>(
     Ok(all)
 }
 
-// Tells the mappings, and those that were taken out behind them, of so many refs and refspecs.
+// Writes the mappings, then the removed ones. `given` is the number of refs and of refspecs.
 fn tell_mappings(
     alloc: Global,
     mapped: (&[Mapping], &[Fix]),
@@ -193,7 +192,7 @@ fn tell_mappings(
     Ok(tell(&all, fixes.len(), records, names, counts))
 }
 
-// Tells the conflicts.
+// Writes the conflicts.
 fn tell_conflicts(
     alloc: Global,
     issues: &[Issue],
@@ -209,7 +208,7 @@ fn tell_conflicts(
     Ok(tell(&all, 0, records, names, counts))
 }
 
-// The mappings of the refs of records, checked.
+// The mappings of the refs, validated.
 fn validated<'s>(
     alloc: Global,
     bytes: &[u8],
@@ -225,7 +224,7 @@ fn validated<'s>(
     outcome.validated(alloc)
 }
 
-// How telling ended, where this is its end.
+// The result of a call. `told` says whether the buffers were large enough.
 fn end_of(told: Result<bool, AllocError>, whole: MapEnd) -> Result<MapEnd, MapRefused>
     ensures { result ≡ end_of told whole }
 {
@@ -236,13 +235,13 @@ fn end_of(told: Result<bool, AllocError>, whole: MapEnd) -> Result<MapEnd, MapRe
     }
 }
 
-/// Maps refs by the refspecs of a text, which stand one on a line (git-fetch, "<refspec>"). The names of the refs stand in the
-/// bytes. The mappings go into the records, and after them the ones that were taken out, or the conflicts where there are any;
-/// their local names go into the buffer, one after another.
+/// Maps refs by refspecs, one per line of `text` (git-fetch, "<refspec>"). The names of the refs are spans of `bytes`. The records
+/// become the mappings, then the removed ones; or the conflicts, if there are any. The buffer `names` becomes their local names,
+/// one after another.
 ///
 /// # Errors
 ///
-/// Those of [`MapRefused`]: nothing is changed then.
+/// Those of [`MapRefused`]. Then nothing is changed.
 pub fn map_records(
     alloc: Global,
     bytes: &[u8],

@@ -1,4 +1,4 @@
-//! Packet lines by where they stand (gitprotocol-common, "pkt-line Format").
+//! Packet lines by offsets (gitprotocol-common, "pkt-line Format").
 ghost use Rattle.std.specs.Prelude.{◌≡◌, ◌≤◌, length};
 ghost use Rattle.std.specs.Io.BufRead.{strip_last};
 ghost use Rattle.std.specs.Prelude.{drop};
@@ -11,31 +11,31 @@ use crate::span::{Span, text_at};
 use gixp_packetline::laws::frames_are_grammar;
 use gixp_packetline::{MessageKind, PacketError, PacketLine, split_packet_line};
 
-/// Why no packet line comes next. What came before it is no part of it.
+/// The error of reading a packet line. Earlier packet lines are unaffected.
 #[derive(Clone, Copy, Debug, PartialEq, Eq)]
 pub enum PacketRefused {
-    /// The bytes end before the next packet line does.
+    /// The bytes end before the packet line does.
     Incomplete,
-    /// Four bytes begin no packet line.
+    /// The length of the packet line is invalid.
     Malformed(PacketError),
-    /// The server sent an error. Its words stand there, without one ending LF (gitprotocol-pack, "pkt-line Format").
+    /// The server sent an error. The span is its message without one trailing LF (gitprotocol-pack, "pkt-line Format").
     Server(Span),
-    /// A packet line without a payload at which readers don't stop.
+    /// A packet without a payload that isn't a stop.
     Unexpected,
-    /// A payload whose first byte is no band (gitprotocol-pack, "Packfile Data").
+    /// The first byte of a payload isn't a band (gitprotocol-pack, "Packfile Data").
     UnknownBand(u8),
 }
 
-// A packet line, and where the next one begins.
+// A packet line, and the offset after it.
 #[derive(Clone, Copy)]
 pub(crate) enum NextPacket {
-    // Its payload stands there.
+    // A payload, by its span.
     Line(Span, usize),
-    // It has none.
+    // A packet without a payload.
     Mark(MessageKind, usize),
 }
 
-// Whether a payload is an error of the server.
+// Whether a payload is an error message of the server.
 #[inline(always)]
 fn is_error(text: &[u8]) -> bool
     ensures { result ≡ is_error text.now }
@@ -43,7 +43,7 @@ fn is_error(text: &[u8]) -> bool
     text.starts_with(b"ERR ")
 }
 
-// How long a text is without one ending LF.
+// The span of a text without one trailing LF.
 #[inline(always)]
 pub(crate) fn without_line_end(bytes: &[u8], span: Span) -> Span
     requires { IsWithin bytes.now span }
@@ -59,7 +59,7 @@ pub(crate) fn without_line_end(bytes: &[u8], span: Span) -> Span
     }
 }
 
-// Where a text stands without its first bytes.
+// The span of a text without its first bytes.
 #[inline(always)]
 pub(crate) fn behind(bytes: &[u8], span: Span, amount: usize) -> Span
     requires within { IsWithin bytes.now span }
@@ -73,7 +73,7 @@ pub(crate) fn behind(bytes: &[u8], span: Span, amount: usize) -> Span
     }
 }
 
-// A packet line that was split off at a place.
+// The packet line that was split off at an offset.
 #[inline(always)]
 fn packet_of(
     bytes: &[u8],
@@ -101,7 +101,7 @@ fn packet_of(
     }
 }
 
-// The packet line that stands there.
+// The packet line at an offset.
 #[inline(always)]
 pub(crate) fn next_packet(bytes: &[u8], at: usize) -> Result<NextPacket, PacketRefused>
     requires { at ≤ length bytes.now }

@@ -1,11 +1,11 @@
-//! Where the pack begins in an answer to a fetch (gitprotocol-v2, "fetch"; gitprotocol-pack, "Packfile Negotiation").
+//! The offset of the pack in a response to a fetch (gitprotocol-v2, "fetch"; gitprotocol-pack, "Packfile Negotiation").
 ghost use Rattle.std.specs.Prelude.{◌≡◌, ◌≤◌, MatchResult, length};
 ghost use Rattle.gixp_records.specs.Place.{is_header, is_told, FollowsHeader, FollowsTold, RefusedFrom};
 
 use crate::packets::{NextPacket, PacketRefused, next_packet};
 use crate::span::text_at;
 
-// Whether it is the header in front of a pack.
+// Whether the line is the header `packfile`.
 #[inline(always)]
 fn is_header(line: &[u8]) -> bool
     ensures { result ≡ is_header line.now }
@@ -13,7 +13,7 @@ fn is_header(line: &[u8]) -> bool
     line.starts_with(b"packfile")
 }
 
-// Whether it is an acknowledgement, or an update of the boundary.
+// Whether the line is an acknowledgement or a shallow update.
 #[inline(always)]
 fn is_told(line: &[u8]) -> bool
     ensures { result ≡ is_told line.now }
@@ -24,11 +24,11 @@ fn is_told(line: &[u8]) -> bool
         || line.starts_with(b"unshallow ")
 }
 
-/// Where the pack begins in an answer of version 2: after its header `packfile`.
+/// The offset of the pack in a version 2 response: after the header `packfile`.
 ///
 /// # Errors
 ///
-/// Why there is no such header. `Incomplete` where it may be in bytes that aren't there yet.
+/// The error of a packet line before such a header. `Incomplete` if the header may follow after the end of `bytes`.
 pub fn behind_header(bytes: &[u8], from: usize) -> Result<usize, PacketRefused>
     requires { from ≤ length bytes.now }
     ensures { MatchResult result (FollowsHeader bytes.now from) (RefusedFrom bytes.now from) }
@@ -48,12 +48,11 @@ pub fn behind_header(bytes: &[u8], from: usize) -> Result<usize, PacketRefused>
     }
 }
 
-/// Where the pack begins in an answer of version 0 or 1: at the first line that is neither an acknowledgement nor an update of
-/// the boundary.
+/// The offset of the pack in a version 0 or 1 response: the first line that is neither an acknowledgement nor a shallow update.
 ///
 /// # Errors
 ///
-/// Why there is no such line. `Incomplete` where it may be in bytes that aren't there yet.
+/// The error of a packet line before such a line. `Incomplete` if the line may follow after the end of `bytes`.
 pub fn behind_told(bytes: &[u8], from: usize) -> Result<usize, PacketRefused>
     requires { from ≤ length bytes.now }
     ensures { MatchResult result (FollowsTold bytes.now from) (RefusedFrom bytes.now from) }

@@ -1,4 +1,4 @@
-//! The refs of an `ls-refs` answer as records (gitprotocol-v2, "ls-refs").
+//! The refs of an `ls-refs` response as records (gitprotocol-v2, "ls-refs").
 ghost use Rattle.std.specs.Prelude.{◌≡◌, ◌≤◌, MatchResult, Ok, IfOk, IfSome, length};
 ghost use Rattle.std.specs.Option.{option_map};
 ghost use Rattle.gixp_packetline.specs.declared.protocol.Protocol.TheVariants.{V2};
@@ -14,67 +14,66 @@ use crate::span::{Span, text_at};
 use gixp_hash::ObjectId;
 use gixp_packetline::MessageKind;
 
-/// A ref by numbers: its texts stand in the bytes that were handed in.
+/// A ref as numbers. Its texts are spans of the caller's bytes.
 #[repr(C)]
 #[derive(Clone, Copy, Debug, PartialEq, Eq)]
 pub struct RefRecord {
-    /// 1 for one that names an object, 2 for a tag with what it leads to, 3 for one that names another ref, 4 for such a one
-    /// whose object is a tag, 5 for one whose target isn't there yet.
+    /// 1 for a ref to an object, 2 for a ref to a tag, 3 for a symbolic ref, 4 for a symbolic ref whose object is a tag, 5 for a
+    /// symbolic ref whose target is unborn.
     pub kind: u32,
-    /// The object; of kinds 2 and 4 what the tag leads to; zeros of kind 5.
+    /// The object. Of kinds 2 and 4 the peeled object. Of kind 5 zeros.
     pub object: [u8; 20],
-    /// The tag, of kinds 2 and 4; else zeros.
+    /// The tag, of kinds 2 and 4. Otherwise zeros.
     pub tag: [u8; 20],
-    /// Its full name.
+    /// The full name.
     pub name: Span,
-    /// The name of its target, of kinds 3, 4 and 5.
+    /// The name of the target, of kinds 3, 4 and 5.
     pub target: Span,
 }
 
-/// Why no more refs were read.
+/// The error of reading an `ls-refs` response.
 #[derive(Clone, Copy, Debug, PartialEq, Eq)]
 pub enum RefsRefused {
-    /// No packet line comes next.
+    /// The packet line can't be read.
     Packet(PacketRefused),
-    /// The line that comes next stands for no ref.
+    /// The line is malformed.
     Line(LineRefused),
 }
 
-/// Why a call read no more refs.
+/// Why a call stopped reading refs.
 #[derive(Clone, Copy, Debug, PartialEq, Eq)]
 pub enum RefsEnd {
-    /// There is no more room: the next call goes on.
+    /// The records are full. The next call continues.
     Full,
-    /// The stop of the answer came, and the place is after it.
+    /// The stop of the response was read. `next` is the offset after it.
     Stop,
-    /// What stands at the place can't be read.
+    /// An error at the offset `next`.
     Refused(RefsRefused),
 }
 
-/// What a call read.
+/// The result of a call that reads refs.
 #[derive(Clone, Copy, Debug, PartialEq, Eq)]
 pub struct RefsFound {
-    /// How many records were written.
+    /// The number of records written.
     pub count: usize,
-    /// The place after what was read.
+    /// The offset after what was read.
     pub next: usize,
-    /// Why it read no more.
+    /// Why the call stopped.
     pub end: RefsEnd,
 }
 
-// What comes next.
 #[derive(Clone, Copy)]
 pub(crate) enum NextRef {
-    // A ref, and the place after it.
+    // A ref, and the offset after it.
     Ref(RefRecord, usize),
-    // A stop, and the place after it.
+    // A stop, and the offset after it.
     Stop(usize),
 }
 
-// Zeros where there is no id.
+// In place of a missing id.
 pub(crate) const NO_ID: [u8; 20] = [0; 20];
 
-// The target that is shown: `(null)` is none.
+// The target, unless it is `(null)`.
 #[inline(always)]
 fn shown(bytes: &[u8], target: Option<Span>) -> Option<Span>
     requires { IfSome target (IsWithin bytes.now) }
@@ -93,7 +92,7 @@ fn shown(bytes: &[u8], target: Option<Span>) -> Option<Span>
     }
 }
 
-// The record of a line that has an id.
+// The record of a line with an id.
 #[inline(always)]
 fn born(bytes: &[u8], object: ObjectId, name: Span, said: Said) -> RefRecord
     requires name { IsWithin bytes.now name }
@@ -141,7 +140,7 @@ fn born(bytes: &[u8], object: ObjectId, name: Span, said: Said) -> RefRecord
     }
 }
 
-// The record of a line that has none.
+// The record of a line without an id.
 #[inline(always)]
 fn unborn(bytes: &[u8], name: Span, said: Said) -> Result<RefRecord, LineRefused>
     requires name { IsWithin bytes.now name }
@@ -168,7 +167,6 @@ fn unborn(bytes: &[u8], name: Span, said: Said) -> Result<RefRecord, LineRefused
     }
 }
 
-// The record of a line.
 #[inline(always)]
 fn record_of(bytes: &[u8], line: LineRef) -> Result<RefRecord, LineRefused>
     requires { IsLineWithin bytes.now line }
@@ -182,7 +180,6 @@ fn record_of(bytes: &[u8], line: LineRef) -> Result<RefRecord, LineRefused>
     }
 }
 
-// The record of a payload.
 #[inline(always)]
 fn line_record(bytes: &[u8], payload: Span) -> Result<RefRecord, LineRefused>
     requires { IsWithin bytes.now payload }
@@ -196,7 +193,7 @@ fn line_record(bytes: &[u8], payload: Span) -> Result<RefRecord, LineRefused>
     }
 }
 
-// Whether a reader of version 2 stops there.
+// Whether a packet is a stop under version 2.
 #[inline(always)]
 fn is_stop(kind: MessageKind) -> bool
     ensures { result ≡ is_stop V2 kind }
@@ -204,7 +201,7 @@ fn is_stop(kind: MessageKind) -> bool
     matches!(kind, MessageKind::Flush | MessageKind::Delimiter)
 }
 
-// The ref of the line at this place.
+// The ref of the line at an offset.
 #[inline(always)]
 fn next_ref(bytes: &[u8], at: usize) -> Result<NextRef, RefsRefused>
     requires { at ≤ length bytes.now }
@@ -226,11 +223,11 @@ fn next_ref(bytes: &[u8], at: usize) -> Result<NextRef, RefsRefused>
     }
 }
 
-/// Reads refs of an `ls-refs` answer from this place on, as many as there is room for (gitprotocol-v2, "ls-refs"). It
-/// allocates nothing.
+/// Reads refs of an `ls-refs` response from an offset on, until the records are full (gitprotocol-v2, "ls-refs"). It allocates
+/// nothing.
 ///
-/// What can't be read stands at the place that is returned, and the refs before it are in the records. `Incomplete` comes
-/// where the answer goes on in bytes that aren't there yet. Records after those that were written are as they were.
+/// An error is at the offset `next`, and the records have the refs before it. The error is `Incomplete` if the response continues
+/// after the end of `bytes`. The other records are unchanged.
 pub fn read_refs(bytes: &[u8], from: usize, records: &mut [RefRecord]) -> RefsFound
     requires { from ≤ length bytes.now }
     ensures { ReadsRecords bytes.now from records.old result records.new }

@@ -1,4 +1,4 @@
-//! Texts by where they stand.
+//! Texts by offset and length.
 ghost use Rattle.std.specs.Prelude.{◌≡◌, ◌≤◌, IfSome};
 ghost use Rattle.std.specs.Option.{option_map};
 ghost use Rattle.gixp_capabilities.specs.Cut.{cut};
@@ -6,22 +6,21 @@ ghost use Rattle.gixp_records.specs.Span.{text_at, IsWithin};
 
 use gixp_capabilities::text::cut;
 
-/// Where a text stands in some bytes, and how long it is.
+/// A text, by its offset in some bytes and its length.
 #[repr(C)]
 #[derive(Clone, Copy, Debug, PartialEq, Eq)]
 pub struct Span {
-    /// How many bytes come before it.
+    /// The offset of its first byte.
     pub at: usize,
-    /// How many it has.
+    /// Its length in bytes.
     pub len: usize,
 }
 
 impl Span {
-    /// Where there is no text.
+    /// No text.
     pub const NONE: Span = Span { at: 0, len: 0 };
 }
 
-// The text that stands there.
 #[inline(always)]
 pub(crate) fn text_at(bytes: &[u8], span: Span) -> &[u8]
     requires { IsWithin bytes.now span }
@@ -30,7 +29,7 @@ pub(crate) fn text_at(bytes: &[u8], span: Span) -> &[u8]
     &bytes[span.at..span.at + span.len]
 }
 
-// Where the parts of a text stand, round the first such byte; all of it where there is none.
+// The spans before and after the first such byte. Without one, the whole text and `None`.
 #[inline(always)]
 pub(crate) fn cut_at(bytes: &[u8], span: Span, byte: u8) -> (Span, Option<Span>)
     requires { IsWithin bytes.now span }

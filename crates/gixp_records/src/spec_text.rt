@@ -1,4 +1,4 @@
-//! The refspecs of a text, one on a line (git-fetch, "<refspec>").
+//! The refspecs of a text, one per line (git-fetch, "<refspec>").
 ghost use Rattle.std.specs.Prelude.{◌≡◌, ◌++◌, IfOk, OnOk, map};
 ghost use Rattle.std.specs.List.{flat_map};
 ghost use Rattle.bstr.specs.BStr.{bstr_bytes};
@@ -15,10 +15,10 @@ use gixp_refspec::parse::{Error, Operation, parse};
 use gixp_text::text_lines;
 use std::alloc::{AllocError, AllocFailed, Global};
 
-/// Why a text has no refspecs.
+/// The error of reading refspecs.
 #[derive(Clone, Copy, Debug, Drop)]
 pub enum SpecsRefused {
-    /// Its first line that is no refspec.
+    /// The first line that isn't a valid refspec.
     Spec(Error),
     /// An allocation failed.
     Memory,
@@ -62,7 +62,6 @@ fn push_spec<'a>(line: BStr<'a>, specs: &mut Vec<RefSpecRef<'a>>) -> Result<(), 
     }
 }
 
-// The refspecs of lines.
 fn line_specs<'a>(alloc: Global, lines: &[BStr<'a>]) -> Result<Vec<RefSpecRef<'a>>, SpecsRefused>
     ensures { ReadsSpecLines (map bstr_bytes lines.now) result }
 {
@@ -76,11 +75,11 @@ fn line_specs<'a>(alloc: Global, lines: &[BStr<'a>]) -> Result<Vec<RefSpecRef<'a
     Ok(specs)
 }
 
-/// The refspecs of a text, one on each line; a line that is empty is none. They borrow the text.
+/// The refspecs of a text, one per line. Empty lines are skipped. The refspecs borrow the text.
 ///
 /// # Errors
 ///
-/// `Spec` for the first line that is no refspec, or `Memory`.
+/// `Spec` for the first line that isn't a valid refspec, or `Memory`.
 pub fn specs_in<'a>(alloc: Global, text: &'a [u8]) -> Result<Vec<RefSpecRef<'a>>, SpecsRefused>
     ensures { ReadsSpecLines (text_lines text.now) result }
 {
@@ -90,7 +89,6 @@ pub fn specs_in<'a>(alloc: Global, text: &'a [u8]) -> Result<Vec<RefSpecRef<'a>>
     }
 }
 
-// The prefixes of refspecs.
 fn prefixes_of(alloc: Global, specs: &[RefSpecRef<'_>]) -> Result<Vec<BString>, AllocError>
     ensures { IfOk result (λ found. texts found ≡ flat_map prefixes_of (map value_of specs.now)) }
 {
@@ -101,7 +99,7 @@ fn prefixes_of(alloc: Global, specs: &[RefSpecRef<'_>]) -> Result<Vec<BString>, 
     Ok(prefixes)
 }
 
-// Adds a line and its LF.
+// Adds a line and an LF.
 fn push_line(text: &mut Vec<u8>, line: &[u8]) -> Result<(), AllocError>
     ensures { OnOk result (text.new.items ≡ text.old.items ++ ended_line line.now) }
 {
@@ -109,7 +107,7 @@ fn push_line(text: &mut Vec<u8>, line: &[u8]) -> Result<(), AllocError>
     text.extend_from_slice(b"\n")
 }
 
-// These lines, each with an LF behind it.
+// The lines, each with an LF.
 fn text_of_lines(alloc: Global, lines: &[BString]) -> Result<Vec<u8>, AllocError>
     ensures { IfOk result (λ text. text.items ≡ flat_map ended_line (map bstring_bytes lines.now)) }
 {
@@ -120,8 +118,8 @@ fn text_of_lines(alloc: Global, lines: &[BString]) -> Result<Vec<u8>, AllocError
     Ok(text)
 }
 
-/// The prefixes that a server is asked for, for the refspecs of a text, which stand one on a line: of each refspec in turn, each
-/// with an LF after it (gitprotocol-v2, `ref-prefix`).
+/// The ref prefixes of the refspecs in a text, one refspec per line. The prefixes of each refspec in turn, each followed by an LF
+/// (gitprotocol-v2, `ref-prefix`).
 ///
 /// # Errors
 ///

@@ -4,35 +4,34 @@ ghost use Rattle.gixp_records.specs.Told.{told_value, local_bytes, local_names, 
 
 use crate::span::Span;
 
-/// A mapping, or one that was taken out, or a conflict.
+/// A mapping, a removed mapping, or a conflict.
 #[repr(C)]
 #[derive(Clone, Copy)]
 pub struct MappingRecord {
-    /// The place of the ref among the records; of a refspec that names an object, how many records there are. Of a conflict, how
-    /// many mappings go to the local name.
+    /// The index of the ref. If the source of a mapping is an object id, the number of refs. Of a conflict, the number of mappings
+    /// with this local name.
     pub item: usize,
-    /// The place of the refspec in the text, by refspecs; of one that was taken out and of a conflict, how many there are.
+    /// The index of the refspec. Of a removed mapping or a conflict, the number of refspecs.
     pub spec: usize,
-    /// 1 where there is a local name, else 0.
+    /// 1 if there is a local name, otherwise 0.
     pub has_local: u32,
-    /// The local name, in the buffer of names.
+    /// The span of the local name in the buffer of names.
     pub local: Span,
 }
 
-/// How much there is of each.
+/// The sizes of the result.
 #[repr(C)]
 #[derive(Clone, Copy)]
 pub struct MappedRecord {
-    /// How many mappings, or conflicts.
+    /// The number of mappings, or of conflicts.
     pub mappings: usize,
-    /// How many mappings were taken out, since their local name is neither `HEAD` nor begins with `refs/`. They come after the
-    /// others.
+    /// The number of removed mappings. Their local name isn't `HEAD` and doesn't begin with `refs/`. They follow the others.
     pub fixes: usize,
-    /// How many bytes their local names have together.
+    /// The length of all local names together, in bytes.
     pub names: usize,
 }
 
-// What a record is to tell.
+// The content of a record.
 #[derive(Clone, Copy)]
 pub(crate) struct Told<'a> {
     pub(crate) item: usize,
@@ -40,7 +39,7 @@ pub(crate) struct Told<'a> {
     pub(crate) local: Option<&'a [u8]>,
 }
 
-// The bytes of a local name, none where there is no name.
+// The local name, empty if there is none.
 fn local_bytes<'a>(told: Told<'a>) -> &'a [u8]
     ensures { result.now ≡ local_bytes (told_value told.entry) }
 {
@@ -50,7 +49,7 @@ fn local_bytes<'a>(told: Told<'a>) -> &'a [u8]
     }
 }
 
-// The record whose local name stands at this place of the buffer.
+// The record whose local name is at this offset of the buffer.
 fn record_at(told: Told<'_>, at: usize) -> MappingRecord
     ensures { result ≡ record_at at (told_value told.entry) }
 {
@@ -73,7 +72,7 @@ fn record_at(told: Told<'_>, at: usize) -> MappingRecord
     }
 }
 
-// Puts a name at its place.
+// Writes a name at an offset.
 fn put_name(names: &mut [u8], at: usize, name: &[u8])
     requires { at + length name.now ≤ length names.old }
     ensures { names.new ≡ take at names.old ++ name.now ++ drop (at + length name.now) names.old }
@@ -81,7 +80,7 @@ fn put_name(names: &mut [u8], at: usize, name: &[u8])
     names[at..at + name.len()].copy_from_slice(name);
 }
 
-// How many bytes the local names have, up to the greatest number.
+// The length of all local names, or the greatest number if that is less.
 fn names_len(all: &[Told<'_>]) -> usize
     ensures { result ≡ min (length (local_names (map told_value all.now))) (2 ^ 64 - 1) }
 {
@@ -92,7 +91,7 @@ fn names_len(all: &[Told<'_>]) -> usize
     len
 }
 
-// Writes all, for which there is room.
+// Writes all records and names. The buffers must be large enough.
 fn write_all(all: &[Told<'_>], records: &mut [MappingRecord], names: &mut [u8])
     requires records { length all.now ≤ length records.old }
     requires names { length (local_names (map told_value all.now)) ≤ length names.old }
@@ -109,7 +108,7 @@ fn write_all(all: &[Told<'_>], records: &mut [MappingRecord], names: &mut [u8])
     }
 }
 
-// How much there is to tell, of which the last are mappings that were taken out.
+// The sizes. The last `fixes` records are removed mappings.
 fn counts_of(all: &[Told<'_>], fixes: usize) -> MappedRecord
     ensures { result ≡ counts_of (map told_value all.now) fixes }
 {
@@ -120,7 +119,7 @@ fn counts_of(all: &[Told<'_>], fixes: usize) -> MappedRecord
     }
 }
 
-// Tells all, or how much room it needs.
+// Writes all records and names if the buffers are large enough. Writes the sizes in either case.
 pub(crate) fn tell(
     all: &[Told<'_>],
     fixes: usize,

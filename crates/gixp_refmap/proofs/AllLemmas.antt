@@ -28,14 +28,14 @@ use Rattle.gixp_refmap.proofs.ItemLemmas.{some_within}
 use Rattle.gixp_refmap.proofs.BackedLemmas.{all_filter}
 use Rattle.gixp_refmap.proofs.FoundLemmas.{ItemIsFirst, Good, found_are_good}
 
--- refs that were left out are names that were left out
+-- names of refs that were left out are left out
 leaves_names : (prefixes : List (List ℕ)) (refs all : List RefValue) → LeavesOutRefs prefixes refs all
     → LeavesOut prefixes (value_names refs) (value_names all)
 leaves_names prefixes refs [] h = ap value_names h
 leaves_names prefixes refs (r ∷ all) (inl h) = inl (h.0, leaves_names prefixes refs all h.1)
 leaves_names prefixes refs (r ∷ all) (inr h) = inr (value_names h.0, ap value_names h.1, leaves_names prefixes h.0 all h.2)
 
--- a ref that isn't covered has no name that is
+-- a ref that isn't covered has no covered name
 other_name : (prefixes : List (List ℕ)) (r : RefValue) (name : List ℕ) → is_covered prefixes (value_name r) ≡ false
     → is_covered prefixes name ≡ true → has_name name r ≡ false
 other_name prefixes r name out covered = elim (cases_Bool (has_name name r)) [
@@ -43,7 +43,7 @@ other_name prefixes r name out covered = elim (cases_Bool (has_name name r)) [
   | inr f ↦ f
 ]
 
--- the first ref of a covered name is the first of all
+-- the first ref with a covered name is the first of all
 same_first : (prefixes : List (List ℕ)) (refs all : List RefValue) (name : List ℕ) → LeavesOutRefs prefixes refs all
     → is_covered prefixes name ≡ true → find (has_name name) refs ≡ find (has_name name) all
 same_first prefixes refs [] name h covered = ap (find (has_name name)) h
@@ -56,7 +56,7 @@ same_first prefixes refs (r ∷ all) name (inr h) covered =
       | inr f ↦ rw f (same_first prefixes h.0 all name h.2 covered)
     ]
 
--- the same source of fewer refs and of all
+-- fewer refs and all refs have the same source
 same_remote : (specs : List Spec) (refs all : List RefValue) (s : SourceValue) (i j : Option ℕ) (x : Source)
     → ((name : List ℕ) → is_covered (all_prefixes specs) name ≡ true → find (has_name name) refs ≡ find (has_name name) all)
     → ItemIsFirst specs refs i s → ItemIsFirst specs all j s → IsRemote refs i s x → IsRemote all j s x
@@ -70,7 +70,7 @@ same_remote specs refs all (IdOf bytes) None (Some j) x same a b h = absurd b
 same_remote specs refs all (IdOf bytes) None None (the_id id) same a b h = h
 same_remote specs refs all (IdOf bytes) None None (the_ref r) same a b h = absurd h
 
--- the same mapping of fewer refs and of all
+-- fewer refs and all refs have the same mapping
 same_mapping : (specs : List Spec) (refs all : List RefValue) (count : ℕ) (m n : Mapped) (x : Mapping)
     → ((name : List ℕ) → is_covered (all_prefixes specs) name ≡ true → find (has_name name) refs ≡ find (has_name name) all)
     → without_item m ≡ without_item n → Good specs refs m → Good specs all n → IsMapping refs count m x → IsMapping all count n x
@@ -86,7 +86,7 @@ same_mapping specs refs all count m n x same e a b h =
       place = h.place ∙ ap (spec_place count) spec;
     }
 
--- the same mappings of fewer refs and of all
+-- fewer refs and all refs have the same mappings
 same_mappings : (specs : List Spec) (refs all : List RefValue) (count : ℕ)
     → ((name : List ℕ) → is_covered (all_prefixes specs) name ≡ true → find (has_name name) refs ≡ find (has_name name) all)
     → (ms ns : List Mapped) (xs : List Mapping) → map without_item ms ≡ map without_item ns → AllByRecursion (Good specs refs) ms
@@ -101,13 +101,13 @@ same_mappings specs refs all count same (m ∷ ms) (n ∷ ns) (x ∷ xs) e a b h
     let tail : map without_item ms ≡ map without_item ns = cc in
     (same_mapping specs refs all count m n x same head a.0 b.0 h.0, same_mappings specs refs all count same ms ns xs tail a.1 b.1 h.1)
 
--- the mappings that stay are good
+-- the mappings that stay have a covered first ref or an id
 pub kept_are_good : MappingsHaveOrigins → (specs : List Spec) (refs : List RefValue)
     → AllByRecursion (Good specs refs) (kept (found_in specs refs))
 unfolding kept
 kept_are_good law specs refs = all_filter (Good specs refs) (λ m. not (is_partial m)) (found_in specs refs) (found_are_good law specs refs)
 
--- an answer for fewer refs is one for all
+-- a result for fewer refs is one for all
 pub maps_all : (keeps : KeepsAnswers) (law : MappingsHaveOrigins) (specs : List Spec) (count : ℕ) (refs : List RefValue)
     (r : Result (Vec Mapping Global × Vec Fix Global) Error)
     → Maps specs count refs r → HoldsOfAll specs refs (λ all. Maps specs count all r)
@@ -126,7 +126,7 @@ maps_all keeps law specs count refs (Err Memory) h prefixes all covers out = tt
 maps_all keeps law specs count refs (Err (UnknownObjectFormat f)) h prefixes all covers out = h
 maps_all keeps law specs count refs (Err (ListRefs e)) h prefixes all covers out = h
 
--- a refspec of both lists is at its place
+-- a refspec of both lists has its index in its own list
 spec_is_there : (explicit extra : List RefSpec) (i : ℕ) → i < length (joined_specs explicit extra)
     → IsSome (spec_at (spec_place (length explicit) i) explicit extra)
 spec_is_there explicit extra i l = elim (cases_Bool (nat_lt i (length explicit))) [
@@ -138,7 +138,7 @@ spec_is_there explicit extra i l = elim (cases_Bool (nat_lt i (length explicit))
       grind (arith, nat_tests)))
 ]
 
--- each mapping names a refspec that is there
+-- the refspec of each mapping exists
 specs_are_there : (explicit extra : List RefSpec) (refs : List RefValue) (ms : List Mapped) (xs : List Mapping)
     → AllByRecursion (Good (joined_specs explicit extra) refs) ms
     → AllZip (IsMapping refs (length explicit)) ms xs → AllByRecursion (λ x. IsSome (spec_at x.spec_index explicit extra)) xs
@@ -149,7 +149,7 @@ specs_are_there explicit extra refs (m ∷ ms) (x ∷ xs) a h =
     let P : SpecIndex → Type 0 = λ i. IsSome (spec_at i explicit extra) in
     (subst P (sym h.0.place) (spec_is_there explicit extra m.spec a.0.place), specs_are_there explicit extra refs ms xs a.1 h.1)
 
--- the same of an answer
+-- the refspec of each mapping of a result exists
 pub answer_is_there : MappingsHaveOrigins → (explicit extra : List RefSpec) (refs : List RefValue)
     (r : Result (Vec Mapping Global × Vec Fix Global) Error) → Maps (joined_specs explicit extra) (length explicit) refs r
     → IfOk r (λ found. AllByRecursion (λ x. IsSome (spec_at x.spec_index explicit extra)) found.0.items)

@@ -1,4 +1,4 @@
--- Which mappings are the first of equal ones reads nothing of the places of the refs.
+-- The first of equal mappings don't depend on the indices of the refs.
 use Rattle.std.proofs.Common.{◌≡◌, List, [], ◌∷◌, ◌++◌, map, ap, sym, ◌∙◌, refl}
 use Rattle.std.specs.Prelude.{not}
 use Rattle.std.proofs.lemmas.List.{map-append, map-id}
@@ -8,7 +8,7 @@ use Rattle.gixp_matching.specs.Leaving.{without_item}
 use Rattle.gixp_matching.proofs.FirstLemmas.{values_from_flags}
 use Rattle.gixp_packetline.proofs.ListLemmas.{any_of_map}
 
--- the flags of the first ones, without the places
+-- the flags of the first ones, without the indices
 pub flags_of_bare : (earlier ms : List Mapped) → first_flags (map without_item earlier) (map without_item ms) ≡ first_flags earlier ms
 flags_of_bare earlier [] = refl
 flags_of_bare earlier (m ∷ ms) =

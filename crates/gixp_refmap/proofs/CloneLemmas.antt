@@ -1,4 +1,4 @@
--- Clones of the items of a list are its items, as plain data.
+-- Clones of the items of a list are equal to its items as plain data.
 use Rattle.std.proofs.Common.{◌≡◌, ℕ, ◌+◌, ◌<◌, List, [], ◌∷◌, ◌++◌, length, take, map, get_or, refl, ap, sym, ◌∙◌}
 use Rattle.std.specs.List.{AllZip}
 use Rattle.gixp_packetline.proofs.ListLemmas.{appended_more}
@@ -9,7 +9,7 @@ same_values f [] (y ∷ ys) h = absurd h
 same_values f (x ∷ xs) [] h = absurd h
 same_values f (x ∷ xs) (y ∷ ys) h = rw (h.0, same_values f xs ys h.1) refl
 
--- one clone more
+-- one more clone
 pub copied_more : {A B : Type 0} (f : A → B) (now new : List B) (xs zs : List A) (i : ℕ) (x : A) (y : B) → zs ≡ xs → x ≡ get_or zs i x
     → i < length zs
     → now ≡ take i (map f xs) → new ≡ now ++ y ∷ [] → y ≡ f x → new ≡ take (i + 1) (map f xs)

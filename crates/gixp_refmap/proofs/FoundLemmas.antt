@@ -1,4 +1,4 @@
--- A mapping takes the first ref of its name, whose name a prefix covers.
+-- A mapping has the first ref with its name, which a prefix covers.
 use Rattle.std.proofs.Common.{◌≡◌, ℕ, ◌+◌, ◌<◌, Bool, true, nat_eq, zero, suc, List, [], ◌∷◌, Option, Some, None, inl, inr, length, ap, ◌∙◌, refl, arith}
 use Rattle.std.specs.Prelude.{find}
 use Rattle.std.specs.List.{slice_get, position_from, starts_with, AllByRecursion}
@@ -14,19 +14,19 @@ use Rattle.gixp_matching.specs.Leaving.{all_prefixes}
 use Rattle.gixp_matching.specs.RefspecLaws.{IsTakenBy, HasOrigin, MappingsHaveOrigins}
 use Rattle.gixp_refmap.specs.Mapping.{value_name, value_names, has_name, found_in}
 
--- the source of a mapping: the first ref of its name, which is covered, or an id
+-- the source of a mapping: the first ref with its name, which is covered, or an id
 abbrev pub ItemIsFirst : List Spec → List RefValue → Option ℕ → Source → Type 0
 ItemIsFirst specs refs (Some i) (FullName name) =
     (r : RefValue) × (slice_get refs i ≡ Some r) × (find (has_name name) refs ≡ Some r) × (is_covered (all_prefixes specs) name ≡ true)
 ItemIsFirst specs refs None (ObjectId bytes) = Unit {0}
 ItemIsFirst specs refs _ _ = ⊥
 
--- a mapping of one of the refspecs that takes such a source
+-- a mapping of one of the refspecs with such a source
 pub record Good (specs : List Spec) (refs : List RefValue) (m : Mapped) : Type 0 where
   pub place : m.spec < length specs
   pub item : ItemIsFirst specs refs m.item m.source
 
--- the first ref that passes, and its place
+-- the first ref that passes, with its index
 record Found (p : List ℕ → Bool) (refs : List RefValue) (k i : ℕ) : Type 0 where
   pub at : ℕ
   pub place : i ≡ k + at
@@ -37,7 +37,7 @@ record Found (p : List ℕ → Bool) (refs : List RefValue) (k i : ℕ) : Type 0
 some_is : (a b : ℕ) → Some a ≡ Some b → b ≡ a
 some_is a b e = cc
 
--- the place of a name is the place of a ref
+-- the index of a name is the index of a ref
 found_at : (p : List ℕ → Bool) (refs : List RefValue) (k i : ℕ) → position_from p k (value_names refs) ≡ Some i → Found p refs k i
 found_at p [] k i e = cc
 found_at p (r ∷ refs) k i e = elim (cases_Bool (p (value_name r))) [
@@ -50,7 +50,7 @@ found_at p (r ∷ refs) k i e = elim (cases_Bool (p (value_name r))) [
       record { at = suc rest.at; place = rest.place ∙ omega arith; ref = rest.ref; there = rest.there; first = rw f rest.first })
 ]
 
--- what a prefix of one refspec covers is covered by those of all
+-- a name that a prefix of one refspec covers is covered by the prefixes of all
 covered_by_all : (specs : List Spec) (j : ℕ) (s : Spec) (name : List ℕ) → slice_get specs j ≡ Some s
     → is_covered (prefixes_of s) name ≡ true → is_covered (all_prefixes specs) name ≡ true
 covered_by_all [] j s name e h = cc
@@ -62,7 +62,7 @@ covered_by_all (first ∷ specs) (suc j) s name e h =
     list_any-append (λ prefix. starts_with nat_eq name prefix) (prefixes_of first) (all_prefixes specs)
     ∙ or_right _ _ (covered_by_all specs j s name e h)
 
--- what is taken of names is taken of refs
+-- a source by names is a source by refs
 taken_of_refs : (specs : List Spec) (refs : List RefValue) (j : ℕ) (s : Spec) (item : Option ℕ) (source : Source)
     → slice_get specs j ≡ Some s → IsTakenBy s (value_names refs) item source → ItemIsFirst specs refs item source
 taken_of_refs specs refs j s (Some i) (FullName name) e h =
@@ -73,7 +73,7 @@ taken_of_refs specs refs j s (Some i) (ObjectId bytes) e h = absurd h
 taken_of_refs specs refs j s None (FullName name) e h = absurd h
 taken_of_refs specs refs j s None (ObjectId bytes) e h = tt
 
--- the same of each mapping
+-- the source of each mapping by refs
 good_of_origins : (specs : List Spec) (refs : List RefValue) (ms : List Mapped) → AllByRecursion (HasOrigin specs (value_names refs)) ms
     → AllByRecursion (Good specs refs) ms
 good_of_origins specs refs [] h = tt
@@ -85,7 +85,7 @@ good_of_origins specs refs (m ∷ ms) h = (
   good_of_origins specs refs ms h.1,
 )
 
--- each mapping is of one of the refspecs, and takes an id or the first ref of its name
+-- each mapping belongs to one of the refspecs, and has an id or the first ref with its name
 pub found_are_good : MappingsHaveOrigins → (specs : List Spec) (refs : List RefValue)
     → AllByRecursion (Good specs refs) (found_in specs refs)
 found_are_good law specs refs = good_of_origins specs refs (found_in specs refs) (law specs (value_names refs))

@@ -1,4 +1,4 @@
--- Texts as the keys of a set in order of first sight.
+-- Texts as the keys of a set in insertion order.
 use Rattle.std.proofs.Common.{◌≡◌, ℕ, Bool, true, false, List, [], ◌∷◌, ◌++◌, map, refl, sym, ◌∙◌}
 use Rattle.std.specs.Bool.{one_answer, if◌then◌else◌}
 use Rattle.std.specs.List.{list_any}
@@ -10,7 +10,6 @@ use Rattle.bstr.specs.Owned.{bstring_bytes}
 use Rattle.indexmap.specs.IndexSet.{insert_key}
 use Rattle.gixp_refmap.specs.Prefixes.{is_among, with_text}
 
--- two texts are equal in either order
 turned : (a b : List ℕ) → bytes_eq a b ≡ bytes_eq b a
 turned a b =
     let d = bytes_eq-Decides a b in
@@ -24,7 +23,6 @@ pub among_keys : (eq : BString → BString → Bool) → ((a b : BString) → eq
 among_keys eq same [] key = refl
 among_keys eq same (k ∷ ks) key = rw (same key k, turned (bstring_bytes key) (bstring_bytes k), among_keys eq same ks key) refl
 
--- a key after others, unless it is there
 kept_or_behind : (b : Bool) (keys : List BString) (key : BString)
     → map bstring_bytes (if b then keys else keys ++ key ∷ [])
     ≡ (if b then map bstring_bytes keys else map bstring_bytes keys ++ bstring_bytes key ∷ [])

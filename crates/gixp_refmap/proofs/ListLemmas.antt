@@ -1,9 +1,8 @@
--- Lists.
 use Rattle.std.proofs.Common.{◌≡◌, ℕ, ◌+◌, ◌<◌, List, [], ◌∷◌, ◌++◌, length, take, drop, map, set, get_or, ap, sym, ◌∙◌, refl, arith}
 use Rattle.std.proofs.lemmas.List.{append_assoc, drop_more, get_or_at, length-map, length-take-le, map-append, set_at, take_more}
 use Rattle.gixp_packetline.proofs.ListLemmas.{take-map_more}
 
--- a step of a loop that appends what it makes of each element
+-- a step of a loop that appends the result for each element
 pub mapped_more : {A B C : Type 0} (h : A → B) (g : B → C) (now new : List C) (xs : List A) (i : ℕ) (x : A) → x ≡ get_or xs i x
     → i < length xs
     → now ≡ map g (take i (map h xs)) → new ≡ now ++ g (h x) ∷ [] → new ≡ map g (take (i + 1) (map h xs))
@@ -13,14 +12,13 @@ mapped_more h g now new xs i x e l kept step =
     ∙ sym (map-append g front (h (get_or xs i x) ∷ []))
     ∙ ap (map g) (sym (take-map_more h xs i x l))
 
--- the same of one function
+-- a step of a loop that appends the result for each element, without a mapping of the elements
 pub mapped_one : {A B : Type 0} (g : A → B) (now new : List B) (xs : List A) (i : ℕ) (x : A) → x ≡ get_or xs i x → i < length xs
     → now ≡ map g (take i xs) → new ≡ now ++ g x ∷ [] → new ≡ map g (take (i + 1) xs)
 mapped_one g now new xs i x e l kept step =
     step ∙ ap (λ y. now ++ g y ∷ []) e ∙ ap (λ z. z ++ g (get_or xs i x) ∷ []) kept
     ∙ sym (map-append g (take i xs) (get_or xs i x ∷ [])) ∙ ap (map g) (sym (take_more xs i x l))
 
--- two functions after one another
 pub map_of_map : {A B C : Type 0} (g : B → C) (h : A → B) (xs : List A) → map g (map h xs) ≡ map (λ x. g (h x)) xs
 map_of_map g h [] = refl
 map_of_map g h (x ∷ xs) = ap (λ ys. g (h x) ∷ ys) (map_of_map g h xs)

@@ -1,4 +1,4 @@
--- Mappings that one refspec alone makes of refs.
+-- The mappings of refs by a single refspec.
 use Rattle.std.proofs.Common.{◌≡◌, ℕ, ◌+◌, List, [], ◌∷◌, ◌++◌, Option, Some, None, length, map, reverse, refl, ap, sym, ◌∙◌, subst}
 use Rattle.std.specs.Prelude.{option_to_list}
 use Rattle.std.specs.List.{slice_get, AllZip, flat_map, enumerate_from}
@@ -12,7 +12,6 @@ use Rattle.gixp_refmap.specs.Made.{IsUnplaced}
 use Rattle.gixp_refmap.proofs.ItemLemmas.{reversed_front}
 use Rattle.gixp_refmap.proofs.UnplacedLemmas.{name_of_value}
 
--- pairs before other pairs
 zip_join : {A B : Type 0} (R : A → B → Type 0) (xs more : List A) (ys others : List B) → AllZip R xs ys → AllZip R more others
     → AllZip R (xs ++ more) (ys ++ others)
 zip_join R [] more [] others h g = g
@@ -20,22 +19,20 @@ zip_join R [] more (y ∷ ys) others h g = absurd h
 zip_join R (x ∷ xs) more [] others h g = absurd h
 zip_join R (x ∷ xs) more (y ∷ ys) others h g = (h.0, zip_join R xs more ys others h.1 g)
 
--- a list that grew by one element at most, from its end
 reversed_grown : {A : Type 0} (more made : List A) (one : Option A) → more ≡ made ++ option_to_list one
     → reverse more ≡ option_to_list one ++ reverse made
 reversed_grown more made None e = ap reverse (e ∙ append-nil made)
 reversed_grown more made (Some x) e = reversed_front more made x e
 
--- the element between two parts
 between : {A B : Type 0} (f : A → B) (front back : List A) (x : A) → slice_get (map f (front ++ x ∷ back)) (length front) ≡ Some (f x)
 between f [] back x = refl
 between f (y ∷ front) back x = between f front back x
 
--- the refs with one that was taken
+-- one more ref was taken
 pub taken_more : (all before after gone : List Ref) (r : Ref) → all ≡ before ++ gone → before ≡ after ++ r ∷ [] → all ≡ after ++ r ∷ gone
 taken_more all before after gone r e split = e ∙ ap (λ rs. rs ++ gone) split ∙ append_assoc after (r ∷ []) gone
 
--- the mappings with that of one ref more, which stands before those that were compared
+-- the mappings with the one of one more ref, which comes before those that were compared
 pub compared_more : (pairs : ℕ × List ℕ → List Mapped) (all before after gone : List Ref) (r : Ref) (one : Option Mapping)
     (made more : List Mapping) → all ≡ before ++ gone → before ≡ after ++ r ∷ [] → more ≡ made ++ option_to_list one
     → ((i : ℕ) → slice_get (map ref_value all) i ≡ Some (ref_value r)

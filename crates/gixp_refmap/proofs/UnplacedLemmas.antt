@@ -1,4 +1,4 @@
--- From what is made of places to the mappings of a ref map.
+-- From mappings that are made from places to the mappings of a ref map.
 use Rattle.std.proofs.Common.{◌≡◌, ℕ, ◌≤◌, arith, Bool, true, false, List, [], ◌∷◌, Option, Some, None, length, map, refl, ap, sym, ◌∙◌, subst, Vec, Result, Ok, Err}
 use Rattle.std.specs.Prelude.{IsSome, filter, not}
 use Rattle.std.specs.List.{slice_get, AllZip, AllByRecursion}
@@ -34,7 +34,7 @@ use Rattle.gixp_refmap.proofs.FoundLemmas.{Good}
 use Rattle.gixp_matching.proofs.SameValidationLemmas.{conflicts_of_bare, fixes_of_bare}
 use Rattle.gixp_refmap.proofs.BareLemmas.{flags_of_bare, firsts_by_flags}
 
--- where the source is told by its place, the place is there
+-- a source by its place is valid
 item_is_there : (specs : List Spec) (names : List (List ℕ)) (item : Option ℕ) (s : ℕ) (source : SourceValue)
     → IsSourceAt specs names item s source → IsItemThere (length names) specs item s
 item_is_there specs names (Some i) s (FullName name) h = slice_get_within names i name h
@@ -42,7 +42,7 @@ item_is_there specs names (Some i) s (IdOf id) h = absurd h
 item_is_there specs names None s (FullName name) h = absurd h
 item_is_there specs names None s (IdOf id) h = let P : Option (List ℕ) → Type 0 = λ o. IsSome o in subst P (sym h) refl
 
--- the places of mappings that follow from them are there
+-- the places of mappings are valid
 all_there : (specs : List Spec) (names : List (List ℕ)) (ps : List Place) (ms : List Mapped) → map place_value ps ≡ map place_of ms
     → AllByRecursion (FollowsFromPlace specs names) ms → AllByRecursion (IsThere (length names) specs) ps
 all_there specs names [] ms e h = tt
@@ -56,7 +56,7 @@ all_there specs names (p ∷ ps) (m ∷ ms) e h =
     let rest : map place_value ps ≡ map place_of ms = cc in
     (subst Q spec (subst P item (item_is_there specs names m.item m.spec m.source h.0.source)), all_there specs names ps ms rest h.1)
 
--- the same of the names of refs
+-- the places of mappings of refs are valid
 pub places_are_there : (specs : List Spec) (refs : List Ref) (ps : List Place) (ms : List Mapped)
     → map place_value ps ≡ map place_of ms → AllByRecursion (FollowsFromPlace specs (value_names (map ref_value refs))) ms
     → AllByRecursion (IsThere (length refs) specs) ps
@@ -66,7 +66,6 @@ places_are_there specs refs ps ms e h =
     let P : ℕ → Type 0 = λ n. AllByRecursion (IsThere n specs) ps in
     subst P l (all_there specs names ps ms e h)
 
--- the name of a ref
 pub name_of_value : (r : Ref) → unpacked_name r ≡ value_name (ref_value r)
 name_of_value (Peeled name tag object) = refl
 name_of_value (Direct name object) = refl
@@ -74,7 +73,7 @@ name_of_value (Symbolic name target None object) = refl
 name_of_value (Symbolic name target (Some tag) object) = refl
 name_of_value (Unborn name target) = refl
 
--- a name that is told by a place is that of the ref there
+-- a name by its index is the name of the ref at it
 name_there : (refs : List RefValue) (i : ℕ) (name : List ℕ) (r : Ref) → slice_get (value_names refs) i ≡ Some name
     → slice_get refs i ≡ Some (ref_value r) → unpacked_name r ≡ name
 name_there refs i name r h t =
@@ -82,7 +81,7 @@ name_there refs i name r h t =
     let same : value_name (ref_value r) ≡ name = cc in
     name_of_value r ∙ same
 
--- what is taken by a place is what the mapping takes
+-- the source at a place is the source of the mapping
 remote_of : (specs : List Spec) (refs : List RefValue) (item : Option ℕ) (s : ℕ) (source : SourceValue) (x : Source)
     → IsSourceAt specs (value_names refs) item s source → IsTakenByPlace refs specs item s x
     → IsRemote refs item source x × (taken_from x ≡ source)
@@ -93,7 +92,7 @@ remote_of specs refs None s (FullName name) x h t = absurd h
 remote_of specs refs None s (IdOf bytes) (the_ref r) h t = absurd t
 remote_of specs refs None s (IdOf bytes) (the_id id) h t = let same : id.bytes ≡ bytes = cc in (same, ap IdOf same)
 
--- what is made of a place is the mapping of that place
+-- the mapping at a place
 unplaced_of : (specs : List Spec) (refs : List RefValue) (p : Place) (m : Mapped) (x : Mapping) → p.item_index ≡ m.item
     → p.spec_index ≡ m.spec → FollowsFromPlace specs (value_names refs) m → IsMade refs specs p x → IsUnplaced refs m x
 unplaced_of specs refs p m x item spec f h =
@@ -108,7 +107,7 @@ unplaced_of specs refs p m x item spec f h =
       place = h.place ∙ ap SpecIndex.ExplicitInRemote spec;
     }
 
--- the same of lists
+-- the mappings at places
 pub unplaced_of_places : (specs : List Spec) (refs : List RefValue) (ps : List Place) (ms : List Mapped) (xs : List Mapping)
     → map place_value ps ≡ map place_of ms → AllByRecursion (FollowsFromPlace specs (value_names refs)) ms
     → AllZip (IsMade refs specs) ps xs → AllZip (IsUnplaced refs) ms xs
@@ -123,7 +122,7 @@ unplaced_of_places specs refs (p ∷ ps) (m ∷ ms) (x ∷ xs) e f h =
     let rest : map place_value ps ≡ map place_of ms = cc in
     (unplaced_of specs refs p m x item spec f.0 h.0, unplaced_of_places specs refs ps ms xs rest f.1 h.1)
 
--- what matching reads of a mapping is all but the place of the ref
+-- matching reads all of a mapping but the index of the ref
 bare_one : (refs : List RefValue) (m : Mapped) (x : Mapping) → IsUnplaced refs m x → matched x ≡ without_item m
 bare_one refs m x h =
     let spec : place_number x.spec_index ≡ m.spec = ap place_number h.place in
@@ -137,7 +136,6 @@ bare_of refs (m ∷ ms) [] h = absurd h
 bare_of refs (m ∷ ms) (x ∷ xs) h =
     ap (λ y. y ∷ map matched xs) (bare_one refs m x h.0) ∙ ap (λ ys. without_item m ∷ ys) (bare_of refs ms xs h.1)
 
--- pairs of which some are flagged
 zip_flagged : {A B : Type 0} (R : A → B → Type 0) (xs : List A) (ys : List B) (flags : List Bool) → AllZip R xs ys
     → AllZip R (flagged xs flags) (flagged ys flags)
 zip_flagged R [] [] flags h = tt
@@ -147,7 +145,7 @@ zip_flagged R (x ∷ xs) (y ∷ ys) [] h = tt
 zip_flagged R (x ∷ xs) (y ∷ ys) (true ∷ flags) h = (h.0, zip_flagged R xs ys flags h.1)
 zip_flagged R (x ∷ xs) (y ∷ ys) (false ∷ flags) h = zip_flagged R xs ys flags h.1
 
--- of equal mappings the first
+-- the first of equal mappings
 firsts_unplaced : (refs : List RefValue) (ms : List Mapped) (xs ys : List Mapping) → AllZip (IsUnplaced refs) ms xs
     → ys ≡ flagged xs (first_flags [] (map matched xs)) → AllZip (IsUnplaced refs) (firsts ms) ys
 firsts_unplaced refs ms xs ys h e =
@@ -156,7 +154,7 @@ firsts_unplaced refs ms xs ys h e =
     let Q : List Mapped → Type 0 = λ ns. AllZip (IsUnplaced refs) ns (flagged xs (first_flags [] ms)) in
     subst P (sym (e ∙ ap (flagged xs) flags)) (subst Q (firsts_by_flags ms) (zip_flagged (IsUnplaced refs) ms xs (first_flags [] ms) h))
 
--- the mappings that stay, one more
+-- one more mapping that stays
 kept_more : (refs : List RefValue) (m : Mapped) (x : Mapping) (ms : List Mapped) (xs : List Mapping) (b : Bool)
     → not (is_partial m) ≡ b → not (is_partial (matched x)) ≡ b → IsUnplaced refs m x
     → AllZip (IsUnplaced refs) (filter (λ n. not (is_partial n)) ms) (filter (λ y. not (is_partial (matched y))) xs)
@@ -174,7 +172,7 @@ kept_unplaced refs (m ∷ ms) [] h = absurd h
 kept_unplaced refs (m ∷ ms) (x ∷ xs) h =
     kept_more refs m x ms xs (not (is_partial m)) refl (ap (λ l. not (is_partial_local l)) h.0.local) h.0 (kept_unplaced refs ms xs h.1)
 
--- each with its refspec's place in its own list
+-- each mapping with the index of its refspec in its own list
 placed_in_lists : (refs : List RefValue) (count : ℕ) (ms : List Mapped) (xs : List Mapping) → AllZip (IsUnplaced refs) ms xs
     → AllZip (IsMapping refs count) ms (map (in_its_list count) xs)
 placed_in_lists refs count [] [] h = tt
@@ -189,7 +187,7 @@ placed_in_lists refs count (m ∷ ms) (x ∷ xs) h = (
   placed_in_lists refs count ms xs h.1,
 )
 
--- where all refspecs are explicit, each has its place in its own list already
+-- where all refspecs are explicit, each has its index in its own list already
 explicit_alone : (specs : List Spec) (refs : List RefValue) (count : ℕ) → length specs ≤ count → (ms : List Mapped) (xs : List Mapping)
     → AllByRecursion (Good specs refs) ms → AllZip (IsUnplaced refs) ms xs → AllZip (IsMapping refs count) ms xs
 explicit_alone specs refs count l [] [] g h = tt
@@ -204,7 +202,7 @@ explicit_alone specs refs count l (m ∷ ms) (x ∷ xs) g h = (
   explicit_alone specs refs count l ms xs g.1 h.1,
 )
 
--- what stays of the first ones after a validation
+-- the first ones that stay after a validation
 stay_unplaced : (specs : List Spec) (refs : List RefValue) (xs ys : List Mapping) (kept_ones : Vec Mapping Global)
     (notes : Vec Fix Global) → ys ≡ flagged xs (first_flags [] (map matched xs))
     → ValidatesAs matched specs ys (Ok (kept_ones, notes)) → AllZip (IsUnplaced refs) (repeated specs (value_names refs)) xs
@@ -213,7 +211,7 @@ stay_unplaced specs refs xs ys kept_ones notes e v h =
     let P : List Mapping → Type 0 = λ zs. AllZip (IsUnplaced refs) (kept (found_in specs refs)) zs in
     subst P (sym v.1) (kept_unplaced refs (found_in specs refs) ys (firsts_unplaced refs (repeated specs (value_names refs)) xs ys h e))
 
--- what a validation of the first ones answers, whatever was done with the places of refspecs then
+-- the result of a validation of the first ones, whatever the indices of the refspecs become then
 maps_of_placed : (specs : List Spec) (count : ℕ) (refs : List RefValue) (xs ys : List Mapping) (kept_ones answer : Vec Mapping Global)
     (notes : Vec Fix Global) → ys ≡ flagged xs (first_flags [] (map matched xs))
     → ValidatesAs matched specs ys (Ok (kept_ones, notes)) → AllZip (IsUnplaced refs) (repeated specs (value_names refs)) xs
@@ -226,7 +224,7 @@ maps_of_placed specs count refs xs ys kept_ones answer notes e v h placed =
       v.2 ∙ ap (fixes specs) bare ∙ fixes_of_bare specs found,
     )
 
--- each got the place in its own list
+-- each refspec has the index in its own list
 pub maps_of_kept : (specs : List Spec) (count : ℕ) (refs : List RefValue) (xs ys : List Mapping) (kept_ones answer : Vec Mapping Global)
     (notes : Vec Fix Global) → ys ≡ flagged xs (first_flags [] (map matched xs))
     → ValidatesAs matched specs ys (Ok (kept_ones, notes)) → answer.items ≡ map (in_its_list count) kept_ones.items
@@ -247,7 +245,7 @@ maps_of_explicit law specs count refs xs ys kept_ones notes e v l h =
     (explicit_alone specs refs count l (kept (found_in specs refs)) kept_ones.items (kept_are_good law specs refs)
     (stay_unplaced specs refs xs ys kept_ones notes e v h))
 
--- the same of conflicts
+-- the conflicts are the error
 pub maps_of_conflicts : (specs : List Spec) (count : ℕ) (refs : List RefValue) (xs ys : List Mapping) (error : ValidationError)
     → ys ≡ flagged xs (first_flags [] (map matched xs)) → ValidatesAs matched specs ys (Err error)
     → AllZip (IsUnplaced refs) (repeated specs (value_names refs)) xs → Maps specs count refs (Err (MappingValidation error))
@@ -257,7 +255,7 @@ maps_of_conflicts specs count refs xs ys error e v h =
     let same : conflicts specs (map matched ys) ≡ conflicts specs found = ap (conflicts specs) bare ∙ conflicts_of_bare specs found in
     (λ none. v.0 (same ∙ none), v.1 ∙ same)
 
--- what is told of all mappings is told of the refs
+-- a result for all mappings is a result for the refs
 pub maps_of_unplaced : (specs known told : List Spec) (count : ℕ) (refs : List RefValue) (xs : List Mapping)
     (r : Result (Vec Mapping Global × Vec Fix Global) Error) → known ≡ specs → told ≡ specs
     → AllZip (IsUnplaced refs) (repeated known (value_names refs)) xs
@@ -268,7 +266,7 @@ maps_of_unplaced specs known told count refs xs r e d made answers =
     let Q : List Spec → Type 0 = λ s. Maps s count refs r in
     subst Q d (answers refs (subst P (e ∙ sym d) made))
 
--- the same of what was made of all places
+-- a result for mappings from all places is a result for the refs
 pub maps_of_places : (specs known told : List Spec) (count : ℕ) (refs : List RefValue) (ps : List Place) (xs : List Mapping)
     (r : Result (Vec Mapping Global × Vec Fix Global) Error) → known ≡ specs → told ≡ specs
     → map place_value ps ≡ map place_of (repeated known (value_names refs))

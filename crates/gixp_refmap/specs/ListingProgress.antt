@@ -1,4 +1,4 @@
--- What a progress reporter is told of a listing.
+-- The calls of a progress reporter during a listing.
 use Rattle.std.specs.Prelude.{◌≡◌, ◌⊎◌, List, [], ◌∷◌, codes, Result, Ok, Err}
 use Rattle.gixp_progress.specs.Progress.{ProgressCall, step, set_name, ToldCalls}
 use Rattle.gixp_refmap.specs.declared.ls_refs.error.Error.{Error as ListError}
@@ -11,7 +11,8 @@ abbrev pub listing_calls : List ProgressCall
 listing_calls = step ∷ set_name (codes "list refs") ∷ []
 
 module _ {P : Type 0} (told : P → ProgressCall → P → Type 0) where
-  -- these calls were made, but where the server doesn't offer what is asked for; an allocation may fail before them and after them
+  -- these calls were made, unless the server doesn't offer what the command requests; an allocation may fail before
+  -- and after them
   abbrev pub TellsListing : {X : Type 0} → P → Result X ListError → P → Type 0
   TellsListing old (Ok refs) new = ToldCalls told old listing_calls new
   TellsListing old (Err (list.Io kind)) new = ToldCalls told old listing_calls new
@@ -20,7 +21,7 @@ module _ {P : Type 0} (told : P → ProgressCall → P → Type 0) where
   TellsListing old (Err (list.ArgumentValidation e)) new = new ≡ old
   TellsListing old (Err list.Memory) new = (new ≡ old) ⊎ ToldCalls told old listing_calls new
 
-  -- the same of a ref map of what is listed
+  -- the same for a ref map of the listed refs
   abbrev pub TellsListedMap : {X : Type 0} → P → Result X MapError → P → Type 0
   TellsListedMap old (Ok m) new = ToldCalls told old listing_calls new
   TellsListedMap old (Err (map.UnknownObjectFormat format)) new = ToldCalls told old listing_calls new

@@ -1,4 +1,4 @@
--- The order of the places of refspecs.
+-- The order of the indices of refspecs.
 use Rattle.std.specs.declared.cmp.Ordering.{Ordering}
 use Rattle.std.specs.declared.cmp.Ordering.TheVariants.{Less, Greater}
 use Rattle.std.specs.Ordering.{nat_cmp}

@@ -1,4 +1,4 @@
--- What a clone keeps: sources, mappings, refspecs and ref maps as plain data.
+-- Sources, mappings, refspecs and ref maps as plain data, which clones keep.
 use Rattle.std.specs.Prelude.{ℕ, List, map, Option}
 use Rattle.std.specs.Option.{option_map}
 use Rattle.bstr.specs.Owned.{bstring_bytes}
@@ -16,7 +16,7 @@ use Rattle.gixp_refmap.specs.declared.refmap.mapping.Mapping.{Mapping}
 use Rattle.gixp_refmap.specs.declared.refmap.init.Context.{Context}
 use Rattle.gixp_refmap.specs.declared.refmap.map.RefMap.{RefMap}
 
--- what a mapping takes
+-- the source of a mapping
 pub data SourceValue : Type 0 where
   an_object : ObjectId → SourceValue
   a_ref : RefValue → SourceValue

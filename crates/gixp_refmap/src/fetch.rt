@@ -1,4 +1,4 @@
-//! Options of a fetch that decide what is mapped.
+//! The option of a fetch that decides which tags are mapped.
 ghost use Rattle.std.specs.Prelude.{◌≡◌};
 ghost use Rattle.std.specs.Option.{option_map};
 ghost use Rattle.gixp_refspec.specs.RefSpec.{value_of};
@@ -13,15 +13,16 @@ use gixp_refspec::parse::{Operation, parse};
 pub enum Tags {
     /// All tags of the server.
     All,
-    /// The tags that lead to objects which are fetched.
+    /// The tags that point at objects that are fetched.
     #[default]
     Included,
-    /// No tags but those that a refspec names.
+    /// Only tags that a refspec names.
     None,
 }
 
 impl Tags {
-    /// The refspec that maps the tags: `refs/tags/*:refs/tags/*` for `All` and `Included`. It allocates nothing.
+    /// The refspec that maps the tags: `refs/tags/*:refs/tags/*` for `All` and `Included`, none for `None`. It
+    /// allocates nothing.
     pub fn to_refspec(&self) -> Option<RefSpecRef<'static>>
         ensures { option_map value_of result ≡ tags_asked self.now }
     {
@@ -33,7 +34,6 @@ impl Tags {
     }
 }
 
-// The refspec of all tags.
 fn tags_refspec() -> Option<RefSpecRef<'static>>
     ensures { option_map value_of result ≡ tags_asked Tags.All }
 {

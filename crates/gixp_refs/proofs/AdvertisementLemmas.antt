@@ -1,4 +1,4 @@
--- The groups of lines that come one at a time.
+-- The groups of lines, read one line at a time.
 use Rattle.std.proofs.Common.{◌≡◌, ℕ, inl, inr, Bool, true, List, [], ◌∷◌, ◌++◌, map, refl, sym, ap, subst, ◌∙◌, Option, Some, None, IfSome, MatchResult, Result, Ok, Err, append-nil, append_assoc}
 use Rattle.gixp_packetline.specs.Pieces.{Refusal, Pieces}
 use Rattle.gixp_packetline.specs.Lines.{refusal, before, lines_to}
@@ -35,7 +35,7 @@ front_ref xs v (Err e) = refl
 abbrev Behind : Type 0
 Behind = Option NamedRef → Result (List RefValue) RefsRefusal
 
--- what comes before the other lines, once one was taken in
+-- after one line was added, the refs of all lines are those so far and those of the rest
 abbrev Goes : SoFarValue → Result (List RefValue) RefsRefusal → Behind → SoFarValue → Type 0
 Goes s all k now = in_front s.refs all ≡ in_front now.refs (k now.open_line)
 
@@ -108,7 +108,7 @@ line_refused t s (Ok (shallows id)) r k h = cc
 line_refused t s (Ok (names object name)) r k h = cc
 line_refused t s (Ok (peels left base)) r k h = pair_refused s (pair t s.open_line left base) r (k None) h
 
--- what the lines so far are to those that come
+-- what the lines so far mean for the lines to come
 pub record GroupsSoFar (t : List Symref) (texts : List (List ℕ)) (s : SoFarValue) : Type 0 where
   pub refs : (rest : List (List ℕ)) (end : Option RefsRefusal)
       → groups (texts ++ rest) end t None ≡ in_front s.refs (groups rest end t s.open_line)
@@ -140,7 +140,7 @@ groups-all t texts end s h = ap (λ x. groups x end t None) (sym (append-nil tex
 updates-all : (t : List Symref) (texts : List (List ℕ)) (s : SoFarValue) → GroupsSoFar t texts s → s.updates ≡ v1_updates texts
 updates-all t texts s h = sym (append-nil s.updates) ∙ sym (h.updates []) ∙ ap v1_updates (append-nil texts)
 
--- the lines read so far, and what they are
+-- the lines read so far, and the state after them
 pub record V1Known (t : List Symref) (old now : Reading) (s : SoFarValue) : Type 0 where
   pub texts : List (List ℕ)
   pub read : SoFar old now texts
@@ -168,7 +168,7 @@ first_refused t r s (Some p) n texts text v e h is a =
     let rest = lines_ahead s a.0 in
     ap (v1_refs t) a.2 ∙ groups-refused t texts text rest.lines _ v e h is
 
--- a line that is refused is the first refusal, unless memory ran out
+-- an error of a line is the first error, unless an allocation failed
 pub v1-refused : (t : List Symref) (plain : Bool) (old mid new : Reading) (s : SoFarValue) (e : Error)
     (o : Result SoFarValue RefsRefusal) {X : Type 0} (view : X → SoFarValue) → V1Known t old mid s → TakesLine mid new
     → with_text t s new.line ≡ o → AnswersRefs view o (Err e) → V1Fails t plain old new e
@@ -203,7 +203,7 @@ reader_known : (t : List Symref) (r : Reading) (o : Option Pieces) (texts : List
 reader_known t r None texts s e h a = tt
 reader_known t r (Some p) texts s e h a = ap (v1_refs t) a ∙ groups-all t texts (Some (refusal_from e)) s h
 
--- the reader's refusal is the first, or something came from outside
+-- an error of the reader is the first one, or it is an I/O error, an interrupt or an allocation failure
 pub v1-reader : (t : List Symref) (plain : Bool) (old mid new : Reading) (s : SoFarValue) (r : ReadError) (e : Error)
     → V1Known t old mid s → Fails mid new (refusal_of r)
     → (plain ≡ true → IsPlain new (refusal_of r)) → parse_refusal e ≡ refusal_from (refusal_of r) → V1Fails t plain old new e
@@ -228,7 +228,7 @@ v1-reader t plain old mid new s r e h (inr k) p is =
       error = is;
     }))))
 
--- at the stop these are all
+-- at the stop all lines were read
 pub v1-stop : (t : List Symref) (old mid new : Reading) (s : SoFarValue) (refs : List Ref) (updates : List ShallowUpdate)
     → V1Known t old mid s → AtStop mid new
     → map ref_value refs ≡ s.refs ++ closed t s.open_line → updates ≡ s.updates → ReadsV1 t old new refs updates
@@ -246,12 +246,12 @@ v1-stop t old mid new s refs updates h k is same =
       held = all.held;
     }
 
--- memory ran out after the stop
+-- an allocation failed after the stop
 pub v1-memory : (t : List Symref) (plain : Bool) (old mid new : Reading) (s : SoFarValue) (e : Error) → V1Known t old mid s
     → AtStop mid new → e ≡ Memory → V1Fails t plain old new e
 v1-memory t plain old mid new s e h k is = inr (record { texts = h.texts; now = mid; read = h.read; at = k; error = is })
 
--- what is given after the stop
+-- the result after the stop
 pub v1-finish : {A : Type 0} (r : Result A Error) (refs_of : A → List Ref) (updates_of : A → List ShallowUpdate) (t : List Symref)
     (plain : Bool) (old mid new : Reading) (s : SoFarValue) → V1Known t old mid s → AtStop mid new
     → MatchResult r (λ found. (map ref_value (refs_of found) ≡ s.refs ++ closed t s.open_line) × (updates_of found ≡ s.updates))

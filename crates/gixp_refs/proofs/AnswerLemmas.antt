@@ -1,4 +1,4 @@
--- Answers of steps make the answer of their chain.
+-- The results of steps make the result of the whole call.
 use Rattle.std.proofs.Common.{◌≡◌, ℕ, false, nat_eq, eq-eqb, List, [], ◌∷◌, length, refl, sym, ap, subst, ◌∙◌, arith, Option, Some, None, Result, Ok, Err}
 use Rattle.std.specs.Prelude.{codes}
 use Rattle.gixp_capabilities.specs.Cut.{cut}
@@ -12,7 +12,7 @@ use Rattle.gixp_hash.specs.declared.object_id.ObjectId.{ObjectId}
 use Rattle.gixp_refs.specs.declared.handshake.Ref.{Ref}
 use Rattle.gixp_refs.specs.declared.handshake.refs.line.Attributes.{Attributes}
 
--- memory may run out at any step
+-- an allocation may fail in any step
 pub memory_answers : {A B : Type 0} (view : A → B) (o : Result B RefsRefusal) (e : Error) → e ≡ Memory → AnswersRefs view o (Err e)
 memory_answers view (Ok x) e h = h
 memory_answers view (Err r) e h = subst (λ k. IsParseRefusal k r) (sym h) (λ n. cc)

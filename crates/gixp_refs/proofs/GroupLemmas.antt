@@ -1,4 +1,4 @@
--- The refs of an advertisement are those of its groups, and its refusal is that of the first line that goes with none.
+-- The refs of a reference advertisement are those of its groups.
 use Rattle.std.proofs.Common.{◌≡◌, ℕ, false, List, [], ◌∷◌, ◌++◌, Option, Some, None, Result, Ok, Err, refl, sym, ap, subst, ◌∙◌}
 use Rattle.std.specs.Prelude.{filter}
 use Rattle.gixp_refs.specs.Ref.{RefValue}
@@ -7,7 +7,7 @@ use Rattle.gixp_refs.specs.Refs.{with_ref}
 use Rattle.gixp_refs.specs.RefAdvertisement.{Symref, V1Line, nothing, peels, names, shallows, v1_line, NamedRef, single, pair, closed, in_front, group_with, group_end, groups}
 use Rattle.gixp_refs.specs.RefGroups.{Group, alone, with_peeled, lines_in, is_grouped, AreLines, AreRefGroups, group_ref, AreGroupRefs}
 
--- a ref line that is open, as lines, as a group, and as its ref
+-- an open ref line, as lines, as a group, and as its ref
 abbrev pub open_lines : Option NamedRef → List V1Line
 open_lines None = []
 open_lines (Some n) = names n.object n.name ∷ []
@@ -25,7 +25,7 @@ same_ok xs ys r h k = cc
 same_err : (x y : RefsRefusal) (r : Result (List RefValue) RefsRefusal) → r ≡ Err x → r ≡ Err y → x ≡ y
 same_err x y r h k = cc
 
--- ---- what is found is that of groups
+-- ---- the refs that are read are those of groups
 
 record Grouped (t : List Symref) (last : Option NamedRef) (texts : List (List ℕ)) (values : List RefValue) : Type 0 where
   lines : List V1Line
@@ -34,7 +34,6 @@ record Grouped (t : List Symref) (last : Option NamedRef) (texts : List (List �
   grouped : open_lines last ++ filter is_grouped lines ≡ lines_in found
   refs : AreGroupRefs t found values
 
--- at the end
 grouped_end : (t : List Symref) (last : Option NamedRef) (values : List RefValue) → group_end (closed t last) None ≡ Ok values
     → Grouped t last [] values
 grouped_end t None [] h = record { lines = []; read = tt; found = []; grouped = refl; refs = tt }
@@ -49,7 +48,7 @@ grouped_end t (Some n) (v ∷ vs) h =
     at [] first others = (ap Ok first, tt)
     at (w ∷ ws) first others = cc
 
--- a line that stands in no group
+-- a line that belongs to no group
 grouped_apart : (t : List Symref) (last : Option NamedRef) (text : List ℕ) (texts : List (List ℕ)) (values : List RefValue) (l : V1Line)
     → v1_line text ≡ Ok l → is_grouped l ≡ false
     → Grouped t last texts values → Grouped t last (text ∷ texts) values
@@ -61,13 +60,13 @@ grouped_apart t last text texts values l h k g = record {
   refs = g.refs;
 }
 
--- these refs in front of what is found
+-- these refs before the others
 front_ok : (xs values : List RefValue) (r : Result (List RefValue) RefsRefusal) → in_front xs r ≡ Ok values → (vs : List RefValue)
     × (r ≡ Ok vs) × (values ≡ xs ++ vs)
 front_ok xs values (Ok vs) h = (vs, refl, same_ok values (xs ++ vs) (in_front xs (Ok vs)) h refl)
 front_ok xs values (Err e) h = cc
 
--- a ref line, before which another one may be open
+-- a ref line, after another one that may be open
 grouped_names : (t : List Symref) (last : Option NamedRef) (text : List ℕ) (texts : List (List ℕ)) (values vs : List RefValue)
     (n : NamedRef) → v1_line text ≡ Ok (names n.object n.name)
     → values ≡ closed t last ++ vs → Grouped t (Some n) texts vs → Grouped t last (text ∷ texts) values
@@ -82,7 +81,7 @@ grouped_names t (Some m) text texts values vs n h e g =
       refs = rw e (refl, g.refs);
     }
 
--- its peeled line
+-- the peeled line of the open ref line
 ref_ok : (values : List RefValue) (p : Result RefValue RefsRefusal) (r : Result (List RefValue) RefsRefusal) → with_ref p r ≡ Ok values
     → (v : RefValue) × (vs : List RefValue) × (p ≡ Ok v) × (r ≡ Ok vs) × (values ≡ v ∷ vs)
 ref_ok values (Ok v) (Ok vs) h = (v, vs, refl, refl, same_ok values (v ∷ vs) (with_ref (Ok v) (Ok vs)) h refl)
@@ -102,7 +101,7 @@ grouped_peels t (Some m) text texts values vs left base v h p e g =
       refs = rw e (p, g.refs);
     }
 
--- by what a line is
+-- by the meaning of a line
 grouped_step : (t : List Symref) (last : Option NamedRef) (text : List ℕ) (texts : List (List ℕ)) (values : List RefValue)
     (r : Result V1Line RefsRefusal) → v1_line text ≡ r
     → group_with t last r (λ now. groups texts None t now) ≡ Ok values
@@ -126,7 +125,7 @@ grouped_from t last [] values h = grouped_end t last values h
 grouped_from t last (text ∷ texts) values h =
     grouped_step t last text texts values (v1_line text) refl h (λ now vs k. grouped_from t now texts vs k)
 
--- the refs of an advertisement are those of groups of its lines
+-- the refs of a reference advertisement are those of groups of its lines
 pub groups_found : (t : List Symref) (texts : List (List ℕ)) (values : List RefValue) → groups texts None t None ≡ Ok values
     → (found : List Group) × AreRefGroups texts found × AreGroupRefs t found values
 groups_found t texts values h =
@@ -135,7 +134,7 @@ groups_found t texts values h =
 
 -- ---- and groups are read
 
--- after a ref line that is open, one that stands alone
+-- an open ref line that is followed by a ref line is alone
 pub first_alone : (m : NamedRef) (object name : List ℕ) (ls : List V1Line) (gs : List Group)
     → (names m.object m.name ∷ names object name ∷ ls) ≡ lines_in gs
     → (others : List Group) × (gs ≡ alone m ∷ others) × ((names object name ∷ ls) ≡ lines_in others)
@@ -147,7 +146,7 @@ first_alone m object name ls (alone n ∷ gs) h =
     (gs, ap (λ k. alone k ∷ gs) (sym (same_named m n o x)), rest)
 first_alone m object name ls (with_peeled n left base ∷ gs) h = cc
 
--- with its peeled line
+-- no group begins with a peeled line
 pub no_peels_first : (left base : List ℕ) (ls : List V1Line) (gs : List Group) → (peels left base ∷ ls) ≡ lines_in gs → ⊥
 no_peels_first left base ls [] h = cc
 no_peels_first left base ls (alone n ∷ gs) h = cc
@@ -170,7 +169,6 @@ first_peeled m left base ls (with_peeled n l b ∷ gs) h =
       rest,
     )
 
--- the first of their refs
 pub first_ref : (t : List Symref) (g : Group) (gs : List Group) (values : List RefValue) → AreGroupRefs t (g ∷ gs) values
     → (v : RefValue) × (vs : List RefValue) × (values ≡ v ∷ vs) × (group_ref t g ≡ Ok v) × AreGroupRefs t gs vs
 first_ref t g gs [] h = absurd h
@@ -201,7 +199,6 @@ open_refs t (Some m) (v ∷ w ∷ vs) h = absurd h.1
 as_ok : (xs ys : List RefValue) → xs ≡ ys → group_end xs None ≡ group_end ys None
 as_ok xs ys h = ap (λ l. group_end l None) h
 
--- by the line that comes next
 read_line : (t : List Symref) (last : Option NamedRef) (l : V1Line) (ls : List V1Line) (gs : List Group) (values : List RefValue)
     (rest : Option NamedRef → Result (List RefValue) RefsRefusal)
     → open_lines last ++ filter is_grouped (l ∷ ls) ≡ lines_in gs → AreGroupRefs t gs values

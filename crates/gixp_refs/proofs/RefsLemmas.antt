@@ -1,4 +1,4 @@
--- Refs of lines that come one at a time.
+-- The refs of lines, read one line at a time.
 use Rattle.std.proofs.Common.{◌≡◌, ℕ, inl, inr, Bool, true, List, [], ◌∷◌, ◌++◌, map, refl, sym, ap, subst, ◌∙◌, Option, Some, None, IfSome, Result, Ok, Err, append-nil, append_assoc}
 use Rattle.std.proofs.lemmas.List.{map-append}
 use Rattle.gixp_packetline.specs.Pieces.{Refusal, Pieces}
@@ -13,7 +13,7 @@ use Rattle.gixp_refs.specs.ParseError.{AnswersRefs, parse_refusal}
 use Rattle.gixp_refs.specs.Refs.{with_ref, refs_from, v2_refs, AreRefs, ReadsRefs, RefsFail, RefsSoFar, NextRef, NextOfRefs}
 use Rattle.gixp_packetline.proofs.ReadingLemmas.{so_far-start, so_far-line, so_far-at_stop, so_far-refuses}
 
--- these values in front of those of the rest
+-- these refs before the others
 abbrev behind : List RefValue → Result (List RefValue) RefsRefusal → Result (List RefValue) RefsRefusal
 behind vs (Ok ws) = Ok (vs ++ ws)
 behind vs (Err e) = Err e
@@ -27,7 +27,7 @@ none_behind : (r : Result (List RefValue) RefsRefusal) → r ≡ behind [] r
 none_behind (Ok ws) = refl
 none_behind (Err e) = refl
 
--- lines that stand for values go first
+-- lines that have refs, before other lines
 refs_behind : (ts rest : List (List ℕ)) (vs : List RefValue) (ending : Ending) → AreRefs ts vs
     → refs_from (ts ++ rest) ending ≡ behind vs (refs_from rest ending)
 refs_behind [] rest [] ending h = none_behind (refs_from rest ending)
@@ -44,7 +44,7 @@ AreRefs-push [] (w ∷ vs) t v h e = absurd h
 AreRefs-push (s ∷ ts) [] t v h e = absurd h
 AreRefs-push (s ∷ ts) (w ∷ vs) t v h e = (h.0, AreRefs-push ts vs t v h.1 e)
 
--- lines that stand for values, and then an ending
+-- lines that have refs, and then an end
 refs_all : (texts : List (List ℕ)) (vs : List RefValue) (ending : Ending) → AreRefs texts vs
     → v2_refs (lines_to texts ending) ≡ behind vs (refs_from [] ending)
 refs_all texts vs ending h = ap (λ l. refs_from l ending) (sym (append-nil texts)) ∙ refs_behind texts [] vs ending h
@@ -55,11 +55,11 @@ all_known : (r : Reading) (o n : Option Pieces) (texts : List (List ℕ)) (vs : 
 all_known r None n texts vs kind h k = tt
 all_known r (Some p) n texts vs kind h k = ap v2_refs k.2 ∙ refs_all texts vs (stop kind k.0) h ∙ ap Ok (append-nil vs)
 
--- before the first call there are none
+-- before the first call there are no refs
 pub refs-start : (r : Reading) → RefsSoFar r r []
 refs-start r = record { texts = []; read = so_far-start r; refs = tt }
 
--- at the stop these are all
+-- at the stop all lines were read
 pub refs-stop : (old mid new : Reading) (refs : List Ref) → RefsSoFar old mid (map ref_value refs) → AtStop mid new → ReadsRefs old new refs
 refs-stop old mid new refs h k =
     let all = so_far-at_stop old mid new h.texts h.read k in
@@ -85,7 +85,7 @@ line_refused r s (Some p) n texts t vs e h is a =
     ap v2_refs a.2 ∙ ap (λ l. refs_from l rest.ending) (append_assoc texts (t ∷ []) rest.lines)
     ∙ refs_behind texts (t ∷ rest.lines) vs rest.ending h ∙ (rw is refl)
 
--- a line that is refused is the first refusal
+-- an error of a line is the first error
 pub refs-refused : (plain : Bool) (old mid new : Reading) (vs : List RefValue) (e : Error) (o : Result RefValue RefsRefusal)
     → RefsSoFar old mid vs → TakesLine mid new
     → v2_line new.line ≡ o → AnswersRefs ref_value o (Err e) → RefsFail plain old new e
@@ -112,7 +112,7 @@ reader_known : (r : Reading) (o : Option Pieces) (texts : List (List ℕ)) (vs :
 reader_known r None texts vs e h a = tt
 reader_known r (Some p) texts vs e h a = ap v2_refs a ∙ refs_all texts vs (refusal e) h
 
--- the reader's refusal is the first, or something came from outside
+-- an error of the reader is the first one, or it is an I/O error, an interrupt or an allocation failure
 pub refs-reader : (plain : Bool) (old mid new : Reading) (vs : List RefValue) (r : Refusal) (e : Error) → RefsSoFar old mid vs
     → Fails mid new r
     → (plain ≡ true → IsPlain new r) → parse_refusal e ≡ refusal_from r → RefsFail plain old new e
@@ -132,7 +132,6 @@ refs-reader plain old mid new vs r e h (inr k) p is =
 map_push : (refs more : List Ref) (r : Ref) → more ≡ refs ++ r ∷ [] → map ref_value more ≡ map ref_value refs ++ ref_value r ∷ []
 map_push refs more r e = rw e (map-append ref_value refs (r ∷ []))
 
--- one more ref
 pub refs-pushed : (old mid new : Reading) (refs more : List Ref) (r : Ref) (o : Result RefValue RefsRefusal)
     → RefsSoFar old mid (map ref_value refs) → TakesLine mid new
     → v2_line new.line ≡ o → AnswersRefs ref_value o (Ok r) → more ≡ refs ++ r ∷ [] → RefsSoFar old new (map ref_value more)
@@ -146,7 +145,7 @@ refs-pushed old mid new refs more r (Ok v) h k is a e =
     })
 refs-pushed old mid new refs more r (Err x) h k is a e = absurd a
 
--- memory ran out after a line
+-- an allocation failed after a line
 pub refs-memory : (plain : Bool) (old mid new : Reading) (vs : List RefValue) → RefsSoFar old mid vs → TakesLine mid new
     → RefsFail plain old new Memory
 refs-memory plain old mid new vs h k =
@@ -163,31 +162,31 @@ first_known : (r s : Reading) (o n : Option Pieces) (t : List ℕ) (v : RefValue
 first_known r s None n t v is a = tt
 first_known r s (Some p) n t v is a = (a.0, a.1, ap v2_refs a.2 ∙ (rw is refl))
 
--- the value of a line that was taken is the first of those to come
+-- the ref of a line that was taken is the first one to come
 pub next-value : (old new : Reading) (v : RefValue) → TakesLine old new → v2_line new.line ≡ Ok v
     → IfSome old.to_come (λ p. (q : Pieces) × (new.to_come ≡ Some q)
     × (v2_refs (lines_ahead old p) ≡ with_ref (Ok v) (v2_refs (lines_ahead new q))))
 next-value old new v k is =
     first_known old new old.to_come new.to_come new.line v is (so_far-line old old new [] (so_far-start old) k).next
 
--- the ref of a line is the first of those to come
+-- the ref of a line is the first one to come
 pub next-found : (plain : Bool) (old new : Reading) (r : Ref) (o : Result RefValue RefsRefusal) → TakesLine old new
     → v2_line new.line ≡ o → AnswersRefs ref_value o (Ok r)
     → NextOfRefs plain old new (Ok (Some r))
 next-found plain old new r (Ok v) k is a = next-value old new (ref_value r) k (is ∙ ap Ok (sym a))
 next-found plain old new r (Err x) k is a = absurd a
 
--- at the stop there are none
+-- at a stop there are no refs
 pub next-none : (plain : Bool) (old new : Reading) → AtStop old new → NextOfRefs plain old new (Ok None)
 next-none plain old new k = refs-stop old old new [] (refs-start old) k
 
--- one refusal is that of all
+-- an error of one call is the error of all
 pub next-refused : (plain : Bool) (old mid new : Reading) (vs : List RefValue) (e : Error) → RefsSoFar old mid vs
     → NextRef plain mid new (Err e) → RefsFail plain old new e
 next-refused plain old mid new vs e h (inl k) = refs-refused plain old mid new vs e (v2_line new.line) h k.0 refl k.1
 next-refused plain old mid new vs e h (inr k) = refs-reader plain old mid new vs k.refusal e h k.failed k.is_plain k.error
 
--- one more ref, as the call for it tells
+-- one more ref, by the contract of the call for it
 pub next-pushed : (plain : Bool) (old mid new : Reading) (refs more : List Ref) (r : Ref) → RefsSoFar old mid (map ref_value refs)
     → NextRef plain mid new (Ok (Some r)) → more ≡ refs ++ r ∷ []
     → RefsSoFar old new (map ref_value more)

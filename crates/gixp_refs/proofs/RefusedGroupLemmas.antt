@@ -1,4 +1,4 @@
--- The refusal of an advertisement is that of the first line, or of the end, that goes with no group before it.
+-- The error of a reference advertisement is that of the first line, or of the end, that doesn't continue the groups before it.
 use Rattle.std.proofs.Common.{◌≡◌, ℕ, false, List, [], ◌∷◌, ◌++◌, Option, Some, None, Result, Ok, Err, refl, sym, ap, subst, ◌∙◌, inl, inr}
 use Rattle.std.specs.Prelude.{filter}
 use Rattle.gixp_refs.specs.Ref.{RefValue}
@@ -8,7 +8,7 @@ use Rattle.gixp_refs.specs.RefAdvertisement.{Symref, V1Line, nothing, peels, nam
 use Rattle.gixp_refs.specs.RefGroups.{Group, alone, with_peeled, lines_in, is_grouped, AreLines, AreGroupRefs, open_in, NextRefused, AreRefusedBehind}
 use Rattle.gixp_refs.proofs.GroupLemmas.{open_lines, open_groups, first_alone, no_peels_first, first_peeled, first_ref, open_at_end}
 
--- the same after a ref line that may be open
+-- the same, after a ref line that may be open
 record Refused (t : List Symref) (last : Option NamedRef) (texts : List (List ℕ)) (end : Option RefsRefusal)
     (e : RefsRefusal) : Type 0 where
   taken : List (List ℕ)
@@ -22,7 +22,7 @@ record Refused (t : List Symref) (last : Option NamedRef) (texts : List (List �
   refs : AreGroupRefs t found values
   next : NextRefused t (open_in found) more end e
 
--- one more group in front doesn't change which ref line is open, where another one is after it
+-- one more group before others doesn't change which ref line is open
 open_front : (g : Group) (l : V1Line) (ls : List V1Line) (gs : List Group) → (l ∷ ls) ≡ lines_in gs → open_in (g ∷ gs) ≡ open_in gs
 open_front g l ls [] h = cc
 open_front (alone n) l ls (k ∷ gs) h = refl
@@ -32,7 +32,6 @@ open_behind : (n : NamedRef) (left base : List ℕ) (gs : List Group) → open_i
 open_behind n left base [] = refl
 open_behind n left base (g ∷ gs) = refl
 
--- it is refused here
 refused_here : (t : List Symref) (last : Option NamedRef) (texts : List (List ℕ)) (end : Option RefsRefusal) (e : RefsRefusal)
     → NextRefused t last texts end e → Refused t last texts end e
 refused_here t None texts end e h =
@@ -51,7 +50,7 @@ refused_here t (Some m) texts end e h =
       next = h;
     }
 
--- after a line that stands in no group
+-- it fails after a line that belongs to no group
 refused_apart : (t : List Symref) (last : Option NamedRef) (text : List ℕ) (texts : List (List ℕ)) (end : Option RefsRefusal)
     (e : RefsRefusal) (l : V1Line) → v1_line text ≡ Ok l → is_grouped l ≡ false
     → Refused t last texts end e → Refused t last (text ∷ texts) end e
@@ -68,7 +67,7 @@ refused_apart t last text texts end e l h k x = record {
   next = x.next;
 }
 
--- after a ref line
+-- it fails after a ref line
 refused_names : (t : List Symref) (last : Option NamedRef) (text : List ℕ) (texts : List (List ℕ)) (end : Option RefsRefusal)
     (e : RefsRefusal) (n : NamedRef) → v1_line text ≡ Ok (names n.object n.name)
     → Refused t (Some n) texts end e → Refused t last (text ∷ texts) end e
@@ -98,7 +97,7 @@ refused_names t (Some m) text texts end e n h x = record {
       (sym (open_front (alone m) (names n.object n.name) (filter is_grouped x.lines) x.found x.grouped)) x.next;
 }
 
--- after a peeled line
+-- it fails after a peeled line
 refused_peels : (t : List Symref) (last : Option NamedRef) (text : List ℕ) (texts : List (List ℕ)) (end : Option RefsRefusal)
     (e : RefsRefusal) (left base : List ℕ) (v : RefValue)
     → v1_line text ≡ Ok (peels left base) → pair t last left base ≡ Ok v → Refused t None texts end e → Refused t last (text ∷ texts) end e
@@ -120,7 +119,7 @@ front_err : (xs : List RefValue) (r : Result (List RefValue) RefsRefusal) (e : R
 front_err xs (Ok vs) e h = cc
 front_err xs (Err x) e h = h
 
--- the refusal is the peeled line's, or comes after it
+-- the error is that of the peeled line, or comes after it
 refused_pair : (t : List Symref) (last : Option NamedRef) (text : List ℕ) (texts : List (List ℕ)) (end : Option RefsRefusal)
     (e : RefsRefusal) (left base : List ℕ) (p : Result RefValue RefsRefusal)
     → v1_line text ≡ Ok (peels left base) → pair t last left base ≡ p → with_ref p (groups texts end t None) ≡ Err e
@@ -159,7 +158,7 @@ refused_from t last [] end e h = refused_here t last [] end e (refused_end t las
 refused_from t last (text ∷ texts) end e h =
     refused_step t last text texts end e (v1_line text) refl h (λ now k. refused_from t now texts end e k)
 
--- a refused advertisement has groups, and after them a refusal
+-- if reading fails, the advertisement has groups and then an error
 pub refusal_found : (t : List Symref) (texts : List (List ℕ)) (end : Option RefsRefusal) (e : RefsRefusal)
     → groups texts end t None ≡ Err e → AreRefusedBehind t texts end e
 refusal_found t texts end e h =
@@ -190,7 +189,6 @@ next_read t last (text ∷ texts) end e (inr h) =
     let p : pair t last h.0 h.1 ≡ Err e = h.3 in
     rw l (rw p refl)
 
--- by the line that comes next
 line_read : (t : List Symref) (last : Option NamedRef) (l : V1Line) (ls : List V1Line) (gs : List Group) (values : List RefValue)
     (more : List (List ℕ)) (end : Option RefsRefusal) (e : RefsRefusal)
     (rest : Option NamedRef → Result (List RefValue) RefsRefusal)
@@ -228,7 +226,7 @@ read_from t last (text ∷ texts) more (l ∷ ls) gs values end e h g r n =
     rw one (line_read t last l ls gs values more end e (λ now. groups (texts ++ more) end t now) g r n
     (λ now others vs k s m. read_from t now texts more ls others vs end e h.1 k s m))
 
--- groups with a refusal after them are refused so
+-- groups with an error after them fail with it
 pub refusal_read : (t : List Symref) (texts : List (List ℕ)) (end : Option RefsRefusal) (e : RefsRefusal)
     → AreRefusedBehind t texts end e → groups texts end t None ≡ Err e
 refusal_read t texts end e h =

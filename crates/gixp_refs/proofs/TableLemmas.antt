@@ -1,4 +1,4 @@
--- The symrefs by their names, as a map.
+-- The map from the names of symrefs to their targets.
 use Rattle.std.proofs.Common.{◌≡◌, ℕ, inl, inr, Bool, true, false, cond, List, [], ◌∷◌, ◌++◌, map, refl, sym, ap, subst, ◌∙◌, append_assoc, append-nil, Option, Some, None, IfSome, MatchResult, Result, Ok, Err}
 use Rattle.std.specs.Prelude.{is_some}
 use Rattle.std.specs.Option.{option_map, option_copied}
@@ -27,7 +27,7 @@ use Rattle.gixp_capabilities.specs.Capabilities.{CapabilityValue}
 use Rattle.gixp_refs.specs.RefAdvertisement.{Symref, symref_named, tells, TellAlike, told_target, V1Line, nothing, peels, names, shallows, v1_line, NamedRef, pair_by, pair, closed, group_with, group_end, end_refusal, groups, v1_refs, symref_table}
 use Rattle.gixp_refs.specs.V1Refs.{symref_value, name_cmp, symref_values, ReadsV1, V1Fails, GivesAdvertisement, AdvertisementFails}
 
--- ---- what a map tells
+-- ---- lookups in the map
 
 abbrev Entry : Type 0
 Entry = BString × Option BString
@@ -37,7 +37,7 @@ tells_at : (b : Bool) (s : Symref) (o : Option Symref) → option_map (λ (x : S
 tells_at true s o = refl
 tells_at false s o = refl
 
--- the first one counts
+-- the first symref of a name counts
 tells_cons : (s : Symref) (t : List Symref) (n : List ℕ) → tells (s ∷ t) n ≡ cond (is_text s.name n) (Some s.target) (tells t n)
 tells_cons s t n = tells_at (is_text s.name n) s (symref_named t n)
 
@@ -46,7 +46,7 @@ tied Less h = cc
 tied Equal h = refl
 tied Greater h = cc
 
--- texts that are told to be the same are
+-- texts that compare equal are equal
 same_text : (x y : List ℕ) → is_text x y ≡ true → x ≡ y
 same_text x y h = exact_bytes x y (tied (slice_cmp nat_cmp x y) (sym (texts_ties x y) ∙ h))
 
@@ -66,7 +66,7 @@ apart k e n g h i =
     let eq : slice_cmp nat_cmp k e ≡ Equal = subst (λ x. slice_cmp nat_cmp k x ≡ Equal) same (tied_itself nat_list_cmp_total k) in
     cc
 
--- a symref that is put into the map stands in front of the others
+-- an inserted symref comes before the others
 pub insert_tells : (es : List Entry) (k : BString) (v : Option BString) (n : List ℕ)
     → tells (symref_values (insert_entry name_cmp es k v)) n ≡ cond (is_text (bstring_bytes k) n) (Some (option_map bstring_bytes v))
     (tells (symref_values es) n)
@@ -100,7 +100,7 @@ lookup_at : (b c : Bool) (e : Entry) (o : Option (Option BString)) (r : Option (
 lookup_at true c e o r h k = rw (← h) refl
 lookup_at false c e o r h k = rw (← h) k
 
--- what is found in the map is what its symrefs tell
+-- a lookup in the map finds the first symref of the name
 pub lookup_tells : (es : List Entry) (q : BString) → option_map (λ (t : Option BString). option_map bstring_bytes t)
     (lookup (is_at (name_cmp q)) es) ≡ tells (symref_values es) (bstring_bytes q)
 lookup_tells [] q = refl
@@ -111,7 +111,7 @@ lookup_tells (e ∷ es) q =
     (tells (symref_values es) (bstring_bytes q)) same (lookup_tells es q)
     ∙ sym (tells_cons (symref_value e) (symref_values es) (bstring_bytes q))
 
--- what was found: whether there is one
+-- a lookup finds a symref exactly where there is one
 pub found_some : (r : Option (Bor (Option BString))) (x : Option Symref)
     → option_map (λ (t : Option BString). option_map bstring_bytes t) (option_copied r) ≡ option_map (λ (s : Symref). s.target) x
     → is_some r ≡ is_some x
@@ -135,7 +135,7 @@ pub copied_bytes : (r : Option (Bor BString)) → option_map (λ (s : Bor BStrin
 copied_bytes None = refl
 copied_bytes (Some s) = refl
 
--- ---- symrefs that tell alike
+-- ---- lists with the same first symref for each name
 
 told_by : (x y : Option Symref) → option_map (λ (s : Symref). s.target) x ≡ option_map (λ (s : Symref). s.target) y
     → told_target x ≡ told_target y
@@ -181,7 +181,7 @@ module _ (t u : List Symref) (alike : TellAlike t u) where
   first_same r None e h = tt
   first_same r (Some p) e h = groups_same (lines_ahead r p).lines (end_refusal (lines_ahead r p).ending) None ∙ h
 
-  -- what was read by one was read by the other
+  -- one list reads the same refs as the other
   pub reads_same : (old new : Reading) (refs : List Ref) (updates : List ShallowUpdate) → ReadsV1 u old new refs updates
       → ReadsV1 t old new refs updates
   reads_same old new refs updates h = record {
@@ -196,7 +196,7 @@ module _ (t u : List Symref) (alike : TellAlike t u) where
     held = h.held;
   }
 
-  -- and refused alike
+  -- one list fails with the same errors as the other
   pub fails_same : (plain : Bool) (old new : Reading) (e : Error) → V1Fails u plain old new e → V1Fails t plain old new e
   fails_same plain old new e (inl (inl h)) = let last = h.last in inl (inl (record {
     taken = h.taken;
@@ -231,7 +231,7 @@ module _ (t u : List Symref) (alike : TellAlike t u) where
   answers_same (Ok found) refs_of updates_of plain old new h = reads_same old new (refs_of found) (updates_of found) h
   answers_same (Err e) refs_of updates_of plain old new h = fails_same plain old new e h
 
--- what is read by the symrefs of the capabilities
+-- the result of reading with the symrefs of the capabilities
 pub given : {A : Type 0} (r : Result A Error) (refs_of : A → List Ref) (updates_of : A → List ShallowUpdate)
     (caps : List CapabilityValue) (t : List Symref) (plain : Bool) (old new : Reading) → symref_table caps ≡ Ok t
     → MatchResult r (λ found. ReadsV1 t old new (refs_of found) (updates_of found)) (V1Fails t plain old new)
@@ -239,18 +239,18 @@ pub given : {A : Type 0} (r : Result A Error) (refs_of : A → List Ref) (update
 given (Ok found) refs_of updates_of caps t plain old new is h = (t, is, h)
 given (Err e) refs_of updates_of caps t plain old new is h = inr (t, is, h)
 
--- the list that was read is the definition's
+-- the list that was read is the one of the definition
 pub list_is : {A B : Type 0} (view : A → B) (o : Result B RefsRefusal) (x : A) → AnswersRefs view o (Ok x) → o ≡ Ok (view x)
 list_is view (Ok y) x h = ap Ok (sym h)
 list_is view (Err e) x h = absurd h
 
--- ---- how the map is made: from the last symref to the first
+-- ---- the map is filled from the last symref to the first
 
 pub taken_off : {A : Type 0} (view : A → Symref) (old now : List A) (x : A) → old ≡ now ++ x ∷ [] → map view old ≡ map view now
     ++ view x ∷ []
 taken_off view old now x h = ap (map view) h ∙ map-append view now (x ∷ [])
 
--- those after the ones that are left are in the map
+-- the symrefs that are not left are in the map
 abbrev pub MakesTable : List Symref → List Symref → List Entry → Type 0
 MakesTable all left entries = (done : List Symref) × (all ≡ left ++ done) × TellAlike done (symref_values entries)
 

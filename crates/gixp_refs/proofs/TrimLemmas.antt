@@ -10,7 +10,7 @@ use Rattle.bstr.specs.Utf8.{decoded, good, pieces, spans_from, continues, IsLast
 use Rattle.bstr.proofs.lemmas.PieceLemmas.{IsLastPiece-whole, spans-last}
 use Rattle.bstr.proofs.lemmas.TrimLemmas.{kept_end-snoc}
 
--- a byte of ASCII at the end is a piece of its own
+-- an ASCII byte at the end is a character of its own
 ascii_last : (xs : List ℕ) (b : ℕ) → b < 128 → IsLastPiece (xs ++ b ∷ []) (good b 1)
 ascii_last xs b low =
     let is : decoded (b ∷ []) ≡ good b 1 = cond-true _ _ _ (lt-ltb b 128 low) in
@@ -36,7 +36,7 @@ ends_with_last xs some =
     sym (take-append-drop n xs) ∙ ap (λ t. take n xs ++ t) (at_drop_more (λ t. t) xs n 0 (omega arith)
     ∙ ap (λ t. slice_index_or xs n 0 ∷ t) (drop_of_length-le xs (omega arith)))
 
--- a byte of ASCII after the blank is no white space
+-- an ASCII byte above the blank is not white space
 is_no_white_space : (b : ℕ) → 32 < b → b < 128 → is_whitespace b ≡ false
 is_no_white_space b high low =
     let not_at : (k : ℕ) → (b ≡ k → ⊥) → nat_eq b k ≡ false = λ k ne. ne_eqb b k ne in
@@ -57,7 +57,7 @@ is_no_white_space b high low =
       not_at 12288 (λ e. absurd (omega arith)),
     ) refl
 
--- an LF after such a byte is all the white space at the end
+-- an LF after such a byte is the only white space at the end
 pub trims_one : (line : List ℕ) → 1 ≤ length line → slice_index_or line (length line - 1) 0 ≡ 10
     → let text = take (length line - 1) line in 1 ≤ length text → 32 < slice_index_or text (length text - 1) 0
     → slice_index_or text (length text - 1) 0 < 128

@@ -1,4 +1,4 @@
--- A line as git writes it stands for the ref that it was written for.
+-- A line as git writes it has the ref that it was written for.
 use Rattle.std.proofs.Common.{◌≡◌, ℕ, zero, suc, ◌+◌, ◌*◌, ◌/◌, ◌%◌, ◌<◌, ◌==◌, ◌&&◌, nat_le, nat_lt, Bool, true, false, cond, inl, inr, List, [], ◌∷◌, ◌++◌, length, take, drop, refl, sym, ap, subst, ◌∙◌, arith, Option, Some, None, Result, Ok, append_assoc, length-append, slice_index, unwrap_or}
 use Rattle.std.specs.Prelude.{codes, position}
 use Rattle.std.specs.List.{list_all, position_or_len}
@@ -20,7 +20,7 @@ use Rattle.gixp_refs.specs.WrittenLine.{is_lower, is_written_id, IsWrittenLine}
 
 -- ---- digits
 
--- the test of all numbers below one
+-- the test of all numbers below this one
 abbrev below : (ℕ → Bool) → ℕ → Bool
 below p zero = true
 below p (suc n) = p n && below p n
@@ -36,7 +36,7 @@ below-at p (suc n) k h lt =
           rw e parts.0
     ]
 
--- a digit of lower case is that of its value
+-- a lower-case digit is the digit of its value
 abbrev writes_back : ℕ → Bool
 writes_back d = cond (is_lower d) (nat_lt (unwrap_or (hex_digit_value d) 99) 16
     && slice_index lower_digits (unwrap_or (hex_digit_value d) 99) == d) true
@@ -51,7 +51,6 @@ some_value : (o : Option ℕ) → unwrap_or o 99 < 16 → o ≡ Some (unwrap_or 
 some_value (Some v) h = refl
 some_value None h = absurd (omega arith)
 
--- its value
 record Lower (d : ℕ) : Type 0 where
   value : ℕ
   reads : hex_digit_value d ≡ Some value
@@ -69,7 +68,7 @@ lower_is d h =
 
 -- ---- ids
 
--- bytes whose text this is
+-- the bytes that have this text
 record Written (at : ℕ) (text : List ℕ) : Type 0 where
   bytes : List ℕ
   reads : decode_pairs at text ≡ Ok bytes
@@ -91,7 +90,7 @@ pairs_written i (a ∷ b ∷ rest) h even =
     let low : byte % 16 ≡ y.value = omega (arith, x.fits, y.fits) in
     record { bytes = byte ∷ more.bytes; reads = rw (pair, more.reads) refl; writes = rw (high, low, x.writes, y.writes, more.writes) refl }
 
--- an id whose text this is
+-- the id that has this text
 record WrittenId (text : List ℕ) : Type 0 where
   id : List ℕ
   reads : id_of text ≡ Some id
@@ -107,16 +106,16 @@ id_written text h =
     let p = pairs_written 0 text parts.1 (rw n refl) in
     record { id = p.bytes; reads = id_reads text p.bytes n p.reads; writes = p.writes }
 
--- ---- cuts
+-- ---- splits at a byte
 
--- whether it is another byte
+-- whether a byte is another one
 abbrev other : ℕ → ℕ → Bool
 other b x = cond (x == b) false true
 
 other_is : (b x : ℕ) → other b x ≡ true → (x == b) ≡ false
 other_is b x h = false_from_ne_true (x == b) (λ e. let k = rw e at h in cc)
 
--- the place of a byte behind others
+-- the offset of a byte after others
 place_behind : (b : ℕ) (front rest : List ℕ) → list_all (other b) front ≡ true
     → position_or_len (λ x. x == b) (front ++ b ∷ rest) ≡ length front
 place_behind b [] rest h = rw (eq-eqb b b refl) refl
@@ -124,7 +123,7 @@ place_behind b (x ∷ front) rest h =
     let parts = and_parts (other b x) (list_all (other b) front) h in
     rw (other_is b x parts.0, place_behind b front rest parts.1) (omega arith)
 
--- a byte that isn't there
+-- a byte that doesn't occur
 place_none : (b : ℕ) (text : List ℕ) → list_all (other b) text ≡ true → position_or_len (λ x. x == b) text ≡ length text
 place_none b [] h = refl
 place_none b (x ∷ text) h =
@@ -135,7 +134,7 @@ drop_behind : (front : List ℕ) (b : ℕ) (rest : List ℕ) → drop (length fr
 drop_behind front b rest =
     sym (drop-drop 1 (length front) (front ++ b ∷ rest)) ∙ ap (drop 1) (drop-append_seam front (b ∷ rest))
 
--- a text is cut at a byte behind others
+-- a text is split at a byte after others
 cut_behind : (b : ℕ) (front rest : List ℕ) → list_all (other b) front ≡ true → cut b (front ++ b ∷ rest) ≡ (front, Some rest)
 cut_behind b front rest h =
     let text = front ++ b ∷ rest in
@@ -145,7 +144,7 @@ cut_behind b front rest h =
     let at : position (λ x. x == b) text ≡ Some (length front) = rw (place, inside) refl in
     ap (parts_at text) at ∙ (rw (take-append_seam front (b ∷ rest), drop_behind front b rest) refl)
 
--- a text without the byte is whole
+-- a text without the byte isn't split
 cut_none : (b : ℕ) (text : List ℕ) → list_all (other b) text ≡ true → cut b text ≡ (text, None)
 cut_none b text h =
     let outside : nat_lt (length text) (length text) ≡ false =
@@ -153,7 +152,7 @@ cut_none b text h =
     let at : position (λ x. x == b) text ≡ None = rw (place_none b text h, outside) refl in
     ap (parts_at text) at
 
--- what a cut leaves makes the text
+-- the parts of a split text make the text
 whole_from_none : (b : ℕ) (text front : List ℕ) → cut b text ≡ (front, None) → text ≡ front
 whole_from_none b text front h = at (position (λ x. x == b) text) h
   where
@@ -173,7 +172,7 @@ whole_from_some b text front rest h = at (position (λ x. x == b) text) refl h
         let after : drop (i + 1) text ≡ rest = ap (λ (x : List ℕ × Option (List ℕ)). unwrap_or x.1 []) h in
         sym (take-append-drop i text) ∙ (rw (drop_more text i 0 found.0, same, before, after) refl)
 
--- digits of lower case are no blank
+-- lower-case digits are not blanks
 lower_other : (text : List ℕ) → list_all is_lower text ≡ true → list_all (other 32) text ≡ true
 lower_other [] h = refl
 lower_other (x ∷ text) h =
@@ -187,7 +186,7 @@ lower_other (x ∷ text) h =
 id_other : (id : List ℕ) → is_written_id id ≡ true → list_all (other 32) id ≡ true
 id_other id h = lower_other id (and_parts (length id == 40) (list_all is_lower id) h).1
 
--- an id is no other word
+-- an id is not the word `unborn`
 id_is_no_word : (id : List ℕ) → is_written_id id ≡ true → is_text id (codes "unborn") ≡ false
 id_is_no_word [] h = refl
 id_is_no_word (x ∷ id) h =
@@ -200,11 +199,10 @@ id_is_no_word (x ∷ id) h =
 
 -- ---- lines
 
--- the first piece
 first_written : (id : List ℕ) (h : is_written_id id ≡ true) → first_piece id ≡ Ok (Some (id_written id h).id)
 first_written id h = rw (id_is_no_word id h, (id_written id h).reads) refl
 
--- a line behind an id and a blank
+-- a line after an id and a blank
 behind_id : (line text id rest : List ℕ) (h : is_written_id id ≡ true) → text ≡ trim_end_by is_whitespace line → text ≡ id ++ 32 ∷ rest
     → v2_line line ≡ named text (Some (id_written id h).id) (cut 32 rest)
 behind_id line text id rest h trim split =
@@ -223,7 +221,7 @@ named_peeled text [] id object attribute some h = absurd (some refl)
 named_peeled text (x ∷ name) id object attribute some h =
     ap (λ (o : Result AttributeValues RefsRefusal). and_then o (value_of (Some id) (x ∷ name))) h
 
--- what an attribute `peeled` says
+-- the value of an attribute `peeled`
 peeled_value : (text id : List ℕ) (h : is_written_id id ≡ true)
     → attribute_of text (codes "peeled", Some id) no_attributes ≡ Ok (with_peeled no_attributes (id_written id h).id)
 peeled_value text [] h = absurd (let k = eqb-true 0 40 (and_parts (0 == 40) (list_all is_lower []) h).0 in omega arith)
@@ -239,7 +237,7 @@ peeled_attribute text attribute id h split =
     ap (attributes_in text) whole ∙ ap (λ (x : List ℕ × Option (List ℕ)). attribute_of text x no_attributes) parts
     ∙ peeled_value text id h
 
--- a line that is an id and a name
+-- a line with an id and a name
 pub direct_written : (line text id rest name : List ℕ) → text ≡ trim_end_by is_whitespace line → is_written_id id ≡ true
     → text ≡ id ++ 32 ∷ rest → cut 32 rest ≡ (name, None) → (length name ≡ 0 → ⊥)
     → IsWrittenLine line text
@@ -253,7 +251,7 @@ direct_written line text id rest name trim h split c some =
           ∙ ap (λ t. t ++ codes "\n") (sym all),
     )
 
--- one that tells what a tag leads to
+-- a line with a peeled value
 pub peeled_written : (line text id rest name attribute object : List ℕ) → text ≡ trim_end_by is_whitespace line → is_written_id id ≡ true
     → text ≡ id ++ 32 ∷ rest → cut 32 rest ≡ (name, Some attribute) → (length name ≡ 0 → ⊥) → is_written_id object ≡ true
     → attribute ≡ codes "peeled:" ++ object → IsWrittenLine line text

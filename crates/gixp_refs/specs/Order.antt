@@ -9,14 +9,14 @@ use Rattle.gixp_refs.specs.Ref.{RefValue, peeled, direct, symbolic, unborn}
 abbrev pub bytes_cmp : List ℕ → List ℕ → Ordering
 bytes_cmp a b = slice_cmp nat_cmp a b
 
--- the place of a ref among the four kinds
+-- the rank of the four kinds of refs
 abbrev pub ref_place : RefValue → ℕ
 ref_place (peeled name tag object) = 0
 ref_place (direct name object) = 1
 ref_place (symbolic name target tag object) = 2
 ref_place (unborn name target) = 3
 
--- those of one kind are ordered by their names, and then by what they name
+-- by kind, then by name, then by what the ref points to
 abbrev pub ref_cmp : RefValue → RefValue → Ordering
 ref_cmp (peeled a b c) (peeled x y z) = ordering_then (bytes_cmp a x) (ordering_then (bytes_cmp b y) (bytes_cmp c z))
 ref_cmp (direct a b) (direct x y) = ordering_then (bytes_cmp a x) (bytes_cmp b y)

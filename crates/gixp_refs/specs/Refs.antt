@@ -1,4 +1,5 @@
--- The refs of an `ls-refs` answer, and what their reader does (gitprotocol-v2, "ls-refs").
+-- The refs of an `ls-refs` response, and what reading them does (gitprotocol-v2, "ls-refs"). A stop is a flush packet
+-- or a delimiter packet.
 use Rattle.std.specs.Prelude.{◌≡◌, ℕ, ◌⊎◌, ⊤, Bool, true, Option, Some, None, IfSome, List, [], ◌∷◌, ◌++◌, map, Result, Ok, Err}
 use Rattle.gixp_packetline.specs.declared.protocol.MessageKind.{MessageKind}
 use Rattle.gixp_packetline.specs.declared.protocol.Protocol.TheVariants.{V2}
@@ -13,7 +14,7 @@ use Rattle.gixp_packetline.specs.ReadFails.{ReadFails}
 use Rattle.gixp_refs.specs.ParseError.{AnswersRefs, parse_refusal, parse_errors}
 use Rattle.gixp_packetline.specs.Runs.{SoFar}
 
--- a line's value in front of the others, or its refusal before theirs
+-- the ref of a line before the others, or its error before theirs
 abbrev pub with_ref : Result RefValue RefsRefusal → Result (List RefValue) RefsRefusal → Result (List RefValue) RefsRefusal
 with_ref (Err e) rest = Err e
 with_ref (Ok v) (Ok vs) = Ok (v ∷ vs)
@@ -24,22 +25,22 @@ refs_from [] (stop kind rest) = Ok []
 refs_from [] (refusal e) = Err (refusal_from e)
 refs_from (text ∷ texts) ending = with_ref (v2_line text) (refs_from texts ending)
 
--- the values of the lines up to a stop, or the first refusal
+-- the refs of the lines up to a stop, or the first error
 abbrev pub v2_refs : Lines → Result (List RefValue) RefsRefusal
 v2_refs l = refs_from l.lines l.ending
 
--- the refs of a stream under version 2, or its first refusal
+-- the refs of a stream of version 2, or its first error
 abbrev pub stream_refs : List ℕ → Result (List RefValue) RefsRefusal
 stream_refs bytes = v2_refs (lines_of V2 (stream_pieces bytes))
 
--- each line stands for its value
+-- each line has this ref
 abbrev pub AreRefs : List (List ℕ) → List RefValue → Type 0
 AreRefs [] [] = ⊤
 AreRefs [] (v ∷ vs) = ⊥
 AreRefs (t ∷ ts) [] = ⊥
 AreRefs (t ∷ ts) (v ∷ vs) = (v2_line t ≡ Ok v) × AreRefs ts vs
 
--- the lines to come up to a stop, each a ref, and the reader is at that stop
+-- all lines up to the next stop were read, each of them a ref; the reader is at that stop
 pub record ReadsRefs (old new : Reading) (refs : List Ref) : Type 0 where
   pub kind : MessageKind
   pub texts : List (List ℕ)
@@ -51,7 +52,7 @@ pub record ReadsRefs (old new : Reading) (refs : List Ref) : Type 0 where
   pub failures : new.failures ≡ old.failures
   pub held : new.held ≡ old.held
 
--- the last of these lines is refused, and none before it
+-- the last of these lines is an error, the others are refs
 pub record LastRefLineRefused (texts : List (List ℕ)) (refusal : RefsRefusal) : Type 0 where
   pub before : List (List ℕ)
   pub text : List ℕ
@@ -59,7 +60,7 @@ pub record LastRefLineRefused (texts : List (List ℕ)) (refusal : RefsRefusal) 
   pub refs : (values : List RefValue) × AreRefs before values
   pub line : v2_line text ≡ Err refusal
 
--- the first refusal of the lines to come, or something from outside, which a plain reader has less of
+-- the first error of the lines to come, or an I/O error, an interrupt or an allocation failure; a plain reader has fewer of these
 abbrev pub RefsFail : Bool → Reading → Reading → Error → Type 0
 RefsFail plain old new e = ReadFails parse_errors SoFar (λ now p r. v2_refs (lines_ahead now p) ≡ Err r)
     (λ texts r _. LastRefLineRefused texts r) plain old new e
@@ -70,20 +71,20 @@ pub record RefsSoFar (old now : Reading) (values : List RefValue) : Type 0 where
   pub read : SoFar old now texts
   pub refs : AreRefs texts values
 
--- the reader refused what comes next, or something came from outside
+-- an error of the reader
 pub record ReaderFails (plain : Bool) (old new : Reading) (e : Error) : Type 0 where
   pub refusal : Refusal
   pub failed : Fails old new refusal
   pub is_plain : plain ≡ true → IsPlain new refusal
   pub error : parse_refusal e ≡ refusal_from refusal
 
--- a call for the next ref: of the line that it takes, and none at a stop
+-- a call for the next ref: the ref of the line that it takes, or none at a stop
 abbrev pub NextRef : Bool → Reading → Reading → Result (Option Ref) Error → Type 0
 NextRef plain old new (Ok (Some found)) = TakesLine old new × AnswersRefs ref_value (v2_line new.line) (Ok found)
 NextRef plain old new (Ok None) = AtStop old new
 NextRef plain old new (Err e) = (TakesLine old new × AnswersRefs ref_value (v2_line new.line) (Err e)) ⊎ ReaderFails plain old new e
 
--- what that call says of all refs to come: its ref is the first of them, there are none, or there is no answer
+-- the result of that call, in terms of all refs to come: the first ref, no ref, or an error
 abbrev pub NextOfRefs : Bool → Reading → Reading → Result (Option Ref) Error → Type 0
 NextOfRefs plain old new (Ok (Some found)) =
     IfSome old.to_come (λ p. (q : Pieces) × (new.to_come ≡ Some q)

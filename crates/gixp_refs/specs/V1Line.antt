@@ -1,4 +1,4 @@
--- A line of a version 0 or 1 advertisement as it is lent, and what is kept of the lines so far.
+-- A borrowed line of a reference advertisement of version 0 or 1, and the state after some lines.
 use Rattle.std.specs.Prelude.{ℕ, List, [], ◌∷◌, ◌++◌, map, Option, Some, None, Result, Ok, Err}
 use Rattle.std.specs.Option.{option_map}
 use Rattle.bstr.specs.Owned.{bstring_bytes}
@@ -21,7 +21,7 @@ line_of (ShallowLine id) = shallows id.bytes
 abbrev pub named_value : RefLine → NamedRef
 named_value n = record { object = n.object.bytes; name = bstring_bytes n.name }
 
--- the refs of the groups that are whole, the ref line that is open, and the updates
+-- the refs of the finished groups, the open ref line, and the shallow updates
 pub record SoFarValue : Type 0 where
   pub refs : List RefValue
   pub open_line : Option NamedRef
@@ -37,15 +37,14 @@ abbrev pub with_pair : SoFarValue → Result RefValue RefsRefusal → Result SoF
 with_pair s (Ok v) = Ok (record { refs = s.refs ++ v ∷ []; open_line = None; updates = s.updates })
 with_pair s (Err e) = Err e
 
--- one more ref that is whole
+-- one more finished ref
 abbrev pub with_found : SoFarValue → RefValue → SoFarValue
 with_found s v = record { refs = s.refs ++ v ∷ []; open_line = s.open_line; updates = s.updates }
 
--- the ref line that is open stays alone
+-- the open ref line has no peeled line
 abbrev pub with_closed : List Symref → SoFarValue → SoFarValue
 with_closed t s = record { refs = s.refs ++ closed t s.open_line; open_line = None; updates = s.updates }
 
--- one more line
 abbrev pub with_line : List Symref → SoFarValue → V1Line → Result SoFarValue RefsRefusal
 with_line t s nothing = Ok s
 with_line t s (shallows id) =

@@ -1,4 +1,4 @@
--- What the reader of a version 0 or 1 advertisement has done (gitprotocol-pack, "Reference Discovery").
+-- What reading a reference advertisement of version 0 or 1 does (gitprotocol-pack, "Reference Discovery").
 use Rattle.std.specs.Prelude.{◌≡◌, ℕ, ◌⊎◌, Bool, None, Some, IfSome, List, [], ◌∷◌, ◌++◌, map, Option, Ok, Err}
 use Rattle.std.specs.Option.{option_map}
 use Rattle.std.specs.Ordering.{nat_cmp}
@@ -22,7 +22,6 @@ use Rattle.gixp_packetline.specs.Runs.{SoFar}
 use Rattle.gixp_packetline.specs.ReadFails.{ReadFails}
 use Rattle.gixp_refs.specs.RefAdvertisement.{Symref, symref_table, groups, v1_refs, v1_updates}
 
--- a symref as plain data
 abbrev pub symref_value : BString × Option BString → Symref
 symref_value s = record { name = bstring_bytes s.0; target = option_map bstring_bytes s.1 }
 
@@ -33,7 +32,7 @@ symref_values ss = map symref_value ss
 abbrev pub name_cmp : BString → BString → Ordering
 name_cmp a b = slice_cmp nat_cmp (bstring_bytes a) (bstring_bytes b)
 
--- the lines to come up to a stop: the refs of their groups, their shallow updates, and the reader is at that stop
+-- all lines up to the next stop were read, with the refs of their groups and their shallow updates; the reader is at that stop
 pub record ReadsV1 (t : List Symref) (old new : Reading) (refs : List Ref) (updates : List ShallowUpdate) : Type 0 where
   pub kind : MessageKind
   pub texts : List (List ℕ)
@@ -45,7 +44,7 @@ pub record ReadsV1 (t : List Symref) (old new : Reading) (refs : List Ref) (upda
   pub failures : new.failures ≡ old.failures
   pub held : new.held ≡ old.held
 
--- the last of these lines is refused, and none before it
+-- the last of these lines is an error, and no line before it
 pub record LastV1LineRefused (t : List Symref) (texts : List (List ℕ)) (refusal : RefsRefusal) : Type 0 where
   pub before : List (List ℕ)
   pub text : List ℕ
@@ -61,17 +60,17 @@ pub record NoMemoryAtStop (old new : Reading) (e : Error) : Type 0 where
   pub at : AtStop now new
   pub error : e ≡ Memory
 
--- the first refusal of the lines to come, or something from outside, which a plain reader has less of
+-- the first error of the lines to come, or an I/O error, an interrupt or an allocation failure; a plain reader has fewer of these
 abbrev pub V1Fails : List Symref → Bool → Reading → Reading → Error → Type 0
 V1Fails t plain old new e =
     ReadFails parse_errors SoFar (λ now p r. v1_refs t (lines_ahead now p) ≡ Err r)
     (λ texts r _. LastV1LineRefused t texts r) plain old new e ⊎ NoMemoryAtStop old new e
 
--- the symrefs are read before the first line, and then the lines
+-- the symrefs are read from the capabilities before the first line
 abbrev pub GivesAdvertisement : List CapabilityValue → Reading → Reading → List Ref → List ShallowUpdate → Type 0
 GivesAdvertisement caps old new refs updates = (t : List Symref) × (symref_table caps ≡ Ok t) × ReadsV1 t old new refs updates
 
--- before the first line it was the symrefs' refusal or an allocation failure, and nothing was read
+-- a call that failed before the first line read nothing; its error is that of the symrefs, or an allocation failure
 abbrev pub AdvertisementFails : List CapabilityValue → Bool → Reading → Reading → Error → Type 0
 AdvertisementFails caps plain old new e =
     ((new ≡ old) × AnswersRefs symref_values (symref_table caps) (Err e))

@@ -1,4 +1,4 @@
-//! What a server says first: its refs.
+//! The refs of a server.
 ghost use Rattle.std.specs.Prelude.{◌≡◌};
 ghost use Rattle.std.specs.Option.{option_copied};
 ghost use Rattle.bstr.specs.BStr.{bstr_bytes};
@@ -8,37 +8,37 @@ use gixp_hash::ObjectId;
 
 pub mod refs;
 
-/// A ref of the server, by its full name, as in `refs/heads/main` (gitprotocol-v2, "ls-refs";
+/// A ref of the server. Its name is a full name, such as `refs/heads/main` (gitprotocol-v2, "ls-refs";
 /// gitprotocol-pack, "Reference Discovery").
 #[derive(Debug, Drop, Clone, PartialEq, Eq, PartialOrd, Ord, Hash)]
 pub enum Ref {
-    /// A ref that names a tag object.
+    /// A ref that points to a tag object.
     Peeled {
         full_ref_name: BString,
         /// The tag object.
         tag: ObjectId,
-        /// The object that the tag leads to.
+        /// The object that the tag points to.
         object: ObjectId,
     },
-    /// A ref that names an object that is no tag.
+    /// A ref that points to an object that is not a tag.
     Direct {
         full_ref_name: BString,
         object: ObjectId,
     },
-    /// A ref that names another ref, as `HEAD` does.
+    /// A symbolic ref, such as `HEAD`.
     Symbolic {
         full_ref_name: BString,
-        /// The full name of the other ref.
+        /// The full name of the ref that it points to.
         target: BString,
-        /// The tag object that the other ref names, if it is one.
+        /// The tag object that the other ref points to, if it points to one.
         tag: Option<ObjectId>,
-        /// The object that the other ref names, after its tag.
+        /// The object that the other ref points to, peeled if that is a tag.
         object: ObjectId,
     },
-    /// A ref that names another one which isn't there yet, as `HEAD` of a new repository does.
+    /// A symbolic ref that points to a ref which doesn't exist yet, such as `HEAD` of a new repository.
     Unborn {
         full_ref_name: BString,
-        /// The full name of the other ref.
+        /// The full name of the ref that it points to.
         target: BString,
     },
 }
@@ -46,7 +46,7 @@ pub enum Ref {
 impl Ref {
     ghost use Rattle.gixp_refs.specs.Ref.{unpacked_name, unpacked_target, unpacked_peeled};
 
-    /// The full name.
+    /// The full name of the ref.
     pub fn name(&self) -> BStr<'_>
         ensures { bstr_bytes result ≡ unpacked_name self.now }
     {
@@ -58,7 +58,7 @@ impl Ref {
         }
     }
 
-    /// The name, the object that the ref names, and the object after it where that one is a tag.
+    /// The name of the ref, the object that it points to, and the object that this one peels to if it is a tag.
     ///
     /// An unborn ref has neither object.
     pub fn unpack(&self) -> (BStr<'_>, Option<&ObjectId>, Option<&ObjectId>)

@@ -1,4 +1,4 @@
-//! What a server of git's fetch protocol says first: from lines to refs.
+//! The refs of a server in git's fetch protocol: from lines to refs.
 #![tactic(auto)]
 
 pub mod handshake;

@@ -1,4 +1,4 @@
-//! Equality and order of refs; equality of reasons why there are none.
+//! Equality and order of refs; equality of contradictions.
 ghost use Rattle.std.specs.Prelude.{◌≡◌, ◌↔◌, IsTrue};
 ghost use Rattle.gixp_refs.specs.Ref.{ref_value};
 ghost use Rattle.gixp_refs.specs.Order.{ref_cmp};
@@ -7,21 +7,19 @@ use crate::handshake::Ref;
 use crate::handshake::refs::parse::Invariant;
 use std::cmp::Ordering;
 
-// Two refs are equal exactly where they are one value.
 fn is_same_ref(one: &Ref, other: &Ref) -> bool
     ensures { IsTrue result ↔ (ref_value one.now ≡ ref_value other.now) }
 {
     one == other
 }
 
-// Refs are ordered by their kinds, their names, and then what they name.
+// Refs are ordered by kind, then by name, then by what they point to.
 fn order_of_refs(first: &Ref, second: &Ref) -> Ordering
     ensures { result ≡ ref_cmp (ref_value first.now) (ref_value second.now) }
 {
     first.cmp(second)
 }
 
-// Two reasons why lines don't go together are equal exactly where they are one.
 fn is_same_invariant(left: &Invariant, right: &Invariant) -> bool
     ensures { IsTrue result ↔ (left.now ≡ right.now) }
 {

@@ -5,8 +5,8 @@ ghost use Rattle.bstr.specs.Trim.{trim_end_by};
 
 use bstr::ByteSlice;
 
-// The line without the white space at its end. Mostly that is one LF after a letter or digit, and these
-// two bytes are told without decoding characters.
+// The line without the white space at its end. Mostly that is one LF after a letter or digit. These two bytes are
+// recognized without decoding characters.
 #[inline(always)]
 pub(crate) fn trim_end(line: &[u8]) -> &[u8]
     ensures { result.now ≡ trim_end_by is_whitespace line.now }

@@ -1,4 +1,4 @@
--- What was added covers what the refspec matches.
+-- The prefixes that were appended cover the names that the refspec matches.
 use Rattle.std.proofs.Common.{ℕ, List, Result, Ok, Err, ap, ◌∙◌}
 use Rattle.std.specs.Prelude.{OnOk}
 use Rattle.std.specs.declared.alloc.AllocError.{AllocError}
@@ -7,7 +7,7 @@ use Rattle.gixp_refspec.specs.Matching.{prefixes_of, Covers, is_covered}
 use Rattle.gixp_refspec.specs.Texts.{AddsSome}
 use Rattle.gixp_refspec.proofs.PrefixLemmas.{matched_is_covered, covered_behind}
 
--- a call that added the prefixes of a refspec covers what it matches
+-- a call that appended the prefixes of a refspec covers the names that it matches
 pub covers_on_ok : (r : Result Unit AllocError) (old new : List (List ℕ)) (s : Spec) → AddsSome r old (prefixes_of s) new
     → OnOk r (Covers new s)
 covers_on_ok (Ok t) old new s h = λ name positive matched.

@@ -1,4 +1,3 @@
--- Lemmas.
 pub mod NameLemmas
 pub mod SpecLemmas
 pub mod TextLemmas

@@ -1,4 +1,4 @@
--- What a front, a middle and a back say of a name.
+-- Names that are a front, a middle and a back.
 use Rattle.std.proofs.Common.{◌≡◌, ◌≢◌, ℕ, ◌+◌, ◌-◌, Bool, false, List, ◌++◌, length, take, drop, Option, Some, None, Bor, ap, sym, ◌∙◌, refl, arith, inl, inr, length-append}
 use Rattle.std.specs.Prelude.{MatchOption}
 use Rattle.std.specs.Option.{option_copied}
@@ -14,21 +14,20 @@ use Rattle.gixp_refspec.specs.Matching.{between, inner}
 pub same_rest : (front xs ys : List ℕ) → front ++ xs ≡ front ++ ys → xs ≡ ys
 same_rest front xs ys e = sym (front_rest (front ++ xs) front xs refl) ∙ front_rest (front ++ xs) front ys e
 
--- different texts are not equal
 pub false_from_other : (xs ys : List ℕ) → xs ≢ ys → false ≡ bytes_eq xs ys
 false_from_other xs ys h = sym (false_from_ne_true _ (λ t. h ((bytes_eq-Decides xs ys).0 t)))
 
--- a name that does not begin with front is not front, middle, back
+-- a name that doesn't begin with front is not front, middle and back
 pub no_front : (name front middle back : List ℕ) → ((rest : List ℕ) → name ≢ front ++ rest)
     → false ≡ bytes_eq name (front ++ (middle ++ back))
 no_front name front middle back h = false_from_other _ _ (h (middle ++ back))
 
--- nor is one whose rest does not begin with middle
+-- a name that goes on with another text than middle is not front, middle and back
 pub no_middle : (name front rest middle back : List ℕ) → name ≡ front ++ rest → ((r : List ℕ) → rest ≢ middle ++ r)
     → false ≡ bytes_eq name (front ++ (middle ++ back))
 no_middle name front rest middle back e h = false_from_other _ _ (λ d. h back (same_rest front _ _ (sym e ∙ d)))
 
--- after front and middle the rest decides
+-- the rest after front and middle decides
 pub with_back : (name front rest middle last back : List ℕ) (r : Bool) → name ≡ front ++ rest → rest ≡ middle ++ last
     → r ≡ bytes_eq last back → r ≡ bytes_eq name (front ++ (middle ++ back))
 with_back name front rest middle last back r e d h =
@@ -38,15 +37,13 @@ with_back name front rest middle last back r e d h =
       λ s. h ∙ (bytes_eq-Decides last back).1 (same_rest middle _ _ (same_rest front _ _ (sym all ∙ s))),
     ) (bytes_eq-Decides name (front ++ (middle ++ back)))
 
--- what is in equal options is equal
 some_is : {A : Type 0} {a b : A} → Some a ≡ Some b → a ≡ b
 some_is e = cc
 
--- nothing is not something
 none_is : {A : Type 0} {a : A} → None ≡ Some a → ⊥
 none_is e = cc
 
--- what is between front and back is the middle
+-- the part between front and back is the middle
 inner_is : (front middle back : List ℕ) → inner front back (front ++ (middle ++ back)) ≡ middle
 inner_is front middle back =
     let whole = front ++ (middle ++ back) in
@@ -55,7 +52,7 @@ inner_is front middle back =
     ap (λ k. take k (drop (length front) whole)) n ∙ ap (take (length middle)) (drop-append_seam front (middle ++ back))
     ∙ take-append_seam middle back
 
--- between says exactly that the name is front, middle, back
+-- front, middle and back joined have this middle
 pub between_middle : (front middle back : List ℕ) → between front back (front ++ (middle ++ back)) ≡ Some middle
 unfolding between
 between_middle front middle back =
@@ -64,12 +61,12 @@ between_middle front middle back =
     (ap (λ m. front ++ (m ++ back)) (sym e)) in
     cond-true _ _ _ same ∙ ap Some e
 
--- no middle where there is none
+-- a name that is not front, any text and back has no middle
 pub between_none : (front back name : List ℕ) → ((m : List ℕ) → name ≢ front ++ (m ++ back)) → between front back name ≡ None
 unfolding between
 between_none front back name h = cond-false _ _ _ (sym (false_from_other _ _ (h _)))
 
--- a middle where there is one
+-- a name that has a middle is front, middle and back
 pub between_some : (front back name middle : List ℕ) → between front back name ≡ Some middle → name ≡ front ++ (middle ++ back)
 unfolding between
 between_some front back name middle h = elim (cases_Bool (bytes_eq name (front ++ (inner front back name ++ back)))) [
@@ -79,7 +76,7 @@ between_some front back name middle h = elim (cases_Bool (bytes_eq name (front +
   | inr f ↦ absurd (none_is (sym (cond-false _ _ _ f) ∙ h))
 ]
 
--- what is left behind the front and before the back is the middle
+-- the part after front and before back is the middle
 pub between_from : (front back name rest : List ℕ) (r : Option (Bor (List ℕ))) → name ≡ front ++ rest
     → MatchOption r ((f : List ℕ) → rest ≢ f ++ back) (λ x. rest ≡ x.now ++ back) → option_copied r ≡ between front back name
 between_from front back name rest None e h = sym (between_none front back name (λ m s. h m (same_rest front _ _ (sym e ∙ s))))

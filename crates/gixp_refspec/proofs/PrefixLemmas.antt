@@ -17,7 +17,7 @@ use Rattle.gixp_refspec.specs.Needle.{IsNeedle}
 use Rattle.gixp_refspec.specs.Texts.{AddsSome}
 use Rattle.gixp_refspec.proofs.MatchLemmas.{between_some}
 
--- what passes one test passes a weaker one
+-- an element that passes a test passes a weaker one
 pub any_weaker : {A : Type 0} (p q : A → Bool) → ((x : A) → p x ≡ true → q x ≡ true) → (xs : List A) → list_any p xs ≡ true
     → list_any q xs ≡ true
 any_weaker p q h [] t = t
@@ -30,22 +30,21 @@ any_weaker p q h (x ∷ xs) t = elim (or_cases (p x) (list_any p xs) t) [
 starts : (name front rest : List ℕ) → name ≡ front ++ rest → starts_with nat_eq name front ≡ true
 starts name front rest e = (starts_is Decides-eqb name front (starts_with nat_eq name front) refl).1 rest e
 
--- a name begins with itself
 starts_itself : (name text : List ℕ) → bytes_eq name text ≡ true → starts_with nat_eq name text ≡ true
 starts_itself name text h = starts name text [] ((bytes_eq-Decides name text).0 h ∙ sym (append-nil text))
 
--- there is a middle exactly where the test holds
+-- there is a middle only where the test holds
 where_is_some : (b : Bool) → is_some (where_true b) ≡ true → b ≡ true
 where_is_some true h = refl
 where_is_some false h = h
 
--- a name with a middle begins with the front
+-- a name that has a middle begins with front
 between_starts : (front back name : List ℕ) (found : Option (List ℕ)) → between front back name ≡ found → is_some found ≡ true
     → starts_with nat_eq name front ≡ true
 between_starts front back name None e h = absurd (false≢true h)
 between_starts front back name (Some middle) e h = starts name front (middle ++ back) (between_some front back name middle e)
 
--- by its kind, each name that a source matches is covered
+-- each name that a source matches is covered, by the kind of the source
 covered_by : (kind : Kind) (source name : List ℕ) → is_some (middle_by kind source name) ≡ true
     → is_covered (prefixes_by kind source) name ≡ true
 covered_by Id source name h = h
@@ -54,7 +53,7 @@ covered_by Exact source name h = or_left _ _ (starts_itself name source (where_i
 covered_by Short source name h = any_weaker (λ candidate. bytes_eq name candidate) (λ prefix. starts_with nat_eq name prefix)
     (λ candidate. starts_itself name candidate) (candidates source) (where_is_some _ h)
 
--- what each candidate of a short name adds
+-- the expansions of a short name that were appended
 pub adds_short : (source : List ℕ) (text : Bor (List ℕ)) (r : Result Unit AllocError) (old new : List (List ℕ)) → IsNeedle source
     (the_short text) → AddsSome r old (candidates text.now) new → AddsSome r old (prefixes_by (kind_of source) source) new
 adds_short source text r old new h adds =
@@ -68,6 +67,6 @@ unfolding prefixes_of middle_of
 matched_is_covered s name positive h = ap (λ l. is_covered l name) (cond-false _ [] (prefixes_by (kind_of s.source) s.source) positive)
     ∙ covered_by (kind_of s.source) s.source name h
 
--- prefixes after others cover what they cover
+-- the prefixes after others cover the same names
 pub covered_behind : (old more : List (List ℕ)) (name : List ℕ) → is_covered more name ≡ true → is_covered (old ++ more) name ≡ true
 covered_behind old more name h = list_any-append (λ prefix. starts_with nat_eq name prefix) old more ∙ or_right _ _ h

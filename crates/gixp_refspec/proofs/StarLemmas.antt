@@ -6,12 +6,10 @@ use Rattle.std.proofs.lemmas.List.Sums.{sum_by-cons}
 use Rattle.gixp_refspec.specs.Spec.{stars}
 use Rattle.gixp_refspec.specs.Matching.{is_star, is_pattern}
 
--- one byte more
 stars-cons : (b : ℕ) (bs : List ℕ) → stars (b ∷ bs) ≡ cond (is_star b) 1 0 + stars bs
 unfolding stars
 stars-cons b bs = sum_by-cons (λ x. cond (is_star x) 1 0) b bs
 
--- none of no bytes
 no_stars : stars [] ≡ 0
 unfolding stars
 no_stars = refl
@@ -22,7 +20,7 @@ lt_suc a n = elim (cases_lt a n) [
   | inr g ↦ le-ltb (suc a) (suc n) (omega arith) ∙ sym (le-ltb a n g)
 ]
 
--- the first is before the end where there is one
+-- the first asterisk is before the end, if there is one
 before_end : (text : List ℕ) → nat_lt (position_or_len is_star text) (length text) ≡ is_pattern text
 before_end [] = ap (nat_lt 0) (sym no_stars)
 before_end (b ∷ bs) = elim (cases_Bool (is_star b)) [
@@ -46,13 +44,12 @@ cond_none : {A : Type 0} (b : Bool) (x : A) → cond b (Some x) None ≡ None �
 cond_none true x e = cc
 cond_none false x e = refl
 
--- a text with an asterisk at a place
+-- a text with an asterisk at this offset
 pub star_at : (text : List ℕ) (at : ℕ) → position is_star text ≡ Some at → (is_pattern text ≡ true) × (at ≡ position_or_len is_star text)
 star_at text at e =
     let both = cond_some (nat_lt (position_or_len is_star text) (length text)) (position_or_len is_star text) at e in
     (sym (before_end text) ∙ both.0, both.1)
 
--- a text without one
 pub no_star : (text : List ℕ) → position is_star text ≡ None → is_pattern text ≡ false
 no_star text e =
     sym (before_end text) ∙ cond_none (nat_lt (position_or_len is_star text) (length text)) (position_or_len is_star text) e

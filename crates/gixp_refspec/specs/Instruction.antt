@@ -1,4 +1,4 @@
--- What a refspec asks for, as plain data.
+-- The instruction of a refspec, as plain data.
 use Rattle.std.specs.Prelude.{ℕ, Bool, List}
 use Rattle.bstr.specs.BStr.{bstr_bytes}
 use Rattle.gixp_refspec.specs.declared.instruction.Instruction.{Instruction}

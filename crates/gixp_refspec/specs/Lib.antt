@@ -1,4 +1,4 @@
--- What contracts cite.
+-- The definitions that contracts cite.
 pub mod Name
 pub mod Spec
 pub mod RefSpec

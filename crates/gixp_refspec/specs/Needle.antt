@@ -1,4 +1,4 @@
--- A source that was looked at once, before it is compared with many names.
+-- A source that was examined once, and is compared with many names.
 use Rattle.std.specs.Prelude.{ℕ, ◌≡◌, true, false, List, Option, Some, None}
 use Rattle.std.specs.List.{list_any}
 use Rattle.std.specs.Borrow.{Bor}
@@ -7,7 +7,7 @@ use Rattle.gixp_refspec.specs.declared.needle.Needle.{Needle}
 use Rattle.gixp_refspec.specs.declared.needle.Needle.TheVariants.{Id as the_id, Pattern as the_pattern, Exact as the_exact, Short as the_short}
 use Rattle.gixp_refspec.specs.Matching.{Id, Pattern, Exact, Short, is_pattern, kind_of, before_star, after_star, between, where_true, candidates}
 
--- the needle says what the source is
+-- the needle has the kind and the parts of the source
 abbrev pub IsNeedle : List ℕ → Needle → Type 0
 IsNeedle source the_id = kind_of source ≡ Id
 IsNeedle source (the_pattern before after) = (kind_of source ≡ Pattern) × (before.now ≡ before_star source)
@@ -22,7 +22,7 @@ middle_with (the_pattern before after) name = between before.now after.now name
 middle_with (the_exact text) name = where_true (bytes_eq name text.now)
 middle_with (the_short text) name = where_true (list_any (λ candidate. bytes_eq name candidate) (candidates text.now))
 
--- what comes before and after the first asterisk, where there is one
+-- the text before and after the first asterisk, if there is one
 abbrev pub IsAround : List ℕ → Option (Bor (List ℕ) × Bor (List ℕ)) → Type 0
 IsAround text None = is_pattern text ≡ false
 IsAround text (Some parts) = (is_pattern text ≡ true) × (parts.0.now ≡ before_star text) × (parts.1.now ≡ after_star text)

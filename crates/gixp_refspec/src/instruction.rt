@@ -1,31 +1,31 @@
-//! What a refspec asks for.
+//! The instruction of a refspec.
 use bstr::BStr;
 
-/// What a refspec asks for, by its operation.
+/// The instruction of a refspec, by its operation.
 #[derive(Clone, Copy, Debug, PartialEq, Eq)]
 pub enum Instruction<'a> {
-    /// What `git fetch` is asked for.
+    /// For `git fetch`.
     Fetch(Fetch<'a>),
 }
 
-/// What a refspec of `git fetch` asks for.
+/// The instruction of a refspec of `git fetch`.
 #[derive(Clone, Copy, Debug, PartialEq, Eq)]
 pub enum Fetch<'a> {
-    /// Fetch what the source names, and write no local ref.
+    /// Fetches what the source names, and updates no local ref.
     Only {
         /// An object id, a name or a pattern.
         src: BStr<'a>,
     },
-    /// Fetch what the source names into a local ref.
+    /// Fetches what the source names, and updates local refs.
     AndUpdate {
         /// An object id, a name or a pattern.
         src: BStr<'a>,
-        /// The name of the local ref, or a pattern where the source is one.
+        /// The name of the local ref; a pattern if the source is one.
         dst: BStr<'a>,
-        /// Whether the local ref may lose commits: the refspec begins with `+`.
+        /// Whether the update may lose commits of the local ref: the refspec begins with `+`.
         allow_non_fast_forward: bool,
     },
-    /// Leave out the refs that the source matches.
+    /// Excludes the refs that the source matches.
     Exclude {
         /// An exact name or a pattern.
         src: BStr<'a>,

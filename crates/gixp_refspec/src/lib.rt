@@ -1,5 +1,5 @@
-//! Refspecs of `git fetch` (git-fetch, "<refspec>"): reading and writing them, which names their sources match, and the
-//! prefixes that a server is asked for. What a list of them maps is in the crate above.
+//! Refspecs of `git fetch` (git-fetch, "<refspec>"): how they are read and written, which names their sources match,
+//! and their prefixes for `ls-refs`. The mappings of a list of refspecs are in `gixp_matching`.
 #![tactic(auto)]
 
 pub mod instruction;

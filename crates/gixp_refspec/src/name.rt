@@ -1,4 +1,4 @@
-//! The rules that the name of a ref keeps (git-check-ref-format).
+//! The rules for ref names (git-check-ref-format).
 ghost use Rattle.std.specs.Prelude.{◌≡◌, IsTrue};
 ghost use Rattle.std.specs.List.{list_all};
 ghost use Rattle.gixp_refspec.specs.Name.{is_name_byte, is_component, occurs, components, is_name, is_partial_name};
@@ -9,11 +9,10 @@ use crate::parse::Error;
 use bstr::{BStr, BString, ByteSlice};
 use std::alloc::AllocError;
 
-// The bytes that a name must not have, beside blanks and control characters.
+// The bytes that a name must not have, besides blanks and control characters.
 const FORBIDDEN: &[u8] = b"~^:?[\\";
 
 #[tactic(auto, unfolding(crate::specs::Name::is_name_byte))]
-// Whether the byte may stand in a name.
 fn is_name_byte(byte: u8) -> bool
     ensures { result ≡ is_name_byte byte }
 {
@@ -21,28 +20,26 @@ fn is_name_byte(byte: u8) -> bool
 }
 
 #[tactic(auto, unfolding(crate::specs::Name::is_component))]
-// Whether the bytes may stand between two slashes.
+// Whether the bytes are a valid part between two slashes.
 fn is_component(part: &[u8]) -> bool
     ensures { result ≡ is_component part.now }
 {
     !part.is_empty() && !part.starts_with(b".") && !part.ends_with(b".lock")
 }
 
-// Whether the text stands somewhere in the name.
+// Whether the text occurs in the name.
 fn has_text(name: &[u8], text: &[u8]) -> bool
     ensures { result ≡ occurs text.now name.now }
 {
     name.contains_str(text)
 }
 
-// Whether each byte may stand in a name.
 fn has_name_bytes(name: &[u8]) -> bool
     ensures { result ≡ list_all is_name_byte name.now }
 {
     name.iter().all(|byte| is_name_byte(*byte))
 }
 
-// Whether each part between slashes may stand there.
 fn has_components(name: &[u8]) -> bool
     ensures { result ≡ list_all is_component (components name.now) }
 {
@@ -51,7 +48,7 @@ fn has_components(name: &[u8]) -> bool
 }
 
 #[tactic(auto, unfolding(crate::specs::Name::is_name))]
-/// Whether the bytes keep the rules for names, where an asterisk is an ordinary byte.
+/// Whether the bytes are a valid ref name, where an asterisk is an ordinary byte.
 pub(crate) fn is_name(name: &[u8]) -> bool
     ensures { result ≡ is_name name.now }
 {
@@ -63,8 +60,7 @@ pub(crate) fn is_name(name: &[u8]) -> bool
         && has_components(name)
 }
 
-/// A name that keeps the rules for names (git-check-ref-format, with `--allow-onelevel`) and has no asterisk. It may
-/// have one component, as `main`.
+/// A valid ref name (git-check-ref-format, with `--allow-onelevel`) without an asterisk. It may have one component, such as `main`.
 #[derive(Debug, Drop, PartialEq, Eq)]
 pub struct PartialName {
     name: BString,
@@ -75,11 +71,11 @@ impl PartialName {
     ghost use Rattle.std.specs.Prelude.{◌≡◌};
     ghost use Rattle.gixp_refspec.specs.PartialName.{GivesName, name_bytes};
 
-    /// Checks the rules for names. It allocates nothing.
+    /// Checks the rules for ref names. It allocates nothing.
     ///
     /// # Errors
     ///
-    /// `InvalidName` where the name breaks a rule or has an asterisk; the name is dropped then.
+    /// `InvalidName` where the name breaks a rule or has an asterisk. The name is dropped.
     pub fn new(name: BString) -> Result<PartialName, Error>
         ensures { GivesName (bstring_bytes name) result }
     {
@@ -90,7 +86,7 @@ impl PartialName {
         }
     }
 
-    /// The name.
+    /// The name as bytes.
     pub fn as_bstr(&self) -> BStr<'_>
         ensures name { bstr_bytes result ≡ name_bytes self.now }
         ensures valid { IsTrue (is_partial_name (bstr_bytes result)) }
@@ -112,7 +108,7 @@ impl Clone for PartialName {
     }
 }
 
-/// Whether the bytes keep the rules for names, with no asterisk; for local names, which the crate above makes.
+/// Whether the bytes are a valid ref name without an asterisk. Crates above check local names with it.
 #[tactic(auto, unfolding(crate::specs::Name::is_partial_name))]
 pub fn is_partial_name(name: &[u8]) -> bool
     ensures { result ≡ is_partial_name name.now }

@@ -1,4 +1,4 @@
-//! A source that was looked at once, to be compared with many names, as the crate above does.
+//! A source that is examined once and compared with many names, as `gixp_matching` does.
 ghost use Rattle.std.specs.Prelude.{◌≡◌, ◌<◌, ◌++◌, length, IfSome};
 ghost use Rattle.std.specs.Option.{option_copied};
 ghost use Rattle.std.specs.List.{position, list_any};
@@ -8,26 +8,25 @@ ghost use Rattle.gixp_refspec.specs.Matching.{is_star, between, candidates, join
 
 use crate::spec::{is_full, is_id};
 
-/// What a source is.
+/// The kind and the parts of a source.
 #[derive(Clone, Copy)]
 pub enum Needle<'a> {
     /// An object id, which matches no name.
     Id,
-    /// A text with an asterisk, which stands for any bytes.
+    /// A text with an asterisk, which matches any bytes.
     Pattern {
-        /// What comes before the asterisk.
+        /// The text before the asterisk.
         before: &'a [u8],
-        /// What comes after it.
+        /// The text after it.
         after: &'a [u8],
     },
-    /// `HEAD` or a name from `refs/` on, which matches itself.
+    /// `HEAD` or a name that begins with `refs/`. It matches only itself.
     Exact(&'a [u8]),
-    /// Any other name, which stands for six names.
+    /// Any other name. It matches its six expansions.
     Short(&'a [u8]),
 }
 
-/// What comes before and after a short name in each of the names that it stands for (git-rev-parse, "Specifying
-/// revisions").
+/// The text before and after a short name in each of its expansions (gitrevisions, "Specifying revisions").
 pub const RULES: [(&[u8], &[u8]); 6] = [
     (b"", b""),
     (b"refs/", b""),
@@ -40,7 +39,7 @@ pub const RULES: [(&[u8], &[u8]); 6] = [
 impl<'a> Needle<'a> {
     ghost use Rattle.gixp_refspec.specs.Needle.{IsNeedle, middle_with};
 
-    /// What the source is.
+    /// Examines a source.
     #[tactic(auto, unfolding(crate::specs::Matching::kind_of))]
     pub fn new(source: &'a [u8]) -> Needle<'a>
         ensures { IsNeedle source.now result }
@@ -58,7 +57,7 @@ impl<'a> Needle<'a> {
         }
     }
 
-    /// The middle of a name that the source matches, which is empty where the source is no pattern.
+    /// The middle of a name that the source matches: the part that the asterisk matches, or empty where the source is not a pattern.
     #[inline(always)]
     pub fn middle<'n>(&self, name: &'n [u8]) -> Option<&'n [u8]>
         ensures { option_copied result ≡ middle_with self.now name.now }
@@ -72,7 +71,7 @@ impl<'a> Needle<'a> {
     }
 }
 
-// The place of the first asterisk.
+// The offset of the first asterisk.
 fn star_in(text: &[u8]) -> Option<usize>
     ensures place { result ≡ position is_star text.now }
     ensures within { IfSome result (λ i. i < length text.now) }
@@ -80,7 +79,7 @@ fn star_in(text: &[u8]) -> Option<usize>
     text.iter().position(|byte| *byte == b'*')
 }
 
-/// What comes before and after the first asterisk, where there is one.
+/// The text before and after the first asterisk, if there is one.
 #[inline(always)]
 pub fn around_star(text: &[u8]) -> Option<(&[u8], &[u8])>
     ensures { IsAround text.now result }
@@ -91,7 +90,7 @@ pub fn around_star(text: &[u8]) -> Option<(&[u8], &[u8])>
     }
 }
 
-// What comes between front and back.
+// The part of the name between front and back, if it begins and ends with them.
 fn between<'a>(front: &[u8], back: &[u8], name: &'a [u8]) -> Option<&'a [u8]>
     ensures { option_copied result ≡ between front.now back.now name.now }
 {
@@ -114,7 +113,7 @@ fn is_joined(name: &[u8], front: &[u8], middle: &[u8], back: &[u8]) -> bool
     }
 }
 
-// Whether some rule makes the name of the short name.
+// Whether one of the rules expands the short name to the name.
 fn is_made_by(rules: &[(&[u8], &[u8])], short: &[u8], name: &[u8]) -> bool
     ensures { result ≡ list_any (λ rule. bytes_eq name.now (joined short.now (rule_of rule))) rules.now }
 {
@@ -123,7 +122,7 @@ fn is_made_by(rules: &[(&[u8], &[u8])], short: &[u8], name: &[u8]) -> bool
         .any(|(front, back)| is_joined(name, front, short, back))
 }
 
-// Whether the short name stands for the name.
+// Whether the name is an expansion of the short name.
 #[tactic(auto, unfolding(crate::specs::Matching::candidates))]
 fn is_candidate(short: &[u8], name: &[u8]) -> bool
     ensures { result ≡ list_any (λ candidate. bytes_eq name.now candidate) (candidates short.now) }

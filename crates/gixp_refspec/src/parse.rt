@@ -11,45 +11,45 @@ use crate::spec::{RefSpecRef, Sign, is_full, is_id, stars};
 use bstr::BStr;
 use thiserror::Error as DeriveError;
 
-/// What a refspec is for.
+/// The operation that a refspec is for.
 #[derive(Clone, Copy, PartialEq, Eq, Debug)]
 pub enum Operation {
-    /// Fetching from a remote.
+    /// Fetch from a remote.
     Fetch,
 }
 
-/// Why a text is no refspec. Of several reasons, a colon or an id in a negative refspec comes first, then
-/// asterisks, then names.
+/// Why a text is not a refspec. If there are several reasons, a colon or an object id in a negative refspec is reported
+/// first, then asterisks, then names.
 #[derive(Clone, Copy, Debug, PartialEq, Eq, DeriveError)]
 pub enum Error {
     /// A negative refspec has a colon.
     #[error("NegativeWithDestination")]
     NegativeWithDestination,
-    /// A negative refspec names an object id.
+    /// A negative refspec is an object id.
     #[error("NegativeObjectHash")]
     NegativeObjectHash,
-    /// A negative refspec is neither `HEAD`, nor begins with `refs/`, nor is a pattern.
+    /// A negative refspec is a short name: it is neither `HEAD` nor a pattern, and doesn't begin with `refs/`.
     #[error("NegativePartialName")]
     NegativePartialName,
-    /// There are a source and a destination, and just one of them has an asterisk.
+    /// Only one of source and destination has an asterisk.
     #[error("PatternUnbalanced")]
     PatternUnbalanced,
     /// The source or the destination has two or more asterisks.
     #[error("PatternUnsupported")]
     PatternUnsupported,
-    /// The source or the destination breaks the rules for names (git-check-ref-format).
+    /// The source or the destination is not a valid ref name (git-check-ref-format).
     #[error("InvalidName")]
     InvalidName,
 }
 
-// The place of the first colon.
+// The offset of the first colon.
 fn colon_in(body: &[u8]) -> Option<usize>
     ensures { result ≡ position is_colon body.now }
 {
     body.iter().position(|byte| *byte == b':')
 }
 
-// The place of the first colon, or the end.
+// The offset of the first colon, or the end.
 fn colon_at(body: &[u8]) -> usize
     ensures place { result ≡ position_or_len is_colon body.now }
     ensures within { result ≤ length body.now }
@@ -57,14 +57,12 @@ fn colon_at(body: &[u8]) -> usize
     colon_in(body).unwrap_or(body.len())
 }
 
-// What comes before the first colon.
 fn before_colon(body: &[u8]) -> &[u8]
     ensures { result.now ≡ before_first is_colon body.now }
 {
     &body[..colon_at(body)]
 }
 
-// What comes after the first colon.
 fn after_colon(body: &[u8]) -> &[u8]
     ensures { result.now ≡ after_first is_colon body.now }
 {
@@ -76,7 +74,7 @@ fn after_colon(body: &[u8]) -> &[u8]
     }
 }
 
-// The source of a positive refspec.
+// The source of a positive refspec, which has no sign here.
 fn source_in(body: &[u8]) -> &[u8]
     ensures { result.now ≡ source_in body.now }
 {
@@ -84,7 +82,7 @@ fn source_in(body: &[u8]) -> &[u8]
     if source.is_empty() { b"HEAD" } else { source }
 }
 
-// The destination of a positive refspec.
+// The destination of a positive refspec, which has no sign here.
 fn destination_in(body: &[u8]) -> Option<&[u8]>
     ensures { option_copied result ≡ destination_in body.now }
 {
@@ -96,7 +94,7 @@ fn destination_in(body: &[u8]) -> Option<&[u8]>
     }
 }
 
-// Why a negative refspec is refused.
+// Why a negative refspec is invalid.
 #[tactic(auto, unfolding(crate::specs::Spec::negative_fault))]
 fn negative_fault(source: &[u8]) -> Option<Error>
     ensures { result ≡ negative_fault source.now }
@@ -116,7 +114,7 @@ fn negative_fault(source: &[u8]) -> Option<Error>
     }
 }
 
-// Why a positive refspec without a destination is refused.
+// Why a positive refspec without a destination is invalid.
 #[tactic(auto, unfolding(crate::specs::Spec::source_fault))]
 fn source_fault(source: &[u8]) -> Option<Error>
     ensures { result ≡ source_fault source.now }
@@ -130,7 +128,7 @@ fn source_fault(source: &[u8]) -> Option<Error>
     }
 }
 
-// Why a positive refspec with a destination is refused.
+// Why a positive refspec with a destination is invalid.
 #[tactic(auto, unfolding(crate::specs::Spec::pair_fault))]
 fn pair_fault(source: &[u8], destination: &[u8]) -> Option<Error>
     ensures { result ≡ pair_fault source.now destination.now }
@@ -146,7 +144,7 @@ fn pair_fault(source: &[u8], destination: &[u8]) -> Option<Error>
     }
 }
 
-// Why the parts of a refspec are refused.
+// Why the parts of a refspec are invalid.
 fn fault_in(sign: Sign, source: &[u8], destination: Option<&[u8]>) -> Option<Error>
     ensures { result ≡ fault_in sign source.now (option_copied destination.entry) }
 {
@@ -158,14 +156,13 @@ fn fault_in(sign: Sign, source: &[u8], destination: Option<&[u8]>) -> Option<Err
     }
 }
 
-// The parts of a refspec.
 struct Parts<'a> {
     sign: Sign,
     source: &'a [u8],
     destination: Option<&'a [u8]>,
 }
 
-// The text after its first byte.
+// The text after its sign.
 fn behind_sign(text: &[u8]) -> &[u8]
     requires { 1 ≤ length text.now }
     ensures { result.now ≡ drop 1 text.now }
@@ -173,7 +170,7 @@ fn behind_sign(text: &[u8]) -> &[u8]
     &text[1..]
 }
 
-// Cuts a text, by its first byte and its first colon.
+// Splits a text by its sign and its first colon.
 #[tactic(auto, unfolding(crate::specs::Spec::parts_of))]
 fn parts_of(text: &[u8]) -> Parts<'_>
     ensures { spec result.sign result.source.now (option_copied result.destination) ≡ parts_of text.now }
@@ -200,15 +197,15 @@ fn parts_of(text: &[u8]) -> Parts<'_>
     }
 }
 
-/// Reads a refspec (git-fetch, "<refspec>"). It allocates nothing: the value borrows the text.
+/// Reads a refspec (git-fetch, "<refspec>"). It allocates nothing; the result borrows the text.
 ///
-/// A text that begins with `^` is negative, and the rest is its source. Any other text is an optional `+`, a source,
-/// and after the first colon a destination; an empty source is `HEAD`, and an empty destination is none. A pattern
-/// without a destination is accepted, and maps without a local name.
+/// A text that begins with `^` is a negative refspec, and the rest is its source. Any other text is an optional `+`, a
+/// source, and after the first colon a destination. An empty source means `HEAD`, an empty destination means none. A
+/// pattern without a destination is accepted; it maps to no local name.
 ///
 /// # Errors
 ///
-/// The first of the [`Error`]s that applies.
+/// The first [`Error`] that applies.
 pub fn parse<'a>(spec: BStr<'a>, operation: Operation) -> Result<RefSpecRef<'a>, Error>
     ensures { MatchResult result (λ s. spec_of (bstr_bytes spec.entry) ≡ Ok (value_of s)) (λ e. spec_of (bstr_bytes spec.entry) ≡ Err e) }
 {

@@ -1,4 +1,4 @@
-//! The prefixes that a refspec asks a server for.
+//! The prefixes of a refspec for `ls-refs`.
 ghost use Rattle.std.specs.Prelude.{◌≡◌, [], ◌∷◌, ◌++◌, map, OnOk, OnErr};
 ghost use Rattle.bstr.specs.Owned.{bstring_bytes};
 ghost use Rattle.gixp_refspec.specs.Matching.{kind_of, candidates, joined, rule_of, prefixes_by};
@@ -9,7 +9,6 @@ use crate::text::joined;
 use bstr::BString;
 use std::alloc::{AllocError, Global};
 
-// Appends a text.
 fn push_text(out: &mut Vec<BString>, text: BString) -> Result<(), AllocError>
     ensures ok { OnOk result (texts out.new ≡ texts out.old ++ bstring_bytes text ∷ []) }
     ensures err { OnErr result (texts out.new ≡ texts out.old) }
@@ -33,7 +32,7 @@ fn push_joined(
     push_text(out, text)
 }
 
-// Appends what each rule makes of the short name.
+// Appends the expansions of the short name by these rules.
 fn push_made(
     alloc: Global,
     out: &mut Vec<BString>,
@@ -48,7 +47,6 @@ fn push_made(
     Ok(())
 }
 
-// Appends one prefix.
 fn push_prefix(alloc: Global, out: &mut Vec<BString>, prefix: &[u8]) -> Result<(), AllocError>
     ensures { AddsSome result (texts out.old) (prefix.now ∷ []) (texts out.new) }
 {

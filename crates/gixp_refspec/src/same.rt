@@ -1,4 +1,4 @@
-//! Equality of refspecs, of what they ask for, of names and errors.
+//! Equality of refspecs, instructions, names and errors.
 ghost use Rattle.std.specs.Prelude.{◌≡◌, ◌↔◌, IsTrue};
 ghost use Rattle.gixp_refspec.specs.RefSpec.{value_of, owned_value_of};
 ghost use Rattle.gixp_refspec.specs.Instruction.{instruction_value};
@@ -9,42 +9,36 @@ use crate::name::PartialName;
 use crate::parse::Error;
 use crate::spec::{RefSpec, RefSpecRef, Sign};
 
-// Two refspecs are equal exactly where they are one value.
 fn is_same(a: &RefSpecRef<'_>, b: &RefSpecRef<'_>) -> bool
     ensures { IsTrue result ↔ (value_of a.now ≡ value_of b.now) }
 {
     a == b
 }
 
-// Two refspecs are equal exactly where they are one value.
 fn is_same_owned(left: &RefSpec, right: &RefSpec) -> bool
     ensures { IsTrue result ↔ (owned_value_of left.now ≡ owned_value_of right.now) }
 {
     left == right
 }
 
-// Two names are equal exactly where their bytes are.
 fn is_same_name(x: &PartialName, y: &PartialName) -> bool
     ensures { IsTrue result ↔ (name_bytes x.now ≡ name_bytes y.now) }
 {
     x == y
 }
 
-// Two signs are equal exactly where they are one.
 fn is_same_sign(one: &Sign, other: &Sign) -> bool
     ensures { IsTrue result ↔ (one.now ≡ other.now) }
 {
     one == other
 }
 
-// Two instructions are equal exactly where they ask for the same, by the bytes of its names.
 fn is_same_instruction(first: &Instruction<'_>, second: &Instruction<'_>) -> bool
     ensures { IsTrue result ↔ (instruction_value first.now ≡ instruction_value second.now) }
 {
     first == second
 }
 
-// Two errors are equal exactly where they are one.
 fn is_same_error(old: &Error, new: &Error) -> bool
     ensures { IsTrue result ↔ (old.now ≡ new.now) }
 {

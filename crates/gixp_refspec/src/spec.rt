@@ -1,4 +1,4 @@
-//! A refspec as a value.
+//! Refspecs as values.
 ghost use Rattle.std.specs.Prelude.{◌≡◌, IsTrue, IfOk};
 ghost use Rattle.std.specs.Option.{option_copied, option_map};
 ghost use Rattle.bstr.specs.Owned.{bstring_bytes};
@@ -11,25 +11,25 @@ use bstr::{BStr, BString};
 use gixp_hash::ObjectId;
 use std::alloc::{AllocError, Global};
 
-/// What comes before the source of a refspec.
+/// The sign before the source of a refspec.
 #[derive(Clone, Copy, PartialEq, Eq, Debug)]
 pub enum Sign {
-    /// No sign: fetch, and update a local ref by a fast-forward alone.
+    /// No sign: a local ref is updated only by a fast-forward.
     Plain,
-    /// `+`: update the local ref in any case.
+    /// `+`: a local ref is always updated.
     Force,
-    /// `^`: leave out what the source matches.
+    /// `^`: the refs that the source matches are excluded.
     Exclude,
 }
 
-/// Whether the sign makes a refspec negative; for the crate above, which maps what the others match.
+/// Whether the sign makes a refspec negative. `gixp_matching` maps the refs that positive refspecs match.
 pub fn is_negative(sign: Sign) -> bool
     ensures { result ≡ is_negative sign }
 {
     matches!(sign, Sign::Exclude)
 }
 
-/// How many asterisks the text has; for the crate above too, which treats patterns apart.
+/// The number of asterisks. `gixp_matching` uses it to find patterns.
 #[tactic(auto, unfolding(crate::specs::Spec::stars))]
 pub fn stars(text: &[u8]) -> usize
     ensures { result ≡ stars text.now }
@@ -37,7 +37,7 @@ pub fn stars(text: &[u8]) -> usize
     text.iter().filter(|byte| **byte == b'*').count()
 }
 
-/// Whether the text is `HEAD` or begins with `refs/`; for local names, which the crate above makes.
+/// Whether the text is `HEAD` or begins with `refs/`. `gixp_matching` checks local names with it.
 #[tactic(auto, unfolding(crate::specs::Spec::is_full))]
 pub fn is_full(text: &[u8]) -> bool
     ensures { result ≡ is_full text.now }
@@ -53,7 +53,7 @@ pub(crate) fn is_id(text: &[u8]) -> bool
     id_in(text).is_some()
 }
 
-/// The object id of which this is the text; for the crate above, which maps ids.
+/// The object id that this text is. `gixp_matching` maps object ids.
 pub fn id_in(text: &[u8]) -> Option<ObjectId>
     ensures { option_map (λ id. id.bytes) result ≡ id_of text.now }
 {
@@ -63,14 +63,14 @@ pub fn id_in(text: &[u8]) -> Option<ObjectId>
     }
 }
 
-/// A refspec that borrows its text. Two are equal where their signs, sources and destinations are.
+/// A refspec that borrows its text. Two are equal if their signs, sources and destinations are.
 #[derive(Clone, Copy, Debug, PartialEq, Eq)]
 pub struct RefSpecRef<'a> {
-    /// What comes before the source; the crate above matches by it.
+    /// The sign before the source.
     pub sign: Sign,
-    /// The source, which the crate above compares with names.
+    /// The source, which is compared with names.
     pub source: &'a [u8],
-    /// The destination, of which the crate above makes local names.
+    /// The destination, from which local names are made.
     pub destination: Option<&'a [u8]>,
     pub ghost valid: { IsTrue (is_spec (spec sign source.now (option_copied destination))) },
 }
@@ -83,8 +83,7 @@ impl<'a> RefSpecRef<'a> {
     ghost use Rattle.gixp_refspec.specs.Matching.{prefixes_of, Covers};
     ghost use Rattle.gixp_refspec.specs.Texts.{texts, AddsSome};
 
-    /// What the refspec asks for: a negative one to leave refs out, one without a destination to fetch only, any
-    /// other one to update a local ref too.
+    /// The instruction: a negative refspec excludes refs, one without a destination only fetches, any other one also updates local refs.
     pub fn instruction(&self) -> Instruction<'a>
         ensures { Instructs (value_of self.now) result }
     {
@@ -100,11 +99,11 @@ impl<'a> RefSpecRef<'a> {
         }
     }
 
-    /// The same refspec with a text of its own.
+    /// The same refspec with its own text.
     ///
     /// # Errors
     ///
-    /// Only when an allocation fails; nothing is kept then.
+    /// Only an allocation failure.
     pub fn to_owned(&self, alloc: Global) -> Result<RefSpec, AllocError>
         ensures { IfOk result (λ s. owned_value_of s ≡ value_of self.now) }
     {
@@ -117,13 +116,18 @@ impl<'a> RefSpecRef<'a> {
         })
     }
 
-    /// Appends the prefixes to ask a server for (gitprotocol-v2, `ref-prefix`): of an exact name the name, of a
-    /// short name the six names that it stands for, of a pattern what comes before its asterisk, of an object id
-    /// and of a negative refspec none. Each name that the refspec matches begins with one of them.
+    /// Appends the prefixes for `ls-refs` (gitprotocol-v2, `ref-prefix`). Each name that the refspec matches begins with one of them.
+    ///
+    /// | source | prefixes |
+    /// |---|---|
+    /// | `HEAD`, or a name that begins with `refs/` | the name |
+    /// | a short name | its six expansions |
+    /// | a pattern | the text before the asterisk |
+    /// | an object id, or a negative refspec | none |
     ///
     /// # Errors
     ///
-    /// Only when an allocation fails; the first of the prefixes may be there then, and nothing else is changed.
+    /// Only an allocation failure. The first of the prefixes may be appended then; nothing else changes.
     pub fn expand_prefixes(&self, alloc: Global, out: &mut Vec<BString>) -> Result<(), AllocError>
         ensures adds { AddsSome result (texts out.old) (prefixes_of (value_of self.now)) (texts out.new) }
         ensures covers { OnOk result (Covers (texts out.new) (value_of self.now)) }
@@ -131,7 +135,6 @@ impl<'a> RefSpecRef<'a> {
         self.push_prefixes(alloc, out)
     }
 
-    // Appends the prefixes of a positive refspec.
     #[tactic(auto, unfolding(crate::specs::Matching::prefixes_of))]
     fn push_prefixes(&self, alloc: Global, out: &mut Vec<BString>) -> Result<(), AllocError>
         ensures { AddsSome result (texts out.old) (prefixes_of (value_of self.now)) (texts out.new) }
@@ -142,12 +145,11 @@ impl<'a> RefSpecRef<'a> {
         }
     }
 
-    /// The text of the refspec, which reads as the same value: the sign, the source, and after a colon the
-    /// destination, where there is one.
+    /// The text of the refspec: the sign, the source, and after a colon the destination, if there is one. It reads as the same refspec.
     ///
     /// # Errors
     ///
-    /// Only when an allocation fails.
+    /// Only an allocation failure.
     pub fn to_bstring(&self, alloc: Global) -> Result<BString, AllocError>
         ensures text { IfOk result (λ t. bstring_bytes t ≡ text_of (value_of self.now)) }
         ensures reads { IfOk result (λ t. spec_of (bstring_bytes t) ≡ Ok (value_of self.now)) }
@@ -155,7 +157,6 @@ impl<'a> RefSpecRef<'a> {
         self.written(alloc)
     }
 
-    // Sign, source, and after a colon the destination.
     fn written(&self, alloc: Global) -> Result<BString, AllocError>
         ensures { IfOk result (λ t. bstring_bytes t ≡ text_of (value_of self.now)) }
     {
@@ -170,7 +171,6 @@ impl<'a> RefSpecRef<'a> {
     }
 }
 
-// How a sign is written.
 fn sign_text(sign: Sign) -> &'static [u8]
     ensures { result.now ≡ sign_text sign }
 {
@@ -181,7 +181,6 @@ fn sign_text(sign: Sign) -> &'static [u8]
     }
 }
 
-// A copy of a destination.
 fn owned(alloc: Global, text: Option<&[u8]>) -> Result<Option<BString>, AllocError>
     ensures { IfOk result (λ o. option_map bstring_bytes o ≡ option_copied text.entry) }
 {
@@ -191,7 +190,7 @@ fn owned(alloc: Global, text: Option<&[u8]>) -> Result<Option<BString>, AllocErr
     }
 }
 
-/// A refspec that owns its text. Two are equal where their signs, sources and destinations are.
+/// A refspec that owns its text. Two are equal if their signs, sources and destinations are.
 #[derive(Debug, Drop, PartialEq, Eq)]
 pub struct RefSpec {
     sign: Sign,
@@ -206,7 +205,7 @@ impl RefSpec {
     ghost use Rattle.gixp_refspec.specs.Spec.{text_of, spec_of};
     ghost use Rattle.gixp_refspec.specs.RefSpec.{value_of, owned_value_of};
 
-    /// The same refspec, which borrows the text.
+    /// The same refspec, borrowing this one's text.
     pub fn to_ref(&self) -> RefSpecRef<'_>
         ensures { value_of result ≡ owned_value_of self.now }
     {
@@ -217,12 +216,11 @@ impl RefSpec {
         }
     }
 
-    /// The text of the refspec, which reads as the same value: the sign, the source, and after a colon the
-    /// destination, where there is one.
+    /// The text of the refspec: the sign, the source, and after a colon the destination, if there is one. It reads as the same refspec.
     ///
     /// # Errors
     ///
-    /// Only when an allocation fails.
+    /// Only an allocation failure.
     pub fn to_bstring(&self, alloc: Global) -> Result<BString, AllocError>
         ensures text { IfOk result (λ t. bstring_bytes t ≡ text_of (owned_value_of self.now)) }
         ensures reads { IfOk result (λ t. spec_of (bstring_bytes t) ≡ Ok (owned_value_of self.now)) }
@@ -246,7 +244,6 @@ impl Clone for RefSpec {
     }
 }
 
-// The bytes of a destination.
 fn borrowed(text: &Option<BString>) -> Option<&[u8]>
     ensures { option_copied result ≡ option_map bstring_bytes text.now }
 {

@@ -1,4 +1,4 @@
-//! Texts that are made of others, for the crate above.
+//! Texts joined from parts, for crates above too.
 ghost use Rattle.std.specs.Prelude.{◌≡◌, ◌++◌, IfOk};
 ghost use Rattle.bstr.specs.Owned.{bstring_bytes};
 

@@ -1,4 +1,5 @@
-//! `gixp_remote MARK TERMINAL REQUESTS ANSWERS`, which `git-remote-gixp` starts in the folder of its open files: a remote helper of git.
+//! A remote helper of git. `git-remote-gixp` starts it as
+//! `gixp_remote MARK TERMINAL REQUESTS ANSWERS`, in the folder of its own open files.
 #![tactic(auto)]
 
 use gixp_remote_session::run;

@@ -1,9 +1,9 @@
--- Two tests of one fact.
+-- Two tests that decide the same fact.
 use Rattle.std.proofs.Common.{◌≡◌, refl, Bool, true, false}
 use Rattle.std.specs.Prelude.{IsTrue, ◌↔◌}
 use Rattle.std.specs.Bool.{Decides}
 
--- they are one
+-- they are equal
 pub same_test : (a b : Bool) (P : Type 0) → IsTrue a ↔ P → Decides b P → a ≡ b
 same_test true true P h k = refl
 same_test false false P h k = refl

@@ -1,44 +1,44 @@
-//! The objects that git asks for between two empty lines (gitremote-helpers, "fetch").
+//! The objects of a batch of `fetch` commands (gitremote-helpers, "fetch").
 ghost use Rattle.std.specs.Prelude.{◌≡◌, ◌==◌, [], length, is_some, IfOk, OnOk};
 ghost use Rattle.gixp_hash.specs.ObjectId.{id_of};
-ghost use Rattle.gixp_remote_rules.specs.Batch.{asked_ids, with_asked};
+ghost use Rattle.gixp_remote_rules.specs.Batch.{wanted_ids, with_want};
 
 use gixp_hash::ObjectId;
 use std::alloc::{AllocError, Global};
 use std::collections::BTreeSet;
 use std::mem;
 
-/// What a batch asks for: each id once, in order.
+/// The ids of a batch, sorted and without duplicates.
 #[derive(Drop)]
 pub struct Batch {
     ids: BTreeSet<ObjectId>,
 }
 
 impl Batch {
-    /// Nothing is asked for.
+    /// An empty batch.
     pub fn new(alloc: Global) -> Batch
-        ensures { asked_ids result ≡ [] }
+        ensures { wanted_ids result ≡ [] }
     {
         Batch {
             ids: BTreeSet::new(alloc),
         }
     }
 
-    /// Whether nothing is asked for.
+    /// Whether the batch is empty.
     pub fn is_empty(&self) -> bool
-        ensures { result ≡ (length (asked_ids self.now) == 0) }
+        ensures { result ≡ (length (wanted_ids self.now) == 0) }
     {
         self.ids.is_empty()
     }
 
-    /// Adds the id of a text. Returns whether it is one.
+    /// Adds an id in hexadecimal. Returns whether the text is an id.
     ///
     /// # Errors
     ///
-    /// An allocation failure alone.
-    pub fn want(&mut self, text: &[u8]) -> Result<bool, AllocError>
+    /// Only when an allocation fails.
+    pub fn add(&mut self, text: &[u8]) -> Result<bool, AllocError>
         ensures is_id { IfOk result (λ is_id. is_id ≡ is_some (id_of text.now)) }
-        ensures asked { OnOk result (asked_ids self.new ≡ with_asked (asked_ids self.old) text.now) }
+        ensures wanted { OnOk result (wanted_ids self.new ≡ with_want (wanted_ids self.old) text.now) }
     {
         match ObjectId::from_hex(text) {
             Ok(id) => {
@@ -49,14 +49,14 @@ impl Batch {
         }
     }
 
-    /// Takes out all ids that were asked for.
+    /// Takes all ids out. The batch is empty then.
     ///
     /// # Errors
     ///
-    /// An allocation failure alone.
-    pub fn take(&mut self, alloc: Global) -> Result<Vec<ObjectId>, AllocError>
-        ensures taken { IfOk result (λ ids. ids.items ≡ asked_ids self.old) }
-        ensures over { asked_ids self.new ≡ [] }
+    /// Only when an allocation fails.
+    pub fn take_ids(&mut self, alloc: Global) -> Result<Vec<ObjectId>, AllocError>
+        ensures taken { IfOk result (λ ids. ids.items ≡ wanted_ids self.old) }
+        ensures over { wanted_ids self.new ≡ [] }
     {
         let ids = mem::replace(&mut self.ids, BTreeSet::new(alloc));
         ids.into_iter().collect(alloc)

@@ -1,81 +1,98 @@
-//! What becomes of the shallow boundary of the repository that fetches (gitrepository-layout, "shallow"; git-fetch, `--depth`,
-//! `--update-shallow`).
+//! The shallow boundary of the repository after a fetch (gitrepository-layout, "shallow";
+//! git-fetch, `--depth`, `--update-shallow`).
 ghost use Rattle.std.specs.Prelude.{◌≡◌, ◌++◌, IfOk};
-ghost use Rattle.gixp_remote_rules.specs.Taken.{added, came, boundary_after, boundary_value, first_stranger, stranger_at, taking_of, look_by, look_of, roots};
-ghost use Rattle.gixp_remote_rules.specs.Choosing.{chosen};
+ghost use Rattle.gixp_remote_rules.specs.ShallowBoundary.{added, received_commits, boundary_after, boundary_value, first_missing, missing_at, shallow_policy, connectivity_check_by, connectivity_check, roots};
+ghost use Rattle.gixp_remote_rules.specs.HelperOptions.{options_value};
 
-use crate::dialogue::Choices;
+use crate::options::HelperOptions;
 use gixp_hash::ObjectId;
 use std::alloc::{AllocError, Global};
 use std::collections::BTreeSet;
 
-/// What git asked for, as far as it concerns the boundary.
+/// How a fetch may change the shallow boundary.
 #[derive(Clone, Copy, Debug, PartialEq, Eq)]
-pub enum Taking {
-    /// A depth: the boundary becomes what the server says, where each id that comes to it is a commit here.
-    Asked,
-    /// A clone, or `--update-shallow`: the commits are added that came and weren't here before.
-    Came,
-    /// Neither: it stays.
-    Nothing,
+pub enum ShallowPolicy {
+    /// With a depth: the server's boundary replaces the old one. Each id that is added must be a
+    /// commit of this repository.
+    Deepen,
+    /// In a clone, or with `--update-shallow`: commits that the fetch received are added.
+    Update,
+    /// Otherwise: the boundary is unchanged.
+    Keep,
 }
 
-/// What git's options ask for: a depth, else a clone or `--update-shallow`.
-pub fn taking_of(choices: &Choices) -> Taking
-    ensures { result ≡ taking_of (chosen choices.now) }
+/// The policy that git's options ask for.
+pub fn shallow_policy(options: &HelperOptions) -> ShallowPolicy
+    ensures { result ≡ shallow_policy (options_value options.now) }
 {
-    if choices.has_depth() {
-        Taking::Asked
-    } else if choices.is_cloning || choices.updates_shallow {
-        Taking::Came
+    if options.has_depth() {
+        ShallowPolicy::Deepen
+    } else if options.is_cloning || options.updates_shallow {
+        ShallowPolicy::Update
     } else {
-        Taking::Nothing
+        ShallowPolicy::Keep
     }
 }
 
-/// What git is asked before anything is kept of a fetch.
+/// Which connectivity git checks before the pack is moved out of quarantine.
 #[derive(Clone, Copy, Debug, PartialEq, Eq)]
-pub enum Look {
-    /// Nothing: git looks at what came itself, after the fetch.
-    Nothing,
-    /// Whether anything is missing under the boundary that a depth makes.
+pub enum ConnectivityCheck {
+    /// None: git checks it itself, after the fetch.
+    Skip,
+    /// Connectivity under the new boundary of a fetch with a depth.
     Deepened,
-    /// Whether anything is missing under the boundary that stays, since the server's is another one.
+    /// Connectivity under the old boundary, since the server's boundary isn't taken over.
     Unasked,
 }
 
-// By what git asked for.
-fn look_by(taking: Taking, is_cloning: bool, changes: bool, is_bounded: bool) -> Look
-    ensures { result ≡ look_by taking is_cloning changes is_bounded }
+fn connectivity_check_by(
+    policy: ShallowPolicy,
+    is_cloning: bool,
+    changes: bool,
+    has_boundary: bool,
+) -> ConnectivityCheck
+    ensures { result ≡ connectivity_check_by policy is_cloning changes has_boundary }
 {
-    match taking {
-        Taking::Asked if changes && !is_cloning => Look::Deepened,
-        Taking::Nothing if is_bounded => Look::Unasked,
-        Taking::Asked | Taking::Nothing | Taking::Came => Look::Nothing,
+    match policy {
+        ShallowPolicy::Deepen if changes && !is_cloning => ConnectivityCheck::Deepened,
+        ShallowPolicy::Keep if has_boundary => ConnectivityCheck::Unasked,
+        ShallowPolicy::Deepen | ShallowPolicy::Keep | ShallowPolicy::Update => {
+            ConnectivityCheck::Skip
+        }
     }
 }
 
-/// What git is asked before anything is kept, by whether the boundary changes, and whether the server named one.
-pub fn look_of(choices: &Choices, changes: bool, is_bounded: bool) -> Look
-    ensures { result ≡ look_of (chosen choices.now) changes is_bounded }
+/// Which connectivity git checks. `changes` says whether the boundary changes, `has_boundary`
+/// whether the server sent one.
+pub fn connectivity_check(
+    options: &HelperOptions,
+    changes: bool,
+    has_boundary: bool,
+) -> ConnectivityCheck
+    ensures { result ≡ connectivity_check (options_value options.now) changes has_boundary }
 {
-    look_by(taking_of(choices), choices.is_cloning, changes, is_bounded)
+    connectivity_check_by(
+        shallow_policy(options),
+        options.is_cloning,
+        changes,
+        has_boundary,
+    )
 }
 
-/// What becomes of the boundary.
+/// The shallow boundary after a fetch.
 #[derive(Debug, Drop, PartialEq, Eq)]
-pub enum Boundary {
-    /// It stays.
+pub enum BoundaryChange {
+    /// It is unchanged.
     Stays,
-    /// It becomes this.
+    /// It is replaced by these ids.
     Becomes(Vec<ObjectId>),
-    /// These come to it.
+    /// These ids are added.
     Grows(Vec<ObjectId>),
-    /// The server names an id that is no commit here.
+    /// The server sent an id that is not a commit of this repository.
     Refused(ObjectId),
 }
 
-/// The ids of a new boundary that the old one doesn't have.
+/// The ids of a new boundary that the old one lacks.
 pub fn added(
     alloc: Global,
     old: &BTreeSet<ObjectId>,
@@ -89,7 +106,8 @@ pub fn added(
         .collect(alloc)
 }
 
-/// The ids from which git looks for what is missing: those that are wanted, and those that leave the old boundary for the new one.
+/// The ids from which git checks connectivity: the wanted ones, and those that only the old
+/// boundary has.
 pub fn roots(
     alloc: Global,
     wanted: &[ObjectId],
@@ -104,31 +122,30 @@ pub fn roots(
     Ok(ids)
 }
 
-// Where the first id stands that is no commit here.
-fn stranger_at(ids: &[ObjectId], commits: &BTreeSet<ObjectId>) -> Option<usize>
-    ensures { result ≡ stranger_at commits.now ids.now }
+// The index of the first id that is not a commit of this repository.
+fn missing_at(ids: &[ObjectId], commits: &BTreeSet<ObjectId>) -> Option<usize>
+    ensures { result ≡ missing_at commits.now ids.now }
 {
     ids.iter().position(|id| !commits.contains(id))
 }
 
-// The first id that is no commit here.
-fn first_stranger(ids: &[ObjectId], commits: &BTreeSet<ObjectId>) -> Option<ObjectId>
-    ensures { result ≡ first_stranger commits.now ids.now }
+fn first_missing(ids: &[ObjectId], commits: &BTreeSet<ObjectId>) -> Option<ObjectId>
+    ensures { result ≡ first_missing commits.now ids.now }
 {
-    match stranger_at(ids, commits) {
+    match missing_at(ids, commits) {
         Some(at) => ids.get(at).copied(),
         None => None,
     }
 }
 
-// The commits that came, and weren't here before.
-fn came(
+// The commits that were received and weren't present before.
+fn received_commits(
     alloc: Global,
     ids: &[ObjectId],
     before: &BTreeSet<ObjectId>,
     commits: &BTreeSet<ObjectId>,
 ) -> Result<Vec<ObjectId>, AllocError>
-    ensures { IfOk result (λ found. found.items ≡ came before.now commits.now ids.now) }
+    ensures { IfOk result (λ found. found.items ≡ received_commits before.now commits.now ids.now) }
 {
     ids.iter()
         .copied()
@@ -136,29 +153,32 @@ fn came(
         .collect(alloc)
 }
 
-/// What becomes of a boundary where the server would make another one of it, by which of the ids that it would add were here
-/// before the fetch, and which are commits here after it.
+/// The boundary after a fetch, if the server's boundary is `new`. `before` has the added ids that
+/// were present before the fetch, `commits` those that are commits after it.
 ///
 /// # Errors
 ///
-/// An allocation failure alone.
+/// Only when an allocation fails.
 pub fn boundary_after(
     alloc: Global,
-    taking: Taking,
+    policy: ShallowPolicy,
     old: &BTreeSet<ObjectId>,
     new: &[ObjectId],
     before: &BTreeSet<ObjectId>,
     commits: &BTreeSet<ObjectId>,
-) -> Result<Boundary, AllocError>
-    ensures { IfOk result (λ b. boundary_value b ≡ boundary_after taking old.now new.now before.now commits.now) }
+) -> Result<BoundaryChange, AllocError>
+    ensures { IfOk result (λ b. boundary_value b ≡ boundary_after policy old.now new.now before.now commits.now) }
 {
     let ids = added(alloc, old, new)?;
-    match taking {
-        Taking::Nothing => Ok(Boundary::Stays),
-        Taking::Asked => match first_stranger(&ids, commits) {
-            Some(id) => Ok(Boundary::Refused(id)),
-            None => Ok(Boundary::Becomes(Vec::from_slice(alloc, new)?)),
+    match policy {
+        ShallowPolicy::Keep => Ok(BoundaryChange::Stays),
+        ShallowPolicy::Deepen => match first_missing(&ids, commits) {
+            Some(id) => Ok(BoundaryChange::Refused(id)),
+            None => Ok(BoundaryChange::Becomes(Vec::from_slice(alloc, new)?)),
         },
-        Taking::Came => Ok(Boundary::Grows(came(alloc, &ids, before, commits)?)),
+        ShallowPolicy::Update => {
+            let received = received_commits(alloc, &ids, before, commits)?;
+            Ok(BoundaryChange::Grows(received))
+        }
     }
 }

@@ -1,52 +1,52 @@
-//! The user's settings, as `git config --list --null` lists them.
+//! The user's configuration, as `git config --list --null` prints it.
 ghost use Rattle.std.specs.Prelude.{◌≡◌, ◌++◌, ◌==◌, IfOk, OnOk, map};
 ghost use Rattle.std.specs.Char.{is_ascii_digit};
 ghost use Rattle.std.specs.List.{flat_map, list_all, slice_split};
 ghost use Rattle.bstr.specs.BStr.{bstr_bytes};
 ghost use Rattle.std.specs.Option.{option_map};
 ghost use Rattle.bstr.specs.Owned.{bstring_bytes};
-ghost use Rattle.gixp_remote_rules.specs.Config.{entry_of, entries_of, settings_of, setting_value, settings_in, last_named, text_of, value_of};
+ghost use Rattle.gixp_remote_rules.specs.Config.{entry_of, entries_of, settings_of, entry_value, settings_in, last_named, text_of, value_of};
 ghost use Rattle.gixp_remote_rules.specs.Config.{without_sign, number_is_true, text_is_true, is_true};
 
-use crate::text::{is_word, place_of};
+use crate::text::{find_byte, is_word};
 use bstr::{BStr, BString};
 use std::alloc::{AllocError, Global};
 
-/// A setting: its name, and its value where it has one.
+/// A configuration entry.
 #[derive(Debug, Drop, PartialEq, Eq)]
-pub struct Setting {
-    /// The name, whose first and last parts have lower-case letters.
+pub struct ConfigEntry {
+    /// The name. Its section and its key are in lower case.
     pub name: BString,
-    /// The value, none where the name stands alone.
+    /// The value. `None` if the entry has only a name.
     pub value: Option<BString>,
 }
 
-/// The user's settings, in the order in which they count.
+/// The user's configuration, in git's order.
 #[derive(Debug, Drop)]
 pub struct Settings {
-    entries: Vec<Setting>,
+    entries: Vec<ConfigEntry>,
 }
 
-// A setting: a line end stands between its name and its value.
-fn entry_of(alloc: Global, text: &[u8]) -> Result<Setting, AllocError>
-    ensures { IfOk result (λ s. setting_value s ≡ entry_of text.now) }
+// An entry: its name, a line feed, and its value.
+fn entry_of(alloc: Global, text: &[u8]) -> Result<ConfigEntry, AllocError>
+    ensures { IfOk result (λ s. entry_value s ≡ entry_of text.now) }
 {
-    match place_of(text, b'\n') {
-        Some(at) => Ok(Setting {
+    match find_byte(text, b'\n') {
+        Some(at) => Ok(ConfigEntry {
             name: BString::from_slice(alloc, &text[..at])?,
             value: Some(BString::from_slice(alloc, &text[at + 1..])?),
         }),
-        None => Ok(Setting {
+        None => Ok(ConfigEntry {
             name: BString::from_slice(alloc, text)?,
             value: None,
         }),
     }
 }
 
-impl Setting {
-    /// The value, empty where the name stands alone.
+impl ConfigEntry {
+    /// The value. It is empty if the entry has only a name.
     pub fn text(&self) -> &[u8]
-        ensures { result.now ≡ text_of (setting_value self.now) }
+        ensures { result.now ≡ text_of (entry_value self.now) }
     {
         match &self.value {
             Some(value) => value.as_bytes(),
@@ -55,9 +55,8 @@ impl Setting {
     }
 }
 
-// Appends an entry, unless it is empty.
-fn push_entry(alloc: Global, entries: &mut Vec<Setting>, text: &[u8]) -> Result<(), AllocError>
-    ensures { OnOk result (map setting_value entries.new.items ≡ map setting_value entries.old.items ++ entries_of text.now) }
+fn push_entry(alloc: Global, entries: &mut Vec<ConfigEntry>, text: &[u8]) -> Result<(), AllocError>
+    ensures { OnOk result (map entry_value entries.new.items ≡ map entry_value entries.old.items ++ entries_of text.now) }
 {
     if !text.is_empty() {
         entries.push(entry_of(alloc, text)?)?;
@@ -65,16 +64,15 @@ fn push_entry(alloc: Global, entries: &mut Vec<Setting>, text: &[u8]) -> Result<
     Ok(())
 }
 
-// The pieces of a text between its NUL bytes.
 fn pieces_of(alloc: Global, text: &[u8]) -> Result<Vec<BStr<'_>>, AllocError>
     ensures { IfOk result (λ pieces. map bstr_bytes pieces.items ≡ slice_split (λ b. b == 0) text.now) }
 {
     text.split(|b| *b == 0).map(BStr::new).collect(alloc)
 }
 
-// The settings of pieces, without those that are empty.
-fn entries_of(alloc: Global, pieces: &[BStr<'_>]) -> Result<Vec<Setting>, AllocError>
-    ensures { IfOk result (λ entries. map setting_value entries.items ≡ flat_map entries_of (map bstr_bytes pieces.now)) }
+// The entries of all pieces that aren't empty.
+fn entries_of(alloc: Global, pieces: &[BStr<'_>]) -> Result<Vec<ConfigEntry>, AllocError>
+    ensures { IfOk result (λ entries. map entry_value entries.items ≡ flat_map entries_of (map bstr_bytes pieces.now)) }
 {
     let mut entries = Vec::new(alloc);
     'pieces: for piece in pieces {
@@ -84,11 +82,11 @@ fn entries_of(alloc: Global, pieces: &[BStr<'_>]) -> Result<Vec<Setting>, AllocE
 }
 
 impl Settings {
-    /// The settings of a text in which each ends in a NUL byte.
+    /// Parses a text in which a NUL byte ends each entry.
     ///
     /// # Errors
     ///
-    /// An allocation failure alone.
+    /// Only when an allocation fails.
     pub fn read(alloc: Global, text: &[u8]) -> Result<Settings, AllocError>
         ensures { IfOk result (λ settings. settings_in settings ≡ settings_of text.now) }
     {
@@ -97,9 +95,9 @@ impl Settings {
         Ok(Settings { entries })
     }
 
-    /// The setting of a name that counts: the last one.
-    pub fn last(&self, name: &[u8]) -> Option<&Setting>
-        ensures { option_map (λ s. setting_value s.now) result ≡ last_named (settings_in self.now) name.now }
+    /// The last entry of this name: it overrides the others.
+    pub fn last(&self, name: &[u8]) -> Option<&ConfigEntry>
+        ensures { option_map (λ s. entry_value s.now) result ≡ last_named (settings_in self.now) name.now }
     {
         let mut found = None;
         'entries: for entry in &self.entries {
@@ -110,7 +108,7 @@ impl Settings {
         found
     }
 
-    /// The value of a setting, empty where its name stands alone.
+    /// The value of a name. It is empty if the entry has only a name.
     pub fn value(&self, name: &[u8]) -> Option<&[u8]>
         ensures { option_map (λ v. v.now) result ≡ value_of (settings_in self.now) name.now }
     {
@@ -120,29 +118,26 @@ impl Settings {
         }
     }
 
-    /// All settings, in their order.
-    pub fn entries(&self) -> &[Setting]
-        ensures { map setting_value result.now ≡ settings_in self.now }
+    /// All entries, in git's order.
+    pub fn entries(&self) -> &[ConfigEntry]
+        ensures { map entry_value result.now ≡ settings_in self.now }
     {
         &self.entries
     }
 }
 
-// Whether all bytes are digits.
 fn are_digits(value: &[u8]) -> bool
     ensures { result ≡ list_all is_ascii_digit value.now }
 {
     value.iter().all(|b| b.is_ascii_digit())
 }
 
-// Whether all bytes are the digit zero.
 fn are_zeros(value: &[u8]) -> bool
     ensures { result ≡ list_all (λ b. b == 48) value.now }
 {
     value.iter().all(|b| *b == b'0')
 }
 
-// A number without its sign.
 fn without_sign(value: &[u8]) -> &[u8]
     ensures { result.now ≡ without_sign value.now }
 {
@@ -158,7 +153,7 @@ fn without_sign(value: &[u8]) -> &[u8]
     }
 }
 
-// Whether a number isn't zero, none where a text is no number.
+// Whether a number isn't zero. `None` if the text isn't a number.
 fn number_is_true(value: &[u8]) -> Option<bool>
     ensures { result ≡ number_is_true value.now }
 {
@@ -170,7 +165,6 @@ fn number_is_true(value: &[u8]) -> Option<bool>
     }
 }
 
-// Whether a value is true or false.
 pub(crate) fn text_is_true(value: &[u8]) -> Option<bool>
     ensures { result ≡ text_is_true value.now }
 {
@@ -187,9 +181,9 @@ pub(crate) fn text_is_true(value: &[u8]) -> Option<bool>
     number_is_true(value)
 }
 
-/// Whether a setting is true or false to git (git-config, "Values"), none where it is neither.
-pub fn is_true(setting: &Setting) -> Option<bool>
-    ensures { result ≡ is_true (setting_value setting.now).value }
+/// Whether an entry is true for git (git-config, "Values"). `None` if it isn't a boolean.
+pub fn is_true(setting: &ConfigEntry) -> Option<bool>
+    ensures { result ≡ is_true (entry_value setting.now).value }
 {
     match &setting.value {
         Some(value) => text_is_true(value.as_bytes()),

@@ -1,95 +1,99 @@
-//! The conversation with git, a line at a time (gitremote-helpers, "COMMANDS").
+//! The conversation with git, line by line (gitremote-helpers, "COMMANDS").
 ghost use Rattle.std.specs.Prelude.{◌≡◌, [], IfOk};
-ghost use Rattle.gixp_remote_rules.specs.Batch.{asked_ids};
-ghost use Rattle.gixp_remote_rules.specs.Choosing.{chosen, nothing_chosen};
-ghost use Rattle.gixp_remote_rules.specs.Conversation.{talk, step_value, chooses, wants, ends, step_of};
+ghost use Rattle.gixp_remote_rules.specs.Batch.{wanted_ids};
+ghost use Rattle.gixp_remote_rules.specs.HelperOptions.{options_value, default_options};
+ghost use Rattle.gixp_remote_rules.specs.Conversation.{conversation_value, reaction_value, set_option, add_want, end_of_batch, reaction_to};
 
 use crate::batch::Batch;
-use crate::dialogue::{Choices, Command, read_command};
-use crate::told::capabilities;
+use crate::command::{HelperCommand, parse_command};
+use crate::fetch_reply::capabilities;
+use crate::options::HelperOptions;
 use std::alloc::{AllocError, Global};
 
-/// What git chose, and what it asked for since the last batch.
+/// The options that git set, and the batch that it is sending.
 #[derive(Drop)]
 pub struct Conversation {
     /// The options.
-    pub choices: Choices,
+    pub options: HelperOptions,
     /// The batch.
     pub batch: Batch,
 }
 
-/// What comes of a line.
+/// What the helper does after a line.
 #[derive(Clone, Copy, Debug, PartialEq, Eq)]
-pub enum Step {
-    /// This is the reply, which may be none.
-    Say(&'static [u8]),
-    /// The refs are listed.
+pub enum Reaction {
+    /// Write this reply, which may be empty.
+    Reply(&'static [u8]),
+    /// List the refs.
     List,
-    /// The batch is fetched.
+    /// Fetch the batch.
     Fetch,
-    /// Nothing more comes.
+    /// End.
     Stop,
-    /// The line is none of git's.
+    /// Refuse the line: it isn't a command of git.
     Refuse,
 }
 
 impl Conversation {
-    /// Before the first line.
+    /// The state before the first line.
     pub fn new(alloc: Global) -> Conversation
-        ensures choices { chosen result.choices ≡ nothing_chosen }
-        ensures batch { asked_ids result.batch ≡ [] }
+        ensures options { options_value result.options ≡ default_options }
+        ensures batch { wanted_ids result.batch ≡ [] }
     {
         Conversation {
-            choices: Choices::new(alloc),
+            options: HelperOptions::new(alloc),
             batch: Batch::new(alloc),
         }
     }
 
-    // Keeps an option.
-    fn choose(&mut self, alloc: Global, name: &[u8], value: &[u8]) -> Result<Step, AllocError>
-        ensures { IfOk result (λ step. (talk self.new, step_value step) ≡ chooses (talk self.old) name.now value.now) }
+    fn set_option(
+        &mut self,
+        alloc: Global,
+        name: &[u8],
+        value: &[u8],
+    ) -> Result<Reaction, AllocError>
+        ensures { IfOk result (λ reaction. (conversation_value self.new, reaction_value reaction) ≡ set_option (conversation_value self.old) name.now value.now) }
     {
-        let reply = self.choices.take(alloc, name, value)?;
-        Ok(Step::Say(reply.to_text()))
+        let reply = self.options.set(alloc, name, value)?;
+        Ok(Reaction::Reply(reply.to_text()))
     }
 
-    // Adds an object to the batch.
-    fn want(&mut self, id: &[u8]) -> Result<Step, AllocError>
-        ensures { IfOk result (λ step. (talk self.new, step_value step) ≡ wants (talk self.old) id.now) }
+    fn add_want(&mut self, id: &[u8]) -> Result<Reaction, AllocError>
+        ensures { IfOk result (λ reaction. (conversation_value self.new, reaction_value reaction) ≡ add_want (conversation_value self.old) id.now) }
     {
-        if self.batch.want(id)? {
-            Ok(Step::Say(b""))
+        if self.batch.add(id)? {
+            Ok(Reaction::Reply(b""))
         } else {
-            Ok(Step::Refuse)
+            Ok(Reaction::Refuse)
         }
     }
 
-    // What an empty line ends.
-    fn end(&self) -> Step
-        ensures { step_value result ≡ ends (talk self.now) }
+    // The reaction to an empty line.
+    fn end_of_batch(&self) -> Reaction
+        ensures { reaction_value result ≡ end_of_batch (conversation_value self.now) }
     {
         if self.batch.is_empty() {
-            Step::Stop
+            Reaction::Stop
         } else {
-            Step::Fetch
+            Reaction::Fetch
         }
     }
 
-    /// Does what a line without its end asks for, as far as no server is needed, and says what is to be done then.
+    /// Handles a line without its line feed, and returns what the helper must do.
     ///
     /// # Errors
     ///
-    /// An allocation failure alone.
-    pub fn step(&mut self, alloc: Global, line: &[u8]) -> Result<Step, AllocError>
-        ensures { IfOk result (λ step. (talk self.new, step_value step) ≡ step_of (talk self.old) line.now) }
+    /// Only when an allocation fails.
+    pub fn react(&mut self, alloc: Global, line: &[u8]) -> Result<Reaction, AllocError>
+        ensures { IfOk result (λ reaction. (conversation_value self.new, reaction_value reaction) ≡ reaction_to (conversation_value self.old) line.now) }
     {
-        match read_command(line) {
-            Command::Capabilities => Ok(Step::Say(capabilities())),
-            Command::List => Ok(Step::List),
-            Command::Option(name, value) => self.choose(alloc, name, value),
-            Command::Fetch(id, _) => self.want(id),
-            Command::End => Ok(self.end()),
-            Command::Unknown => Ok(Step::Refuse),
+        match parse_command(line) {
+            HelperCommand::Capabilities => Ok(Reaction::Reply(capabilities())),
+            HelperCommand::List => Ok(Reaction::List),
+            HelperCommand::Option(name, value) => self.set_option(alloc, name, value),
+            HelperCommand::Fetch(id, _) => self.add_want(id),
+            HelperCommand::End => Ok(self.end_of_batch()),
+            HelperCommand::Unknown => Ok(Reaction::Refuse),
         }
     }
 }

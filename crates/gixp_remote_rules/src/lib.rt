@@ -1,56 +1,64 @@
-//! Parts of a remote helper of git that speak with nobody: git's commands and the replies, the requests to the shell beside
-//! the program, the user's settings, and what becomes of the shallow boundary.
+//! Rules of a remote helper of git, without input or output: git's commands and the replies,
+//! requests to the shell that starts programs, the user's settings, and the shallow boundary after
+//! a fetch.
 #![tactic(auto)]
 
+mod argv;
 mod batch;
 mod boundary;
-mod bounds;
+mod command;
 mod config;
 mod conversation;
-mod dialogue;
-mod exchange;
-mod indexed;
-mod plain;
+mod fetch_reply;
+mod index_pack;
+mod number;
+mod options;
 mod policy;
+mod printable;
 mod proxy;
 mod question;
-mod request;
-mod server;
+mod quote;
+mod shallow_line;
+mod shell_io;
+mod shell_request;
 mod ssh;
 mod text;
-mod told;
 mod unpacking;
 mod uris;
-mod words;
 
+pub use argv::{
+    checks_connectivity, concat, fsck_arg, index_argv, object_variables, server_variables,
+    upload_pack_argv, web_argv,
+};
 pub use batch::Batch;
-pub use boundary::{Boundary, Look, Taking, added, boundary_after, look_of, roots, taking_of};
-pub use bounds::bound_said;
-pub use config::{Setting, Settings, is_true};
-pub use conversation::{Conversation, Step};
-pub use dialogue::{Choices, Command, Depth, Family, Reply, number_of, read_command};
-pub use exchange::{read_answer, send};
-pub use indexed::{kept_pack, pack_file, told_pack};
-pub use plain::plain_text;
+pub use boundary::{
+    BoundaryChange, ConnectivityCheck, ShallowPolicy, added, boundary_after, connectivity_check,
+    roots, shallow_policy,
+};
+pub use command::{HelperCommand, parse_command};
+pub use config::{ConfigEntry, Settings, is_true};
+pub use conversation::{Conversation, Reaction};
+pub use fetch_reply::{batch_reply, capabilities, reports_connectivity};
+pub use index_pack::{accepted_pack, pack_file, reported_pack};
+pub use number::number_of;
+pub use options::{Depth, Family, HelperOptions, OptionReply};
 pub use policy::{
     PasswordPolicy, Permission, Policy, is_from_user, password_policy, permission_of,
 };
+pub use printable::printable_text;
 pub use proxy::proxy_for;
 pub use question::{
-    Question, Within, listing_words, pack_variables, question_variables, question_words, within_of,
+    Question, Within, listing_argv, pack_variables, question_argv, question_variables, within_of,
 };
-pub use request::{Program, Request, Start, Task, request_text};
-pub use server::quoted;
+pub use quote::quoted;
+pub use shallow_line::parse_shallow_line;
+pub use shell_io::{read_answer, write_request};
+pub use shell_request::{Program, ShellRequest, ShellTask, Start, request_text};
 pub use ssh::{
-    SshCall, SshError, Variant, first_word, probe_words, server_words, ssh_words, variant_of,
+    SshCall, SshError, Variant, first_word, probe_argv, server_argv, ssh_argv, variant_of,
 };
-pub use told::{batch_told, capabilities, tells_closed};
-pub use unpacking::{limit_by, limit_in, may_unpack, pack_count, unpack_words, unpacks};
+pub use unpacking::{may_unpack, pack_count, parse_limit, unpack_argv, unpack_limit, unpacks};
 pub use uris::{
-    DownloadError, UriSetting, check_words, download_words, downloaded, is_named, part_words,
-    tells_more, uri_setting,
-};
-pub use words::{
-    checks_closed, here_words, index_words, joined, object_check, object_variables,
-    server_variables, web_words,
+    DownloadError, UriSetting, download_argv, downloaded_pack, fsck_pack_argv, has_pack_name,
+    lists_gitmodules, part_argv, uri_setting,
 };

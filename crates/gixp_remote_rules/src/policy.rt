@@ -1,42 +1,41 @@
-//! Which transports the user allows (git-config, "protocol.allow"; git, "GIT_ALLOW_PROTOCOL").
+//! Which protocols the user allows (git-config, "protocol.allow"; git, "GIT_ALLOW_PROTOCOL").
 ghost use Rattle.std.specs.Prelude.{◌≡◌, ◌==◌, IfOk, map, codes};
 ghost use Rattle.std.specs.List.{list_any, slice_split};
 ghost use Rattle.std.specs.Option.{option_map};
 ghost use Rattle.std.specs.Str.{bytes_eq};
 ghost use Rattle.bstr.specs.BStr.{bstr_bytes};
 ghost use Rattle.gixp_remote_rules.specs.Config.{settings_in, value_of};
-ghost use Rattle.gixp_remote_rules.specs.Allowed.{policy_of, policy_without, allow_name, policy_for_all, policy_in, permission_by, permission_of_user, permission_in, is_from_user, lists, permission_of, password_policy};
+ghost use Rattle.gixp_remote_rules.specs.ProtocolPolicy.{policy_of, default_policy, allow_name, policy_for_all, policy_in, permission_by, permission_of_user, permission_in, is_from_user, list_contains, permission_of, password_policy};
 
 use crate::config::{Settings, text_is_true};
 use crate::text::is_word;
 use bstr::BStr;
 use std::alloc::{AllocError, Global};
 
-/// What is allowed.
+/// The policy of a protocol.
 #[derive(Clone, Copy, Debug, PartialEq, Eq)]
 pub enum Policy {
-    /// Always.
+    /// Always allowed.
     Always,
-    /// Never.
+    /// Never allowed.
     Never,
-    /// Where the user named the server.
+    /// Allowed if the user named the server.
     User,
 }
 
-/// Whether a transport is allowed.
+/// Whether a protocol is allowed.
 #[derive(Clone, Copy, Debug, PartialEq, Eq)]
 pub enum Permission {
-    /// It is.
+    /// Allowed.
     Allowed,
-    /// It isn't.
+    /// Not allowed.
     Forbidden,
-    /// A setting has none of git's words.
+    /// A setting isn't one of git's policies.
     NoPolicy,
-    /// It depends on whether the user named the server, and that variable is no boolean of git's.
+    /// The policy is `user`, and `GIT_PROTOCOL_FROM_USER` isn't a boolean.
     NoBoolean,
 }
 
-// The policy of a word.
 fn policy_of(word: &[u8]) -> Option<Policy>
     ensures { result ≡ policy_of word.now }
 {
@@ -51,9 +50,9 @@ fn policy_of(word: &[u8]) -> Option<Policy>
     }
 }
 
-// The policy where no setting says one.
-fn policy_without(transport: &[u8]) -> Policy
-    ensures { result ≡ policy_without transport.now }
+// The policy if no setting names one.
+fn default_policy(transport: &[u8]) -> Policy
+    ensures { result ≡ default_policy transport.now }
 {
     if transport == b"http".as_slice()
         || transport == b"https".as_slice()
@@ -68,7 +67,6 @@ fn policy_without(transport: &[u8]) -> Policy
     }
 }
 
-// The name of the setting for a transport.
 fn allow_name(alloc: Global, transport: &[u8]) -> Result<Vec<u8>, AllocError>
     ensures { IfOk result (λ name. name.items ≡ allow_name transport.now) }
 {
@@ -78,14 +76,13 @@ fn allow_name(alloc: Global, transport: &[u8]) -> Result<Vec<u8>, AllocError>
     Ok(name)
 }
 
-// The pieces of a list with colons between its words.
+// The words of a list, which colons separate.
 fn pieces_of(alloc: Global, list: &[u8]) -> Result<Vec<BStr<'_>>, AllocError>
     ensures { IfOk result (λ pieces. map bstr_bytes pieces.items ≡ slice_split (λ b. b == 58) list.now) }
 {
     list.split(|b| *b == b':').map(BStr::new).collect(alloc)
 }
 
-/// Whether one of some words is this one.
 pub(crate) fn has_word(words: &[BStr<'_>], word: &[u8]) -> bool
     ensures { result ≡ list_any (λ part. bytes_eq part word.now) (map bstr_bytes words.now) }
 {
@@ -97,25 +94,24 @@ pub(crate) fn has_word(words: &[BStr<'_>], word: &[u8]) -> bool
     false
 }
 
-// Whether a list has a word.
-fn lists(alloc: Global, list: &[u8], word: &[u8]) -> Result<bool, AllocError>
-    ensures { IfOk result (λ has. has ≡ lists list.now word.now) }
+fn list_contains(alloc: Global, list: &[u8], word: &[u8]) -> Result<bool, AllocError>
+    ensures { IfOk result (λ has. has ≡ list_contains list.now word.now) }
 {
     let pieces = pieces_of(alloc, list)?;
     Ok(has_word(&pieces, word))
 }
 
-// The policy by the setting of all transports, or else as git has it.
+// The policy of `protocol.allow`, else the default.
 fn policy_for_all(settings: &Settings, transport: &[u8]) -> Option<Policy>
     ensures { result ≡ policy_for_all (value_of (settings_in settings.now) (codes "protocol.allow")) transport.now }
 {
     match settings.value(b"protocol.allow") {
         Some(word) => policy_of(word),
-        None => Some(policy_without(transport)),
+        None => Some(default_policy(transport)),
     }
 }
 
-// The policy of a transport.
+// The policy of a protocol.
 fn policy_in(
     alloc: Global,
     settings: &Settings,
@@ -130,7 +126,6 @@ fn policy_in(
     }
 }
 
-// The permission of what is allowed, or not.
 fn permission_by(is_allowed: bool) -> Permission
     ensures { result ≡ permission_by is_allowed }
 {
@@ -141,7 +136,7 @@ fn permission_by(is_allowed: bool) -> Permission
     }
 }
 
-// The permission where the user has to have named the server.
+// The permission for the policy `user`.
 fn permission_of_user(is_from_user: Option<bool>) -> Permission
     ensures { result ≡ permission_of_user is_from_user }
 {
@@ -151,7 +146,6 @@ fn permission_of_user(is_from_user: Option<bool>) -> Permission
     }
 }
 
-// The permission by a policy, where a setting names one.
 fn permission_in(policy: Option<Policy>, is_from_user: Option<bool>) -> Permission
     ensures { result ≡ permission_in is_from_user policy }
 {
@@ -163,7 +157,7 @@ fn permission_in(policy: Option<Policy>, is_from_user: Option<bool>) -> Permissi
     }
 }
 
-/// Whether the user named the server, by `GIT_PROTOCOL_FROM_USER`. None where its value is no boolean of git's.
+/// Whether the user named the server, by `GIT_PROTOCOL_FROM_USER`. `None` if that isn't a boolean.
 pub fn is_from_user(variable: Option<&[u8]>) -> Option<bool>
     ensures { result ≡ is_from_user (option_map (λ v. v.now) variable.entry) }
 {
@@ -173,12 +167,12 @@ pub fn is_from_user(variable: Option<&[u8]>) -> Option<bool>
     }
 }
 
-/// Whether a transport is allowed: by the list of `GIT_ALLOW_PROTOCOL` where that is set, else by its own setting, else by
-/// `protocol.allow`, else as git has it.
+/// Whether a protocol is allowed. `GIT_ALLOW_PROTOCOL` decides if it is set, then
+/// `protocol.NAME.allow`, then `protocol.allow`, then git's default.
 ///
 /// # Errors
 ///
-/// An allocation failure alone.
+/// Only when an allocation fails.
 pub fn permission_of(
     alloc: Global,
     transport: &[u8],
@@ -191,7 +185,7 @@ pub fn permission_of(
 {
     match list {
         Some(list) => {
-            let is_listed = lists(alloc, list, transport)?;
+            let is_listed = list_contains(alloc, list, transport)?;
             Ok(permission_by(is_listed))
         }
         None => {
@@ -201,20 +195,21 @@ pub fn permission_of(
     }
 }
 
-/// What becomes of a URL with a password in it (git-config, "transfer.credentialsInUrl").
+/// How a URL with a password is treated (git-config, "transfer.credentialsInUrl").
 #[derive(Clone, Copy, Debug, PartialEq, Eq)]
 pub enum PasswordPolicy {
-    /// It is taken.
+    /// It is used.
     Allow,
-    /// It is taken, with a warning.
+    /// It is used, with a warning.
     Warn,
-    /// It is refused, by the user's setting.
+    /// It is refused, as the setting says.
     Die,
-    /// It is refused, since no setting takes it: git can't see the password after `gixp::`, and would show it and write it down.
+    /// It is refused, since no setting allows it: git can't see the password after `gixp::`, and
+    /// would show and store it.
     Refuse,
 }
 
-/// What becomes of a URL with a password in it, by the setting. None where the setting has none of git's words.
+/// The policy of the setting. `None` if git doesn't have such a value.
 pub fn password_policy(setting: Option<&[u8]>) -> Option<PasswordPolicy>
     ensures { result ≡ password_policy (option_map (λ s. s.now) setting.entry) }
 {

@@ -1,53 +1,56 @@
-//! What git is asked, by the words of its programs, and by variables.
+//! The questions to git: arguments and environment variables.
 ghost use Rattle.std.specs.Prelude.{◌≡◌, ◌++◌, IfOk, OnOk, map};
 ghost use Rattle.std.specs.Option.{option_map};
 ghost use Rattle.bstr.specs.Owned.{bstring_bytes};
-ghost use Rattle.gixp_remote_rules.specs.Asked.{commit_words, object_words, number_words, time_words, check_words, reach_words, question_words, most_words, listing_words};
-ghost use Rattle.gixp_remote_rules.specs.Asked.{within_of, question_variables, pack_variables};
+ghost use Rattle.gixp_remote_rules.specs.Questions.{commit_argv, object_argv, number_argv, time_argv, message_argv, connected_argv, question_argv, limit_argv, listing_argv};
+ghost use Rattle.gixp_remote_rules.specs.Questions.{within_of, question_variables, pack_variables};
 
-use crate::words::{add, add_all, add_names, joined, shallow_words};
+use crate::argv::{add, add_all, add_names, concat, shallow_argv};
 use bstr::BString;
 use std::alloc::{AllocError, Global};
 
-/// What git is asked of the repository and of itself.
+/// A question to git about the repository or the configuration.
 #[derive(Clone, Copy)]
 pub enum Question<'a> {
-    /// Where the shallow boundary and the objects are.
-    Places,
-    /// The objects that the refs hold and lead to, also those of repositories whose objects are borrowed.
+    /// The hash function, and the paths of the shallow boundary and the objects.
+    Paths,
+    /// The objects that refs point to, and what tags among them point to. Refs of alternates count
+    /// too.
     Refs,
-    /// The commits that these refs lead to.
+    /// The commits that the refs reach.
     Commits,
-    /// Where the list of the objects is that aren't checked.
+    /// The path of the list of objects that aren't checked.
     SkipList,
-    /// The number of a setting.
+    /// The number in a configuration entry.
     Number(&'a [u8]),
-    /// A time, in seconds.
+    /// A time in seconds.
     Time(&'a [u8]),
-    /// Whether it knows a message about objects: with a word that isn't there it tells its usage then.
+    /// Whether git knows this fsck message. The arguments have an unknown option, so git prints its
+    /// usage then.
     Check(&'a [u8]),
-    /// Which objects are present, by their ids.
+    /// Which of these ids are present.
     Present,
-    /// Whether ids lead to nothing that is missing, under the boundary in this file: an empty name is none.
-    Reach(&'a [u8]),
-    /// Whether ids lead to nothing that is missing, where what the refs lead to counts as whole.
-    ReachRefs,
+    /// Whether everything that ids reach is present, under the boundary in this file. An empty path
+    /// means no boundary.
+    Connected(&'a [u8]),
+    /// Whether everything that ids reach is present. What the refs reach isn't checked.
+    ConnectedToRefs,
 }
 
-// Some words.
-fn fixed(alloc: Global, names: &[&str]) -> Result<Vec<BString>, AllocError>
-    ensures { IfOk result (λ words. map bstring_bytes words.items ≡ map (λ n. n.now) names.now) }
+fn argv_of(alloc: Global, names: &[&str]) -> Result<Vec<BString>, AllocError>
+    ensures { IfOk result (λ argv. map bstring_bytes argv.items ≡ map (λ n. n.now) names.now) }
 {
-    let mut words = Vec::new(alloc);
-    add_names(alloc, &mut words, names)?;
-    Ok(words)
+    let mut argv = Vec::new(alloc);
+    add_names(alloc, &mut argv, names)?;
+    Ok(argv)
 }
 
-// The words for the commits that refs lead to. Git passes over a ref whose object is lost only where it knows of that first.
-fn commit_words(alloc: Global) -> Result<Vec<BString>, AllocError>
-    ensures { IfOk result (λ words. map bstring_bytes words.items ≡ commit_words) }
+// The arguments that list the commits. git skips a ref whose object is missing only if
+// `--ignore-missing` precedes `--all`.
+fn commit_argv(alloc: Global) -> Result<Vec<BString>, AllocError>
+    ensures { IfOk result (λ argv. map bstring_bytes argv.items ≡ commit_argv) }
 {
-    fixed(
+    argv_of(
         alloc,
         &[
             "rev-list",
@@ -61,11 +64,11 @@ fn commit_words(alloc: Global) -> Result<Vec<BString>, AllocError>
     )
 }
 
-// The words for objects, and for what tags among them lead to, without those that are missing.
-fn object_words(alloc: Global, named: &[&str]) -> Result<Vec<BString>, AllocError>
-    ensures { IfOk result (λ words. map bstring_bytes words.items ≡ object_words (map (λ n. n.now) named.now)) }
+// The arguments that list objects, and what tags among them point to. Missing objects are skipped.
+fn object_argv(alloc: Global, named: &[&str]) -> Result<Vec<BString>, AllocError>
+    ensures { IfOk result (λ argv. map bstring_bytes argv.items ≡ object_argv (map (λ n. n.now) named.now)) }
 {
-    let mut words = fixed(
+    let mut argv = argv_of(
         alloc,
         &[
             "rev-list",
@@ -76,23 +79,23 @@ fn object_words(alloc: Global, named: &[&str]) -> Result<Vec<BString>, AllocErro
             "--filter=tree:0",
         ],
     )?;
-    add_names(alloc, &mut words, named)?;
-    Ok(words)
+    add_names(alloc, &mut argv, named)?;
+    Ok(argv)
 }
 
-// The words by which git walks from ids to all that they lead to, and says nothing of what it finds.
-fn reach_words(
+// The arguments that check connectivity without listing objects.
+fn connected_argv(
     alloc: Global,
     shallow: Option<&[u8]>,
     named: &[&str],
 ) -> Result<Vec<BString>, AllocError>
-    ensures { IfOk result (λ words. map bstring_bytes words.items
-        ≡ reach_words (option_map (λ s. s.now) shallow.entry) (map (λ n. n.now) named.now)) }
+    ensures { IfOk result (λ argv. map bstring_bytes argv.items
+        ≡ connected_argv (option_map (λ s. s.now) shallow.entry) (map (λ n. n.now) named.now)) }
 {
-    let mut words = shallow_words(alloc, shallow)?;
+    let mut argv = shallow_argv(alloc, shallow)?;
     add_names(
         alloc,
-        &mut words,
+        &mut argv,
         &[
             "rev-list",
             "--objects",
@@ -101,50 +104,47 @@ fn reach_words(
             "--stdin",
         ],
     )?;
-    add_names(alloc, &mut words, named)?;
-    Ok(words)
+    add_names(alloc, &mut argv, named)?;
+    Ok(argv)
 }
 
-// The words for a time.
-fn time_words(alloc: Global, since: &[u8]) -> Result<Vec<BString>, AllocError>
-    ensures { IfOk result (λ words. map bstring_bytes words.items ≡ time_words since.now) }
+fn time_argv(alloc: Global, since: &[u8]) -> Result<Vec<BString>, AllocError>
+    ensures { IfOk result (λ argv. map bstring_bytes argv.items ≡ time_argv since.now) }
 {
-    let time = joined(alloc, &[b"--since=", since])?;
-    let mut words = fixed(alloc, &["rev-parse"])?;
-    add(alloc, &mut words, &time)?;
-    Ok(words)
+    let time = concat(alloc, &[b"--since=", since])?;
+    let mut argv = argv_of(alloc, &["rev-parse"])?;
+    add(alloc, &mut argv, &time)?;
+    Ok(argv)
 }
 
-// The words for the number of a setting.
-fn number_words(alloc: Global, name: &[u8]) -> Result<Vec<BString>, AllocError>
-    ensures { IfOk result (λ words. map bstring_bytes words.items ≡ number_words name.now) }
+fn number_argv(alloc: Global, name: &[u8]) -> Result<Vec<BString>, AllocError>
+    ensures { IfOk result (λ argv. map bstring_bytes argv.items ≡ number_argv name.now) }
 {
-    let mut words = fixed(alloc, &["config", "--type=int", "--get"])?;
-    add(alloc, &mut words, name)?;
-    Ok(words)
+    let mut argv = argv_of(alloc, &["config", "--type=int", "--get"])?;
+    add(alloc, &mut argv, name)?;
+    Ok(argv)
 }
 
-// The words for a message about objects.
-fn check_words(alloc: Global, name: &[u8]) -> Result<Vec<BString>, AllocError>
-    ensures { IfOk result (λ words. map bstring_bytes words.items ≡ check_words name.now) }
+fn message_argv(alloc: Global, name: &[u8]) -> Result<Vec<BString>, AllocError>
+    ensures { IfOk result (λ argv. map bstring_bytes argv.items ≡ message_argv name.now) }
 {
-    let strict = joined(alloc, &[b"--strict=", name, b"=error"])?;
-    let mut words = fixed(alloc, &["index-pack"])?;
-    add(alloc, &mut words, &strict)?;
-    add(alloc, &mut words, b"--no-such-word")?;
-    Ok(words)
+    let strict = concat(alloc, &[b"--strict=", name, b"=error"])?;
+    let mut argv = argv_of(alloc, &["index-pack"])?;
+    add(alloc, &mut argv, &strict)?;
+    add(alloc, &mut argv, b"--no-such-word")?;
+    Ok(argv)
 }
 
-/// The words of a question.
+/// The arguments of a question.
 ///
 /// # Errors
 ///
-/// An allocation failure alone.
-pub fn question_words(alloc: Global, question: Question<'_>) -> Result<Vec<BString>, AllocError>
-    ensures { IfOk result (λ words. map bstring_bytes words.items ≡ question_words question.entry) }
+/// Only when an allocation fails.
+pub fn question_argv(alloc: Global, question: Question<'_>) -> Result<Vec<BString>, AllocError>
+    ensures { IfOk result (λ argv. map bstring_bytes argv.items ≡ question_argv question.entry) }
 {
     match question {
-        Question::Places => fixed(
+        Question::Paths => argv_of(
             alloc,
             &[
                 "rev-parse",
@@ -156,58 +156,59 @@ pub fn question_words(alloc: Global, question: Question<'_>) -> Result<Vec<BStri
                 "objects",
             ],
         ),
-        Question::Refs => object_words(alloc, &["--all", "--alternate-refs"]),
-        Question::Commits => commit_words(alloc),
-        Question::SkipList => fixed(
+        Question::Refs => object_argv(alloc, &["--all", "--alternate-refs"]),
+        Question::Commits => commit_argv(alloc),
+        Question::SkipList => argv_of(
             alloc,
             &["config", "--type=path", "--get", "fetch.fsck.skiplist"],
         ),
-        Question::Number(name) => number_words(alloc, name),
-        Question::Time(since) => time_words(alloc, since),
-        Question::Check(name) => check_words(alloc, name),
-        Question::Present => object_words(alloc, &["--stdin"]),
-        Question::Reach(shallow) => reach_words(alloc, Some(shallow), &[]),
-        Question::ReachRefs => { reach_words(alloc, None, &["--not", "--all", "--alternate-refs"]) }
+        Question::Number(name) => number_argv(alloc, name),
+        Question::Time(since) => time_argv(alloc, since),
+        Question::Check(name) => message_argv(alloc, name),
+        Question::Present => object_argv(alloc, &["--stdin"]),
+        Question::Connected(shallow) => connected_argv(alloc, Some(shallow), &[]),
+        Question::ConnectedToRefs => {
+            connected_argv(alloc, None, &["--not", "--all", "--alternate-refs"])
+        }
     }
 }
 
-// How many commits are listed at most.
-fn add_most(alloc: Global, words: &mut Vec<BString>, most: Option<&[u8]>) -> Result<(), AllocError>
-    ensures { OnOk result (map bstring_bytes words.new.items
-        ≡ map bstring_bytes words.old.items ++ most_words (option_map (λ m. m.now) most.entry)) }
+fn add_limit(alloc: Global, argv: &mut Vec<BString>, limit: Option<&[u8]>) -> Result<(), AllocError>
+    ensures { OnOk result (map bstring_bytes argv.new.items
+        ≡ map bstring_bytes argv.old.items ++ limit_argv (option_map (λ m. m.now) limit.entry)) }
 {
-    if let Some(most) = most {
-        add(alloc, words, b"-n")?;
-        add(alloc, words, most)?;
+    if let Some(limit) = limit {
+        add(alloc, argv, b"-n")?;
+        add(alloc, argv, limit)?;
     }
     Ok(())
 }
 
-/// The words of git that lists the commits which are offered, no more than so many.
+/// The arguments that list the commits for haves, at most `limit` of them.
 ///
 /// # Errors
 ///
-/// An allocation failure alone.
-pub fn listing_words(alloc: Global, most: Option<&[u8]>) -> Result<Vec<BString>, AllocError>
-    ensures { IfOk result (λ words. map bstring_bytes words.items ≡ listing_words (option_map (λ m. m.now) most.entry)) }
+/// Only when an allocation fails.
+pub fn listing_argv(alloc: Global, limit: Option<&[u8]>) -> Result<Vec<BString>, AllocError>
+    ensures { IfOk result (λ argv. map bstring_bytes argv.items ≡ listing_argv (option_map (λ m. m.now) limit.entry)) }
 {
-    let mut words = commit_words(alloc)?;
-    add_most(alloc, &mut words, most)?;
-    Ok(words)
+    let mut argv = commit_argv(alloc)?;
+    add_limit(alloc, &mut argv, limit)?;
+    Ok(argv)
 }
 
-/// What another helper of this kind waits for meanwhile, by the variable `GIXP_WITHIN`.
+/// The work of an outer helper that made git start this one (`GIXP_WITHIN`).
 #[derive(Clone, Copy, Debug, PartialEq, Eq)]
 pub enum Within {
-    /// None.
+    /// There is no outer helper.
     Nothing,
-    /// Its pack, which git indexes: objects that are promised and that the pack builds on are fetched.
+    /// git indexes the outer helper's pack. Promised objects that the pack needs may be fetched.
     Pack,
-    /// A question: nothing is fetched for that.
+    /// git answers a question of the outer helper. Nothing may be fetched.
     Question,
 }
 
-/// What another helper waits for.
+/// The work of the outer helper, by the variable.
 pub fn within_of(variable: Option<&[u8]>) -> Within
     ensures { result ≡ within_of (option_map (λ v. v.now) variable.entry) }
 {
@@ -218,26 +219,27 @@ pub fn within_of(variable: Option<&[u8]>) -> Within
     }
 }
 
-/// The variables of git that answers a question, before others. It fetches no object that is promised: a newer git heeds the first,
-/// and a helper that an older one starts finds the second, and ends at once.
+/// The variables of git when it answers a question, followed by `more`. git must not fetch promised
+/// objects. A newer git obeys the first variable. An older one starts a helper, which sees the
+/// second and ends.
 ///
 /// # Errors
 ///
-/// An allocation failure alone.
+/// Only when an allocation fails.
 pub fn question_variables(alloc: Global, more: &[BString]) -> Result<Vec<BString>, AllocError>
     ensures { IfOk result (λ all. map bstring_bytes all.items ≡ question_variables (map bstring_bytes more.now)) }
 {
-    let mut all = fixed(alloc, &["GIT_NO_LAZY_FETCH=1", "GIXP_WITHIN=question"])?;
+    let mut all = argv_of(alloc, &["GIT_NO_LAZY_FETCH=1", "GIXP_WITHIN=question"])?;
     add_all(alloc, &mut all, more)?;
     Ok(all)
 }
 
-/// The variables of git that indexes a pack, before others. It may fetch promised objects that the pack builds on, but not for the
-/// pack of a helper that was started for that.
+/// The variables of git when it indexes a pack, followed by `more`. git may fetch promised objects
+/// that the pack needs. A helper that it starts for that may not.
 ///
 /// # Errors
 ///
-/// An allocation failure alone.
+/// Only when an allocation fails.
 pub fn pack_variables(
     alloc: Global,
     within: Within,
@@ -248,7 +250,7 @@ pub fn pack_variables(
     match within {
         Within::Pack | Within::Question => question_variables(alloc, more),
         Within::Nothing => {
-            let mut all = fixed(alloc, &["GIXP_WITHIN=pack"])?;
+            let mut all = argv_of(alloc, &["GIXP_WITHIN=pack"])?;
             add_all(alloc, &mut all, more)?;
             Ok(all)
         }

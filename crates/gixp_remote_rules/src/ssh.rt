@@ -1,35 +1,35 @@
-//! The words that ssh is started with, by the kind of its program (git-config, "ssh.variant").
+//! The arguments of ssh, by the variant of its program (git-config, "ssh.variant").
 ghost use Rattle.std.specs.Prelude.{◌≡◌, ◌∷◌, ◌++◌, [], IfOk, OnOk, map};
 ghost use Rattle.gixp_remote_rules.specs.declared.ssh.SshError.TheVariants.{Memory};
 ghost use Rattle.std.specs.Option.{option_map};
 ghost use Rattle.bstr.specs.Owned.{bstring_bytes};
-ghost use Rattle.gixp_remote_rules.specs.Ssh.{named_variant, base_of, by_program, behind_blanks, before, word_at, first_word, variant_of};
-ghost use Rattle.gixp_remote_rules.specs.Ssh.{call_value, has_families, is_sent, version_words, family_words, batch_words, port_option, port_words, call_words, family_refusal, port_refusal, refusal_of, GivesWords, ssh_words, server_command, with_command, server_words, with_question, probe_words};
+ghost use Rattle.gixp_remote_rules.specs.Ssh.{named_variant, base_name, variant_of_program, trim_blanks, before, word_at, first_word, variant_of};
+ghost use Rattle.gixp_remote_rules.specs.Ssh.{call_value, has_families, is_sent, version_argv, family_argv, batch_argv, port_option, port_argv, call_argv, family_refusal, port_refusal, refusal_of, ReturnsArgv, ssh_argv, server_command, with_command, server_argv, with_probe, probe_argv};
 
-use crate::dialogue::Family;
-use crate::server::quoted;
-use crate::text::{is_word, place_of};
-use crate::words::{add, add_all, joined};
+use crate::argv::{add, add_all, concat};
+use crate::options::Family;
+use crate::quote::quoted;
+use crate::text::{find_byte, is_word};
 use bstr::BString;
 use std::alloc::{AllocError, Global};
 use thiserror::Error;
 
-/// A kind of ssh, by the options that it takes.
+/// The variant of an ssh program. It decides which options the program gets.
 #[derive(Clone, Copy, Debug, PartialEq, Eq)]
 pub enum Variant {
-    /// It isn't known: `ssh -G` shows whether it is OpenSSH.
+    /// Unknown: `ssh -G` shows whether the program is OpenSSH.
     Auto,
-    /// A host and a command alone.
+    /// The program takes only a host and a command.
     Simple,
     /// OpenSSH.
     Ssh,
-    /// plink, or PuTTY's.
+    /// plink or PuTTY.
     Plink,
     /// TortoisePlink.
     TortoisePlink,
 }
 
-// The kind that the user's word names: OpenSSH, unless it is one of the others.
+// The variant that the user's word names. An unknown word means OpenSSH.
 fn named_variant(word: &[u8]) -> Variant
     ensures { result ≡ named_variant word.now }
 {
@@ -47,25 +47,25 @@ fn named_variant(word: &[u8]) -> Variant
 }
 
 // The name of a program without its folder.
-fn base_of(program: &[u8]) -> &[u8]
-    ensures { result.now ≡ base_of program.now }
+fn base_name(program: &[u8]) -> &[u8]
+    ensures { result.now ≡ base_name program.now }
 {
     let mut base = program;
     let mut rest = program;
-    'bytes: while let Some((byte, behind)) = rest.split_first() {
+    'bytes: while let Some((byte, after)) = rest.split_first() {
         if *byte == b'/' {
-            base = behind;
+            base = after;
         }
-        rest = behind;
+        rest = after;
     }
     base
 }
 
-// The kind of a program of this name.
-fn by_program(program: &[u8]) -> Variant
-    ensures { result ≡ by_program program.now }
+// The variant of a program, by its name.
+fn variant_of_program(program: &[u8]) -> Variant
+    ensures { result ≡ variant_of_program program.now }
 {
-    let name = base_of(program);
+    let name = base_name(program);
     if is_word(name, b"ssh") || is_word(name, b"ssh.exe") {
         Variant::Ssh
     } else if is_word(name, b"plink") || is_word(name, b"plink.exe") {
@@ -77,31 +77,31 @@ fn by_program(program: &[u8]) -> Variant
     }
 }
 
-// A text behind its blanks.
-fn behind_blanks(text: &[u8]) -> &[u8]
-    ensures { result.now ≡ behind_blanks text.now }
+// A text without the spaces and tabs that it begins with.
+fn trim_blanks(text: &[u8]) -> &[u8]
+    ensures { result.now ≡ trim_blanks text.now }
 {
     let mut rest = text;
-    'blanks: while let Some((byte, behind)) = rest.split_first() {
+    'blanks: while let Some((byte, after)) = rest.split_first() {
         if *byte != b' ' && *byte != b'\t' {
             return rest;
         }
-        rest = behind;
+        rest = after;
     }
     rest
 }
 
-// What stands before a byte.
+// The text before a byte.
 fn before(text: &[u8], byte: u8) -> &[u8]
     ensures { result.now ≡ before text.now byte }
 {
-    match place_of(text, byte) {
+    match find_byte(text, byte) {
         Some(at) => &text[..at],
         None => text,
     }
 }
 
-// The word that a text begins with.
+// The first word, without quotes.
 fn word_at(text: &[u8]) -> &[u8]
     ensures { result.now ≡ word_at text.now }
 {
@@ -117,43 +117,43 @@ fn word_at(text: &[u8]) -> &[u8]
     }
 }
 
-/// The first word of a text for a shell, without quotes around it.
+/// The first word of a shell command, without quotes.
 pub fn first_word(text: &[u8]) -> &[u8]
     ensures { result.now ≡ first_word text.now }
 {
-    word_at(behind_blanks(text))
+    word_at(trim_blanks(text))
 }
 
-/// The kind of ssh: as `GIT_SSH_VARIANT` or `ssh.variant` names it, else by the name of the program.
+/// The variant that `GIT_SSH_VARIANT` or `ssh.variant` names, else the variant of the program.
 pub fn variant_of(chosen: Option<&[u8]>, program: &[u8]) -> Variant
     ensures { result ≡ variant_of (option_map (λ w. w.now) chosen.entry) program.now }
 {
     match chosen {
         Some(word) => match named_variant(word) {
-            Variant::Auto => by_program(program),
+            Variant::Auto => variant_of_program(program),
             Variant::Simple => Variant::Simple,
             Variant::Ssh => Variant::Ssh,
             Variant::Plink => Variant::Plink,
             Variant::TortoisePlink => Variant::TortoisePlink,
         },
-        None => by_program(program),
+        None => variant_of_program(program),
     }
 }
 
-/// What ssh is to reach, and how.
+/// The connection that ssh opens.
 #[derive(Clone, Copy)]
 pub struct SshCall<'a> {
     /// Whether the version of the protocol is sent.
     pub sends_version: bool,
     /// Which addresses of the host are used.
     pub family: Family,
-    /// The port, where the URL has one.
+    /// The port, if the URL has one.
     pub port: Option<&'a [u8]>,
     /// The user and the host.
     pub host: &'a [u8],
 }
 
-/// Why a kind of ssh isn't started.
+/// Why a variant can't open a connection.
 #[derive(Clone, Copy, Debug, PartialEq, Eq, Error)]
 pub enum SshError {
     /// It can't be limited to IPv4 addresses.
@@ -162,7 +162,7 @@ pub enum SshError {
     /// It can't be limited to IPv6 addresses.
     #[error("ssh variant 'simple' does not support -6")]
     Ipv6,
-    /// It takes no port.
+    /// It doesn't take a port.
     #[error("ssh variant 'simple' does not support setting port")]
     Port,
     /// An allocation failed.
@@ -178,7 +178,7 @@ impl From<AllocError> for SshError {
     }
 }
 
-// Whether a kind of ssh can be limited to addresses of one family.
+// Whether the variant can be limited to IPv4 or IPv6 addresses.
 fn has_families(variant: Variant) -> bool
     ensures { result ≡ has_families variant }
 {
@@ -188,7 +188,7 @@ fn has_families(variant: Variant) -> bool
     }
 }
 
-// The option that a port follows.
+// The option that precedes a port.
 fn port_option(variant: Variant) -> Option<&'static [u8]>
     ensures { option_map (λ w. w.now) result ≡ port_option variant }
 {
@@ -199,7 +199,6 @@ fn port_option(variant: Variant) -> Option<&'static [u8]>
     }
 }
 
-// Why a kind of ssh isn't limited to addresses of one family.
 fn family_refusal(variant: Variant, family: Family) -> Option<SshError>
     ensures { result ≡ family_refusal variant family }
 {
@@ -213,7 +212,6 @@ fn family_refusal(variant: Variant, family: Family) -> Option<SshError>
     }
 }
 
-// Why a kind of ssh isn't given a port.
 fn port_refusal(variant: Variant, port: Option<&[u8]>) -> Option<SshError>
     ensures { result ≡ port_refusal variant (option_map (λ p. p.now) port.entry) }
 {
@@ -223,7 +221,7 @@ fn port_refusal(variant: Variant, port: Option<&[u8]>) -> Option<SshError>
     }
 }
 
-// Why a kind of ssh isn't started.
+// Why a variant can't open a connection.
 fn refusal_of(variant: Variant, family: Family, port: Option<&[u8]>) -> Option<SshError>
     ensures { result ≡ refusal_of variant family (option_map (λ p. p.now) port.entry) }
 {
@@ -233,21 +231,20 @@ fn refusal_of(variant: Variant, family: Family, port: Option<&[u8]>) -> Option<S
     }
 }
 
-// Two words more.
 fn add_two(
     alloc: Global,
-    words: &mut Vec<BString>,
+    argv: &mut Vec<BString>,
     first: &[u8],
     second: &[u8],
 ) -> Result<(), AllocError>
-    ensures { OnOk result (map bstring_bytes words.new.items ≡ map bstring_bytes words.old.items ++ (first.now ∷ second.now ∷ [])) }
+    ensures { OnOk result (map bstring_bytes argv.new.items ≡ map bstring_bytes argv.old.items ++ (first.now ∷ second.now ∷ [])) }
 {
-    add(alloc, words, first)?;
-    add(alloc, words, second)?;
+    add(alloc, argv, first)?;
+    add(alloc, argv, second)?;
     Ok(())
 }
 
-// Whether the version is sent by a variable.
+// Whether the variant sends the version by an environment variable.
 fn is_sent(variant: Variant, sends_version: bool) -> bool
     ensures { result ≡ is_sent variant sends_version }
 {
@@ -257,174 +254,162 @@ fn is_sent(variant: Variant, sends_version: bool) -> bool
     }
 }
 
-// The options that send the version.
 fn add_version(
     alloc: Global,
-    words: &mut Vec<BString>,
+    argv: &mut Vec<BString>,
     variant: Variant,
     sends_version: bool,
 ) -> Result<(), AllocError>
-    ensures { OnOk result (map bstring_bytes words.new.items ≡ map bstring_bytes words.old.items ++ version_words variant sends_version) }
+    ensures { OnOk result (map bstring_bytes argv.new.items ≡ map bstring_bytes argv.old.items ++ version_argv variant sends_version) }
 {
     if is_sent(variant, sends_version) {
-        add_two(alloc, words, b"-o", b"SendEnv=GIT_PROTOCOL")?;
+        add_two(alloc, argv, b"-o", b"SendEnv=GIT_PROTOCOL")?;
     }
     Ok(())
 }
 
-// The option for addresses of one family.
 fn add_family(
     alloc: Global,
-    words: &mut Vec<BString>,
+    argv: &mut Vec<BString>,
     variant: Variant,
     family: Family,
 ) -> Result<(), AllocError>
-    ensures { OnOk result (map bstring_bytes words.new.items ≡ map bstring_bytes words.old.items ++ family_words variant family) }
+    ensures { OnOk result (map bstring_bytes argv.new.items ≡ map bstring_bytes argv.old.items ++ family_argv variant family) }
 {
     if has_families(variant) {
         match family {
             Family::All => {}
-            Family::Ipv4 => add(alloc, words, b"-4")?,
-            Family::Ipv6 => add(alloc, words, b"-6")?,
+            Family::Ipv4 => add(alloc, argv, b"-4")?,
+            Family::Ipv6 => add(alloc, argv, b"-6")?,
         }
     }
     Ok(())
 }
 
-// The option by which TortoisePlink asks nothing.
-fn add_batch(alloc: Global, words: &mut Vec<BString>, variant: Variant) -> Result<(), AllocError>
-    ensures { OnOk result (map bstring_bytes words.new.items ≡ map bstring_bytes words.old.items ++ batch_words variant) }
+// The option that keeps TortoisePlink from asking the user.
+fn add_batch(alloc: Global, argv: &mut Vec<BString>, variant: Variant) -> Result<(), AllocError>
+    ensures { OnOk result (map bstring_bytes argv.new.items ≡ map bstring_bytes argv.old.items ++ batch_argv variant) }
 {
     if variant == Variant::TortoisePlink {
-        add(alloc, words, b"-batch")?;
+        add(alloc, argv, b"-batch")?;
     }
     Ok(())
 }
 
-// A port after its option, where the kind has one.
 fn add_port(
     alloc: Global,
-    words: &mut Vec<BString>,
+    argv: &mut Vec<BString>,
     variant: Variant,
     port: Option<&[u8]>,
 ) -> Result<(), AllocError>
-    ensures { OnOk result (map bstring_bytes words.new.items
-        ≡ map bstring_bytes words.old.items ++ port_words (port_option variant) (option_map (λ p. p.now) port.entry)) }
+    ensures { OnOk result (map bstring_bytes argv.new.items
+        ≡ map bstring_bytes argv.old.items ++ port_argv (port_option variant) (option_map (λ p. p.now) port.entry)) }
 {
     if let (Some(option), Some(port)) = (port_option(variant), port) {
-        add_two(alloc, words, option, port)?;
+        add_two(alloc, argv, option, port)?;
     }
     Ok(())
 }
 
-// The options, and the host.
-fn call_words(
-    alloc: Global,
-    variant: Variant,
-    call: SshCall<'_>,
-) -> Result<Vec<BString>, AllocError>
-    ensures { IfOk result (λ words. map bstring_bytes words.items ≡ call_words variant (call_value call.entry)) }
+// The options and the host.
+fn call_argv(alloc: Global, variant: Variant, call: SshCall<'_>) -> Result<Vec<BString>, AllocError>
+    ensures { IfOk result (λ argv. map bstring_bytes argv.items ≡ call_argv variant (call_value call.entry)) }
 {
-    let mut words = Vec::new(alloc);
-    add_version(alloc, &mut words, variant, call.sends_version)?;
-    add_family(alloc, &mut words, variant, call.family)?;
-    add_batch(alloc, &mut words, variant)?;
-    add_port(alloc, &mut words, variant, call.port)?;
-    add(alloc, &mut words, call.host)?;
-    Ok(words)
+    let mut argv = Vec::new(alloc);
+    add_version(alloc, &mut argv, variant, call.sends_version)?;
+    add_family(alloc, &mut argv, variant, call.family)?;
+    add_batch(alloc, &mut argv, variant)?;
+    add_port(alloc, &mut argv, variant, call.port)?;
+    add(alloc, &mut argv, call.host)?;
+    Ok(argv)
 }
 
-/// The options after the name of ssh, and the host.
+/// The arguments after the name of ssh: the options and the host.
 ///
 /// # Errors
 ///
-/// Why the kind isn't started, in git's words, or `Memory`.
-pub fn ssh_words(
+/// Why the variant can't open the connection, in git's words, or `Memory`.
+pub fn ssh_argv(
     alloc: Global,
     variant: Variant,
     call: SshCall<'_>,
 ) -> Result<Vec<BString>, SshError>
-    ensures { GivesWords (ssh_words variant (call_value call.entry)) result }
+    ensures { ReturnsArgv (ssh_argv variant (call_value call.entry)) result }
 {
     if let Some(e) = refusal_of(variant, call.family, call.port) {
         return Err(e);
     }
-    Ok(call_words(alloc, variant, call)?)
+    Ok(call_argv(alloc, variant, call)?)
 }
 
-// The server's own command, for the shell there.
+// The server's command, for the shell on its machine.
 fn server_command(alloc: Global, path: &[u8]) -> Result<Vec<u8>, AllocError>
     ensures { IfOk result (λ text. text.items ≡ server_command path.now) }
 {
     let path = quoted(alloc, path)?;
-    joined(alloc, &[b"git-upload-pack ", &path])
+    concat(alloc, &[b"git-upload-pack ", &path])
 }
 
-// All words that a server is started with, by those of ssh.
 fn with_command(
     alloc: Global,
     command: &[u8],
-    words: &[BString],
+    argv: &[BString],
     path: &[u8],
 ) -> Result<Vec<BString>, AllocError>
     ensures { IfOk result (λ all. map bstring_bytes all.items
-        ≡ with_command command.now path.now (map bstring_bytes words.now)) }
+        ≡ with_command command.now path.now (map bstring_bytes argv.now)) }
 {
     let last = server_command(alloc, path)?;
     let mut all = Vec::new(alloc);
     add(alloc, &mut all, command)?;
-    add_all(alloc, &mut all, words)?;
+    add_all(alloc, &mut all, argv)?;
     add(alloc, &mut all, &last)?;
     Ok(all)
 }
 
-/// All words that a server is started with by ssh: the user's command, the options, the host, and the server's own command.
+/// The arguments that start a server by ssh: the user's command, the options, the host, and the
+/// server's command.
 ///
 /// # Errors
 ///
-/// Why the kind isn't started, in git's words, or `Memory`.
-pub fn server_words(
+/// Why the variant can't open the connection, in git's words, or `Memory`.
+pub fn server_argv(
     alloc: Global,
     command: &[u8],
     variant: Variant,
     call: SshCall<'_>,
     path: &[u8],
 ) -> Result<Vec<BString>, SshError>
-    ensures { GivesWords (server_words command.now variant (call_value call.entry) path.now) result }
+    ensures { ReturnsArgv (server_argv command.now variant (call_value call.entry) path.now) result }
 {
-    match ssh_words(alloc, variant, call) {
-        Ok(words) => Ok(with_command(alloc, command, &words, path)?),
+    match ssh_argv(alloc, variant, call) {
+        Ok(argv) => Ok(with_command(alloc, command, &argv, path)?),
         Err(e) => Err(e),
     }
 }
 
-// The words that ask a program for its settings, by those of ssh.
-fn with_question(
-    alloc: Global,
-    command: &[u8],
-    words: &[BString],
-) -> Result<Vec<BString>, AllocError>
-    ensures { IfOk result (λ all. map bstring_bytes all.items ≡ with_question command.now (map bstring_bytes words.now)) }
+fn with_probe(alloc: Global, command: &[u8], argv: &[BString]) -> Result<Vec<BString>, AllocError>
+    ensures { IfOk result (λ all. map bstring_bytes all.items ≡ with_probe command.now (map bstring_bytes argv.now)) }
 {
     let mut all = Vec::new(alloc);
     add(alloc, &mut all, command)?;
     add(alloc, &mut all, b"-G")?;
-    add_all(alloc, &mut all, words)?;
+    add_all(alloc, &mut all, argv)?;
     Ok(all)
 }
 
-/// The words by which a program is asked whether it is OpenSSH: that tells its settings then.
+/// The arguments that ask a program whether it is OpenSSH. OpenSSH prints its configuration then.
 ///
 /// # Errors
 ///
-/// An allocation failure alone.
-pub fn probe_words(
+/// Only when an allocation fails.
+pub fn probe_argv(
     alloc: Global,
     command: &[u8],
     call: SshCall<'_>,
 ) -> Result<Vec<BString>, AllocError>
-    ensures { IfOk result (λ words. map bstring_bytes words.items ≡ probe_words command.now (call_value call.entry)) }
+    ensures { IfOk result (λ argv. map bstring_bytes argv.items ≡ probe_argv command.now (call_value call.entry)) }
 {
-    let words = call_words(alloc, Variant::Ssh, call)?;
-    with_question(alloc, command, &words)
+    let argv = call_argv(alloc, Variant::Ssh, call)?;
+    with_probe(alloc, command, &argv)
 }

@@ -1,4 +1,5 @@
-//! Packs that a server names by URIs (git-config, "fetch.uriProtocols"; git-http-fetch, "--packfile").
+//! Packs that a server names by URIs (git-config, "fetch.uriProtocols"; git-http-fetch,
+//! "--packfile").
 ghost use Rattle.std.specs.Prelude.{◌≡◌, ◌==◌, codes, ◌∷◌, [], ◌++◌, IfOk, OnOk, map, flat_map};
 ghost use Rattle.std.specs.Option.{option_map};
 ghost use Rattle.std.specs.List.{slice_split, position};
@@ -6,12 +7,12 @@ ghost use Rattle.std.specs.Str.{bytes_eq};
 ghost use Rattle.bstr.specs.BStr.{bstr_bytes};
 ghost use Rattle.bstr.specs.Owned.{bstring_bytes};
 ghost use Rattle.gixp_hash.specs.Hex.{encode_lower};
-ghost use Rattle.gixp_remote_rules.specs.Indexed.{id_value};
-ghost use Rattle.gixp_remote_rules.specs.Uris.{names_protocol, allows_uri, part_word, index_argument, download_words, name_after, IsNamed, IsDownload, has_more, check_words};
+ghost use Rattle.gixp_remote_rules.specs.IndexPack.{id_value};
+ghost use Rattle.gixp_remote_rules.specs.Uris.{names_protocol, allows_uri, part_word, index_argument, download_argv, pack_name_in, IsCheckedName, IsDownload, has_second_line, fsck_pack_argv};
 
+use crate::argv::{add, add_all, concat};
 use crate::policy::has_word;
-use crate::text::place_of;
-use crate::words::{add, add_all, joined};
+use crate::text::find_byte;
 use bstr::{BStr, BString};
 use gixp_hash::ObjectId;
 use std::alloc::{AllocError, Global};
@@ -25,26 +26,25 @@ pub struct UriSetting {
     pub https: bool,
 }
 
-/// Why a pack wasn't downloaded, as far as git tells it.
+/// Why a download failed, by the output of `git http-fetch`.
 #[derive(Clone, Copy, Debug, PartialEq, Eq)]
 pub enum DownloadError {
-    /// git told of no lock of its own.
+    /// The output doesn't begin with the lock.
     NoLock,
-    /// git told no name of a pack.
+    /// The output doesn't have the hash of the pack.
     NoName,
-    /// git ended with an error.
+    /// git exited with an error.
     Unfinished,
 }
 
-// The pieces of a list with commas between its words.
+// The words of a list, which commas separate.
 fn pieces_of(alloc: Global, list: &[u8]) -> Result<Vec<BStr<'_>>, AllocError>
     ensures { IfOk result (λ pieces. map bstr_bytes pieces.items ≡ slice_split (λ b. b == 44) list.now) }
 {
     list.split(|b| *b == b',').map(BStr::new).collect(alloc)
 }
 
-// Whether a setting names a protocol.
-fn names(alloc: Global, setting: Option<&[u8]>, word: &[u8]) -> Result<bool, AllocError>
+fn names_protocol(alloc: Global, setting: Option<&[u8]>, word: &[u8]) -> Result<bool, AllocError>
     ensures { IfOk result (λ is. is ≡ names_protocol word.now (option_map (λ s. s.now) setting.entry)) }
 {
     let Some(list) = setting else {
@@ -54,22 +54,22 @@ fn names(alloc: Global, setting: Option<&[u8]>, word: &[u8]) -> Result<bool, All
     Ok(has_word(&pieces, word))
 }
 
-/// The protocols of URIs that a setting names: its words stand between commas, and any but `http` and `https` are left out.
+/// The protocols of a setting, whose words are separated by commas. Only `http` and `https` count.
 ///
 /// # Errors
 ///
-/// An allocation failure alone.
+/// Only when an allocation fails.
 pub fn uri_setting(alloc: Global, setting: Option<&[u8]>) -> Result<UriSetting, AllocError>
     ensures http { IfOk result (λ s. s.http ≡ names_protocol (codes "http") (option_map (λ t. t.now) setting.entry)) }
     ensures https { IfOk result (λ s. s.https ≡ names_protocol (codes "https") (option_map (λ t. t.now) setting.entry)) }
 {
-    let http = names(alloc, setting, b"http")?;
-    let https = names(alloc, setting, b"https")?;
+    let http = names_protocol(alloc, setting, b"http")?;
+    let https = names_protocol(alloc, setting, b"https")?;
     Ok(UriSetting { http, https })
 }
 
 impl UriSetting {
-    /// Whether a URI is of a protocol that is named.
+    /// Whether the setting names the protocol of a URI.
     pub fn allows(self, uri: &[u8]) -> bool
         ensures { result ≡ allows_uri self.http self.https uri.now }
     {
@@ -77,70 +77,69 @@ impl UriSetting {
     }
 }
 
-// A word more of git that indexes one of several packs.
-fn add_part(alloc: Global, words: &mut Vec<BString>, word: &[u8]) -> Result<(), AllocError>
-    ensures { OnOk result (map bstring_bytes words.new.items ≡ map bstring_bytes words.old.items ++ part_word word.now) }
+fn add_part(alloc: Global, argv: &mut Vec<BString>, word: &[u8]) -> Result<(), AllocError>
+    ensures { OnOk result (map bstring_bytes argv.new.items ≡ map bstring_bytes argv.old.items ++ part_word word.now) }
 {
     if word == b"--check-self-contained-and-connected".as_slice() {
         return Ok(());
     }
     if word.starts_with(b"--strict") {
-        return add(alloc, words, b"--fsck-objects");
+        return add(alloc, argv, b"--fsck-objects");
     }
-    add(alloc, words, word)
+    add(alloc, argv, word)
 }
 
-/// The words of git that indexes one of several packs of a fetch, by those for a pack alone: whether all is there that objects lead to
-/// isn't known before all packs came.
+/// The arguments of `git index-pack` for one of several packs, made from those for a single pack.
+/// Connectivity can be checked only when all packs are present.
 ///
 /// # Errors
 ///
-/// An allocation failure alone.
-pub fn part_words(alloc: Global, words: &[BString]) -> Result<Vec<BString>, AllocError>
-    ensures { IfOk result (λ all. map bstring_bytes all.items ≡ flat_map part_word (map bstring_bytes words.now)) }
+/// Only when an allocation fails.
+pub fn part_argv(alloc: Global, argv: &[BString]) -> Result<Vec<BString>, AllocError>
+    ensures { IfOk result (λ all. map bstring_bytes all.items ≡ flat_map part_word (map bstring_bytes argv.now)) }
 {
     let mut all = Vec::new(alloc);
-    for word in words {
+    for word in argv {
         add_part(alloc, &mut all, word.as_bytes())?;
     }
     Ok(all)
 }
 
-// A word for git that indexes, in a word of git that downloads.
-fn add_argument(alloc: Global, words: &mut Vec<BString>, word: &[u8]) -> Result<(), AllocError>
-    ensures { OnOk result (map bstring_bytes words.new.items ≡ map bstring_bytes words.old.items ++ index_argument word.now ∷ []) }
+// An argument for `git index-pack`, as an argument of `git http-fetch`.
+fn add_argument(alloc: Global, argv: &mut Vec<BString>, word: &[u8]) -> Result<(), AllocError>
+    ensures { OnOk result (map bstring_bytes argv.new.items ≡ map bstring_bytes argv.old.items ++ index_argument word.now ∷ []) }
 {
-    let argument = joined(alloc, &[b"--index-pack-arg=", word])?;
-    add(alloc, words, &argument)?;
+    let argument = concat(alloc, &[b"--index-pack-arg=", word])?;
+    add(alloc, argv, &argument)?;
     Ok(())
 }
 
-// All of them.
-fn arguments(alloc: Global, words: &[BString]) -> Result<Vec<BString>, AllocError>
-    ensures { IfOk result (λ all. map bstring_bytes all.items ≡ map index_argument (map bstring_bytes words.now)) }
+fn arguments(alloc: Global, argv: &[BString]) -> Result<Vec<BString>, AllocError>
+    ensures { IfOk result (λ all. map bstring_bytes all.items ≡ map index_argument (map bstring_bytes argv.now)) }
 {
     let mut all = Vec::new(alloc);
-    for word in words {
+    for word in argv {
         add_argument(alloc, &mut all, word.as_bytes())?;
     }
     Ok(all)
 }
 
-/// The words of git that downloads the pack of this name from a URI, and indexes it by these words. The URI begins with its protocol.
+/// The arguments of `git http-fetch`, which downloads the pack of this name from a URI and passes
+/// `argv` to `git index-pack`. The URI begins with its protocol.
 ///
 /// # Errors
 ///
-/// An allocation failure alone.
-pub fn download_words(
+/// Only when an allocation fails.
+pub fn download_argv(
     alloc: Global,
     name: &[u8],
-    words: &[BString],
+    argv: &[BString],
     uri: &[u8],
 ) -> Result<Vec<BString>, AllocError>
-    ensures { IfOk result (λ all. map bstring_bytes all.items ≡ download_words name.now (map bstring_bytes words.now) uri.now) }
+    ensures { IfOk result (λ all. map bstring_bytes all.items ≡ download_argv name.now (map bstring_bytes argv.now) uri.now) }
 {
-    let pack = joined(alloc, &[b"--packfile=", name])?;
-    let arguments = arguments(alloc, words)?;
+    let pack = concat(alloc, &[b"--packfile=", name])?;
+    let arguments = arguments(alloc, argv)?;
     let mut all = Vec::new(alloc);
     add(alloc, &mut all, b"http-fetch")?;
     add(alloc, &mut all, &pack)?;
@@ -149,9 +148,9 @@ pub fn download_words(
     Ok(all)
 }
 
-// The name of a pack, which a line end follows.
-fn name_after(rest: &[u8]) -> Option<ObjectId>
-    ensures { option_map id_value result ≡ name_after rest.now }
+// The hash of a pack, followed by a line feed.
+fn pack_name_in(rest: &[u8]) -> Option<ObjectId>
+    ensures { option_map id_value result ≡ pack_name_in rest.now }
 {
     if rest.len() < 41 {
         return None;
@@ -167,9 +166,9 @@ fn name_after(rest: &[u8]) -> Option<ObjectId>
     }
 }
 
-// The name, where git ended without an error.
-fn ended(name: Option<ObjectId>, status: u32) -> Result<ObjectId, DownloadError>
-    ensures { IsNamed (option_map id_value name) status result }
+// The hash, if git exited with 0.
+fn checked_name(name: Option<ObjectId>, status: u32) -> Result<ObjectId, DownloadError>
+    ensures { IsCheckedName (option_map id_value name) status result }
 {
     match name {
         None => Err(DownloadError::NoName),
@@ -183,51 +182,52 @@ fn ended(name: Option<ObjectId>, status: u32) -> Result<ObjectId, DownloadError>
     }
 }
 
-/// The pack that was downloaded, by what git tells and its status: the word of its own lock, and the pack's name.
+/// The hash of the downloaded pack, by the output and the exit status of git.
 ///
 /// # Errors
 ///
-/// Why it isn't there, as git finds out.
-pub fn downloaded(text: &[u8], status: u32) -> Result<ObjectId, DownloadError>
+/// Why the download failed.
+pub fn downloaded_pack(text: &[u8], status: u32) -> Result<ObjectId, DownloadError>
     ensures { IsDownload text.now status result }
 {
     match text.strip_prefix(b"keep\t") {
-        Some(rest) => ended(name_after(rest), status),
+        Some(rest) => checked_name(pack_name_in(rest), status),
         None => Err(DownloadError::NoLock),
     }
 }
 
-/// Whether git told more than a line of a pack that it indexed: the ids of `.gitmodules` whose contents aren't there yet.
-pub fn tells_more(text: &[u8]) -> bool
-    ensures { result ≡ has_more text.now (position (λ b. b == 10) text.now) }
+/// Whether `git index-pack` listed more than the pack: the ids of `.gitmodules` files that are not
+/// in the pack.
+pub fn lists_gitmodules(text: &[u8]) -> bool
+    ensures { result ≡ has_second_line text.now (position (λ b. b == 10) text.now) }
 {
-    match place_of(text, b'\n') {
+    match find_byte(text, b'\n') {
         Some(at) => text.len() - at > 1,
         None => false,
     }
 }
 
-/// Whether a pack has this name, in lowercase digits.
-pub fn is_named(name: &[u8], pack: &ObjectId) -> bool
+/// Whether `name` is the hash of the pack in lower case.
+pub fn has_pack_name(name: &[u8], pack: &ObjectId) -> bool
     ensures { result ≡ bytes_eq name.now (encode_lower pack.now.bytes) }
 {
     let digits = pack.to_hex();
     name == digits.as_slice()
 }
 
-/// The words of git that looks at the objects of a pack once more, whose index it writes into a file.
+/// The arguments that make git check the objects of a pack again. It writes the index to a file.
 ///
 /// # Errors
 ///
-/// An allocation failure alone.
-pub fn check_words(alloc: Global, index: &[u8], pack: &[u8]) -> Result<Vec<BString>, AllocError>
-    ensures { IfOk result (λ words. map bstring_bytes words.items ≡ check_words index.now pack.now) }
+/// Only when an allocation fails.
+pub fn fsck_pack_argv(alloc: Global, index: &[u8], pack: &[u8]) -> Result<Vec<BString>, AllocError>
+    ensures { IfOk result (λ argv. map bstring_bytes argv.items ≡ fsck_pack_argv index.now pack.now) }
 {
-    let mut words = Vec::new(alloc);
-    add(alloc, &mut words, b"index-pack")?;
-    add(alloc, &mut words, b"--fsck-objects")?;
-    add(alloc, &mut words, b"-o")?;
-    add(alloc, &mut words, index)?;
-    add(alloc, &mut words, pack)?;
-    Ok(words)
+    let mut argv = Vec::new(alloc);
+    add(alloc, &mut argv, b"index-pack")?;
+    add(alloc, &mut argv, b"--fsck-objects")?;
+    add(alloc, &mut argv, b"-o")?;
+    add(alloc, &mut argv, index)?;
+    add(alloc, &mut argv, pack)?;
+    Ok(argv)
 }

@@ -1,4 +1,4 @@
--- Whether two boundaries are the same.
+-- Whether two boundaries are equal.
 use Rattle.std.proofs.Common.{◌≡◌, Bool, List, nat_eq, ap, refl}
 use Rattle.std.specs.Bool.{Decides}
 use Rattle.std.specs.Cmp.Lexicographic.{pointwise}

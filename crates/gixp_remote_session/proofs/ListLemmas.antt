@@ -30,7 +30,7 @@ either_way true false = refl
 either_way false true = refl
 either_way false false = refl
 
--- a set with a name more
+-- a set after a name is added
 pub text_added : (old new : BTreeSet (Bor (List ℕ))) (key : Bor (List ℕ)) (text : List ℕ)
     → Updates (λ x y. slice_cmp nat_cmp x.now y.now) old new key true → has_text new text ≡ (has_text old text || bytes_eq text key.now)
 text_added old new key text updates =
@@ -39,11 +39,11 @@ text_added old new key text updates =
     ∙ either_way (bytes_eq key.now text) (has_text old text)
     ∙ ap (λ b. has_text old text || b) (turned key.now text)
 
--- no name is in an empty set
+-- an empty set has no name
 pub no_texts : (text : List ℕ) (names : BTreeSet (Bor (List ℕ))) → names.keys ≡ [] → has_text names text ≡ false
 no_texts text names e = ap (λ keys. list_any (is_at (λ (key : Bor (List ℕ)). slice_cmp nat_cmp text key.now)) keys) e
 
--- a step of a loop that adds the names of refs that hold an object
+-- a step of the loop that adds the names of refs
 pub holders_more : (refs : List Ref) (i : ℕ) (r : Ref) (now new : BTreeSet (Bor (List ℕ))) → r ≡ get_or refs i r → i < length refs
     → ((text : List ℕ) → has_text now text ≡ is_held (take i refs) text)
     → ((text : List ℕ) → has_text new text ≡ (has_text now text || holds text r))

@@ -1,16 +1,16 @@
--- What is written of the shallow boundary after a fetch (gitrepository-layout, "shallow").
+-- The shallow boundary that is written after a fetch (gitrepository-layout, "shallow").
 use Rattle.std.specs.Prelude.{◌≡◌, ◌≢◌, List, ◌++◌, Option, Some, None}
 use Rattle.gix_protocol.specs.ObjectIdType.{ObjectId}
-use Rattle.gixp_remote_rules.specs.Taken.{AfterFetch, stays, becomes, grows, refused}
+use Rattle.gixp_remote_rules.specs.ShallowBoundary.{AfterFetch, stays, becomes, grows, refused}
 
--- the boundary by what becomes of it
+-- the boundary after the fetch
 abbrev pub boundary_then : List ObjectId → AfterFetch → List ObjectId
 boundary_then old stays = old
 boundary_then old (becomes ids) = ids
 boundary_then old (grows ids) = old ++ ids
 boundary_then old (refused id) = old
 
--- all of it is written, and nothing where it is the old one
+-- the new boundary is written, unless it is the old one
 abbrev pub ChangesTo : List ObjectId → List ObjectId → Option (List ObjectId) → Type 0
 ChangesTo old new None = new ≡ old
 ChangesTo old new (Some ids) = (ids ≡ new) × (ids ≢ old)

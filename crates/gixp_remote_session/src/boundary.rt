@@ -1,56 +1,59 @@
-//! What becomes of the shallow boundary, under git's own lock (gitrepository-layout, "shallow").
+//! Changes the shallow boundary, under git's own lock (gitrepository-layout, "shallow").
 ghost use Rattle.std.specs.Prelude.{◌≡◌, ◌++◌, option_map, IfOk};
-ghost use Rattle.gixp_remote_rules.specs.Taken.{boundary_value};
+ghost use Rattle.gixp_remote_rules.specs.ShallowBoundary.{boundary_value};
 ghost use Rattle.gixp_remote_session.specs.Boundaries.{boundary_then, ChangesTo};
 
-use crate::checks::here;
-use crate::local::Places;
-use crate::order::Order;
-use crate::pack::{Came, PackPlan, make_folder};
+use crate::connectivity::present_ids;
+use crate::error::Error;
+use crate::job::FetchJob;
+use crate::pack::{FetchResult, PackPlan, make_folder};
+use crate::paths::RepositoryPaths;
 use crate::pipes::BOUNDARY;
 use crate::shell::Shell;
-use crate::trouble::Trouble;
 use gix_protocol::fetch::shallow_text;
 use gix_protocol::transport::ObjectId;
-use gixp_remote_rules::{Boundary, Choices, Request, Taking, added, boundary_after, taking_of};
+use gixp_remote_rules::{
+    BoundaryChange, HelperOptions, ShallowPolicy, ShellRequest, added, boundary_after,
+    shallow_policy,
+};
 use std::alloc::{AllocError, Global};
 use std::collections::BTreeSet;
 use std::fs;
 
-/// What becomes of the boundary, before the pack is put beside the others, and whether an id that would come to it was here before
-/// the fetch.
+/// The boundary after the fetch, and whether an id that is added to it was present before the
+/// fetch. Called before the pack is moved out of quarantine.
 pub(crate) fn boundary_of(
-    order: Order<'_, '_>,
+    job: FetchJob<'_, '_>,
     shell: &mut Shell,
     plan: &PackPlan,
     old: &[ObjectId],
-    came: &Came,
-) -> Result<(Boundary, bool), Trouble> {
-    let alloc = order.reach.rt.alloc();
+    fetched: &FetchResult,
+) -> Result<(BoundaryChange, bool), Error> {
+    let alloc = job.context.rt.alloc();
     let known: BTreeSet<ObjectId> = old.iter().copied().collect(alloc)?;
-    let ids = added(alloc, &known, &came.boundary)?;
-    let taking = taking_of(order.choices);
+    let ids = added(alloc, &known, &fetched.boundary)?;
+    let policy = shallow_policy(job.options);
     let mut before = BTreeSet::new(alloc);
     let mut commits = BTreeSet::new(alloc);
-    if !ids.is_empty() && taking != Taking::Nothing {
-        before = here(order, shell, plan, &[], &ids, false)?;
-        commits = here(order, shell, plan, came.variables(plan), &ids, true)?;
+    if !ids.is_empty() && policy != ShallowPolicy::Keep {
+        before = present_ids(job, shell, plan, &[], &ids, false)?;
+        commits = present_ids(job, shell, plan, fetched.variables(plan), &ids, true)?;
     }
-    let boundary = boundary_after(alloc, taking, &known, &came.boundary, &before, &commits)?;
+    let boundary = boundary_after(alloc, policy, &known, &fetched.boundary, &before, &commits)?;
     Ok((boundary, !before.is_empty()))
 }
 
-/// Takes the lock of the boundary, which is git's own.
+/// Takes git's lock of the boundary.
 pub(crate) fn lock_boundary(
     alloc: Global,
     shell: &mut Shell,
-    places: &Places,
-) -> Result<(), Trouble> {
-    let lock = places.shallow_lock.as_bytes();
-    if shell.ask(&Request::Hold(lock))? == 0 {
+    paths: &RepositoryPaths,
+) -> Result<(), Error> {
+    let lock = paths.shallow_lock.as_bytes();
+    if shell.ask(&ShellRequest::Hold(lock))? == 0 {
         Ok(())
     } else {
-        Err(Trouble::of_word(
+        Err(Error::with_text(
             alloc,
             "Unable to create (it exists, or can't be written)",
             lock,
@@ -58,7 +61,7 @@ pub(crate) fn lock_boundary(
     }
 }
 
-// These ids, where they aren't the old boundary.
+// The ids, unless they are the old boundary.
 fn replaced(
     alloc: Global,
     ids: &[ObjectId],
@@ -73,7 +76,7 @@ fn replaced(
     }
 }
 
-// The old boundary and more ids, where there are any.
+// The old boundary and more ids, if there are more.
 fn grown(
     alloc: Global,
     old: &[ObjectId],
@@ -89,36 +92,37 @@ fn grown(
     Ok(Some(ids))
 }
 
-/// The new boundary, where it isn't the old one.
+/// The new boundary, unless it is the old one.
 pub(crate) fn changed(
     alloc: Global,
-    boundary: &Boundary,
+    boundary: &BoundaryChange,
     old: &[ObjectId],
 ) -> Result<Option<Vec<ObjectId>>, AllocError>
     ensures { IfOk result (λ new. ChangesTo old.now (boundary_then old.now (boundary_value boundary.now)) (option_map (λ v. v.items) new)) }
 {
     match boundary {
-        Boundary::Becomes(ids) => replaced(alloc, ids, old),
-        Boundary::Grows(more) => grown(alloc, old, more),
-        Boundary::Stays | Boundary::Refused(_) => Ok(None),
+        BoundaryChange::Becomes(ids) => replaced(alloc, ids, old),
+        BoundaryChange::Grows(more) => grown(alloc, old, more),
+        BoundaryChange::Stays | BoundaryChange::Refused(_) => Ok(None),
     }
 }
 
-/// Writes a new boundary into the folder of the pack, under the lock of the old one, which must be the same as when it was read.
+/// Writes the new boundary into the quarantine, under git's lock. Fails if the boundary has changed
+/// since it was read.
 pub(crate) fn prepare_boundary(
-    order: Order<'_, '_>,
+    job: FetchJob<'_, '_>,
     shell: &mut Shell,
-    places: &Places,
+    paths: &RepositoryPaths,
     plan: &PackPlan,
     old: &[ObjectId],
     new: &[ObjectId],
-) -> Result<(), Trouble> {
-    let rt = order.reach.rt;
-    if !order.choices.has_depth() {
-        lock_boundary(rt.alloc(), shell, places)?;
+) -> Result<(), Error> {
+    let rt = job.context.rt;
+    if !job.options.has_depth() {
+        lock_boundary(rt.alloc(), shell, paths)?;
     }
-    if places.held_boundary(rt)?.as_slice() != old {
-        return Err(Trouble::Fatal("shallow file has changed since we read it"));
+    if paths.own_boundary(rt)?.as_slice() != old {
+        return Err(Error::Fatal("shallow file has changed since we read it"));
     }
     let text = shallow_text(rt.alloc(), new)?;
     make_folder(rt, shell, plan)?;
@@ -127,34 +131,34 @@ pub(crate) fn prepare_boundary(
     Ok(())
 }
 
-/// Puts a new boundary that was prepared in the place of the old one.
+/// Replaces the boundary by the one that was prepared, and releases the lock.
 pub(crate) fn replace_boundary(
     rt: &HostRuntime,
     shell: &mut Shell,
-    places: &Places,
+    paths: &RepositoryPaths,
     new: &[ObjectId],
-) -> Result<(), Trouble> {
-    let lock = places.shallow_lock.as_bytes();
+) -> Result<(), Error> {
+    let lock = paths.shallow_lock.as_bytes();
     if new.is_empty() {
-        let _ = fs::remove_file(rt, places.shallow.as_str());
-        shell.ask(&Request::Free(lock))?;
+        let _ = fs::remove_file(rt, paths.shallow.as_str());
+        shell.ask(&ShellRequest::Free(lock))?;
         return Ok(());
     }
-    if shell.ask(&Request::Replace(lock, places.shallow.as_bytes()))? == 0 {
+    if shell.ask(&ShellRequest::Replace(lock, paths.shallow.as_bytes()))? == 0 {
         Ok(())
     } else {
-        Err(Trouble::Other("the shallow boundary can't be written"))
+        Err(Error::Other("the shallow boundary can't be written"))
     }
 }
 
-/// Frees the lock of a boundary that stays, where it is held.
-pub(crate) fn leave_boundary(
-    choices: &Choices,
+/// Releases the lock of the boundary, if it is held.
+pub(crate) fn unlock_boundary(
+    options: &HelperOptions,
     shell: &mut Shell,
-    places: &Places,
-) -> Result<(), Trouble> {
-    if choices.has_depth() {
-        shell.ask(&Request::Free(places.shallow_lock.as_bytes()))?;
+    paths: &RepositoryPaths,
+) -> Result<(), Error> {
+    if options.has_depth() {
+        shell.ask(&ShellRequest::Free(paths.shallow_lock.as_bytes()))?;
     }
     Ok(())
 }

@@ -1,102 +1,104 @@
-//! The words that reach a server, and the session with it.
+//! Starts the server, and opens a session with it.
 ghost use Rattle.std.specs.Prelude.{◌≡◌, ◌≢◌, IfOk, Ok};
 ghost use Rattle.std.specs.Option.{option_map};
 ghost use Rattle.bstr.specs.Owned.{bstring_bytes};
 ghost use Rattle.gixp_remote_rules.specs.declared.ssh.Variant.TheVariants.{Auto};
-ghost use Rattle.gixp_remote_session.specs.UserChoices.{IsProbed};
+ghost use Rattle.gixp_remote_session.specs.UserConfig.{IsProbedVariant};
 
-use crate::bounded::{Bounded, Bounds, forget};
-use crate::chosen::{check_allowed, check_family, opening_by, probed, ssh_by, variant_by};
-use crate::pipes::{HEARS, SAYS};
+use crate::error::Error;
+use crate::messages::MessagePrinter;
+use crate::pipes::{FROM_SERVER, TO_SERVER};
 use crate::readiness::Readiness;
+use crate::server_config::{
+    check_allowed, check_family, choose_opening, choose_ssh, choose_variant, variant_by_probe,
+};
 use crate::setup::{bytes_of, variable, version_word};
-use crate::shell::{NOTHING, Shell, owned};
-use crate::trouble::Trouble;
-use crate::uris::{Noted, Uris, protocols_of};
+use crate::shallow_tap::{ShallowTap, ShallowUpdates, clear_updates};
+use crate::shell::{NOTHING, Shell, owned_argv};
+use crate::transport::{HelperSession, HelperTransport, ResponseReader, ServerOutput, WithoutUris};
+use crate::uris::{UriRecorder, Uris, protocols_of};
 use crate::web::connect_stateless;
-use crate::wire::{ReadSays, Says, Shown, Talk, Wire, WithoutUris};
 use bstr::BString;
 use gix_protocol::client::UriProtocols;
 use gix_protocol::transport::{Connection, Discard, Opening, Protocol};
-use gixp_fetch_session::session::open;
+use gixp_fetch_common::session::open;
 use gixp_packfile_uris::PackfileUris;
 use gixp_remote_rules::{
-    Choices, Family, Program, Request, Settings, SshCall, Start, Task, UriSetting, Variant,
-    here_words, probe_words, proxy_for, server_variables, server_words, web_words,
+    Family, HelperOptions, Program, Settings, ShellRequest, ShellTask, SshCall, Start, UriSetting,
+    Variant, probe_argv, proxy_for, server_argv, server_variables, upload_pack_argv, web_argv,
 };
 use gixp_stateless::Answers;
-use gixp_url::{Address, Transport};
+use gixp_url::{Address, Scheme};
 use std::alloc::AllocError;
 use std::cell::{Cell, RefCell};
 use std::fs::{File, OpenOptions};
 use std::io::{BufReader, BufWriter};
 
-/// What a server is reached by.
+/// The server, and what the helper knows of it. It is the same for the whole conversation.
 #[derive(Clone, Copy)]
-pub(crate) struct Reach<'a> {
+pub(crate) struct ServerContext<'a> {
     pub(crate) rt: &'a HostRuntime,
-    /// The name that git has for the server.
+    /// git's name of the remote.
     pub(crate) name: &'a [u8],
     pub(crate) address: &'a Address,
     pub(crate) settings: &'a Settings,
     pub(crate) version: Protocol,
-    /// The id of this session, where the user has it sent.
+    /// The id of this session, if the user has it sent.
     pub(crate) session_id: Option<&'a str>,
-    /// Whether standard error is a terminal in which the rest of a line can be erased.
+    /// Whether standard error is a terminal that can erase the rest of a line.
     pub(crate) erases: bool,
-    /// Whether the server reported an error beside its answers.
+    /// Whether the server reported an error on band 3.
     pub(crate) has_failed: &'a Cell<bool>,
-    /// What the server said of the shallow boundary.
-    pub(crate) bounds: &'a RefCell<Bounds>,
+    /// The server's updates of the shallow boundary.
+    pub(crate) shallow_updates: &'a RefCell<ShallowUpdates>,
     /// Whether the server is ready to send the pack.
     pub(crate) readiness: &'a Cell<Readiness>,
-    /// What the server said of packs that it names by URIs.
+    /// The packs that the server named by URIs.
     pub(crate) uris: &'a RefCell<Uris>,
     /// The protocols of URIs that the user allows.
     pub(crate) uri_setting: UriSetting,
 }
 
-// Refuses a transport that the user doesn't allow.
-fn check_policy(reach: Reach<'_>) -> Result<(), Trouble> {
-    let transport = reach.address.transport.name().as_bytes();
-    let list = variable(reach.rt, "GIT_ALLOW_PROTOCOL");
-    let from_user = variable(reach.rt, "GIT_PROTOCOL_FROM_USER");
+// Fails if the user doesn't allow the protocol.
+fn check_policy(context: ServerContext<'_>) -> Result<(), Error> {
+    let transport = context.address.scheme.name().as_bytes();
+    let list = variable(context.rt, "GIT_ALLOW_PROTOCOL");
+    let from_user = variable(context.rt, "GIT_PROTOCOL_FROM_USER");
     check_allowed(
-        reach.rt.alloc(),
+        context.rt.alloc(),
         transport,
-        reach.settings,
+        context.settings,
         bytes_of(&list),
         bytes_of(&from_user),
     )
 }
 
-// The user's command for ssh, and whether a shell reads it.
-fn ssh_program(reach: Reach<'_>) -> Result<(Vec<u8>, Program), AllocError> {
-    let command = variable(reach.rt, "GIT_SSH_COMMAND");
-    let program = variable(reach.rt, "GIT_SSH");
-    ssh_by(
-        reach.rt.alloc(),
+// The user's command for ssh, and whether it is a shell command.
+fn ssh_program(context: ServerContext<'_>) -> Result<(Vec<u8>, Program), AllocError> {
+    let command = variable(context.rt, "GIT_SSH_COMMAND");
+    let program = variable(context.rt, "GIT_SSH");
+    choose_ssh(
+        context.rt.alloc(),
         bytes_of(&command),
-        reach.settings.value(b"core.sshcommand"),
+        context.settings.value(b"core.sshcommand"),
         bytes_of(&program),
     )
 }
 
-// The kind of ssh.
 fn ssh_variant(
-    reach: Reach<'_>,
+    context: ServerContext<'_>,
     shell: &mut Shell,
     command: &[u8],
     program: Program,
     call: SshCall<'_>,
-) -> Result<Variant, Trouble> {
-    let named = variable(reach.rt, "GIT_SSH_VARIANT");
-    let setting = reach.settings.value(b"ssh.variant");
-    let variant = variant_by(bytes_of(&named), setting, program, command);
-    unless_auto(reach.rt, shell, command, program, call, variant)
+) -> Result<Variant, Error> {
+    let named = variable(context.rt, "GIT_SSH_VARIANT");
+    let setting = context.settings.value(b"ssh.variant");
+    let variant = choose_variant(bytes_of(&named), setting, program, command);
+    unless_auto(context.rt, shell, command, program, call, variant)
 }
 
-// The kind that is known, or else what the program shows of itself.
+// The variant, or if it is unknown the one that the program shows.
 fn unless_auto(
     rt: &HostRuntime,
     shell: &mut Shell,
@@ -104,9 +106,9 @@ fn unless_auto(
     program: Program,
     call: SshCall<'_>,
     variant: Variant,
-) -> Result<Variant, Trouble>
+) -> Result<Variant, Error>
     ensures known { variant ≢ Auto → result ≡ Ok variant }
-    ensures probed { variant ≡ Auto → IfOk result IsProbed }
+    ensures variant_by_probe { variant ≡ Auto → IfOk result IsProbedVariant }
 {
     match variant {
         Variant::Auto => probe(rt, shell, command, program, call),
@@ -117,228 +119,243 @@ fn unless_auto(
     }
 }
 
-// Asks a program whether it is OpenSSH.
 fn probe(
     rt: &HostRuntime,
     shell: &mut Shell,
     command: &[u8],
     program: Program,
     call: SshCall<'_>,
-) -> Result<Variant, Trouble>
-    ensures { IfOk result IsProbed }
+) -> Result<Variant, Error>
+    ensures { IfOk result IsProbedVariant }
 {
-    let words = probe_words(rt.alloc(), command, call)?;
-    let told = shell.tell(rt, Task::Probe, program, NOTHING, &[], &words)?;
-    Ok(probed(told.status))
+    let argv = probe_argv(rt.alloc(), command, call)?;
+    let output = shell.run(rt, ShellTask::Probe, program, NOTHING, &[], &argv)?;
+    Ok(variant_by_probe(output.status))
 }
 
-// The port that the URL names.
-fn port_of(reach: Reach<'_>) -> Option<&[u8]>
-    ensures { option_map (λ p. p.now) result ≡ option_map bstring_bytes reach.entry.address.now.port }
+// The port of the URL.
+fn port_of(context: ServerContext<'_>) -> Option<&[u8]>
+    ensures { option_map (λ p. p.now) result ≡ option_map bstring_bytes context.entry.address.now.port }
 {
-    match &reach.address.port {
+    match &context.address.port {
         Some(port) => Some(port.as_bytes()),
         None => None,
     }
 }
 
-// What ssh is to reach.
-fn call_of(reach: Reach<'_>, family: Family) -> SshCall<'_>
+// The connection that ssh opens.
+fn ssh_call(context: ServerContext<'_>, family: Family) -> SshCall<'_>
     ensures family { result.family ≡ family }
-    ensures host { result.host.now ≡ bstring_bytes reach.entry.address.now.host }
-    ensures port { option_map (λ p. p.now) result.port ≡ option_map bstring_bytes reach.entry.address.now.port }
+    ensures host { result.host.now ≡ bstring_bytes context.entry.address.now.host }
+    ensures port { option_map (λ p. p.now) result.port ≡ option_map bstring_bytes context.entry.address.now.port }
 {
     SshCall {
-        sends_version: version_word(reach.version).is_some(),
+        sends_version: version_word(context.version).is_some(),
         family,
-        port: port_of(reach),
-        host: reach.address.host.as_bytes(),
+        port: port_of(context),
+        host: context.address.host.as_bytes(),
     }
 }
 
-// Starts a server by ssh.
-fn start_ssh(reach: Reach<'_>, shell: &mut Shell, family: Family) -> Result<(), Trouble> {
-    let (command, program) = ssh_program(reach)?;
-    let call = call_of(reach, family);
-    let variant = ssh_variant(reach, shell, &command, program, call)?;
-    let path = reach.address.path.as_bytes();
-    let words = server_words(reach.rt.alloc(), &command, variant, call, path)?;
-    start(reach, shell, program, &words)
+fn start_ssh(context: ServerContext<'_>, shell: &mut Shell, family: Family) -> Result<(), Error> {
+    let (command, program) = ssh_program(context)?;
+    let call = ssh_call(context, family);
+    let variant = ssh_variant(context, shell, &command, program, call)?;
+    let path = context.address.path.as_bytes();
+    let argv = server_argv(context.rt.alloc(), &command, variant, call, path)?;
+    start(context, shell, program, &argv)
 }
 
-// Starts a server that this machine runs.
-fn start_here(reach: Reach<'_>, shell: &mut Shell) -> Result<(), Trouble> {
-    let words = here_words(reach.rt.alloc(), reach.address.path.as_bytes())?;
-    start(reach, shell, Program::Git, &words)
+// Starts a server on this machine.
+fn start_local(context: ServerContext<'_>, shell: &mut Shell) -> Result<(), Error> {
+    let argv = upload_pack_argv(context.rt.alloc(), context.address.path.as_bytes())?;
+    start(context, shell, Program::Git, &argv)
 }
 
-// Connects with a server that listens. The user's own program may take any address, as for git.
-fn start_socket(reach: Reach<'_>, shell: &mut Shell, family: Family) -> Result<(), Trouble> {
-    let alloc = reach.rt.alloc();
-    let port = port_of(reach).unwrap_or(b"9418");
-    let host = reach.address.host.as_bytes();
-    let chosen = variable(reach.rt, "GIT_PROXY_COMMAND");
-    let authority = reach.address.authority.as_bytes();
-    match proxy_for(reach.settings, bytes_of(&chosen), authority) {
+// Connects to a `git://` server. A proxy command may use any address, as in git.
+fn connect_daemon(
+    context: ServerContext<'_>,
+    shell: &mut Shell,
+    family: Family,
+) -> Result<(), Error> {
+    let alloc = context.rt.alloc();
+    let port = port_of(context).unwrap_or(b"9418");
+    let host = context.address.host.as_bytes();
+    let chosen = variable(context.rt, "GIT_PROXY_COMMAND");
+    let authority = context.address.authority.as_bytes();
+    match proxy_for(context.settings, bytes_of(&chosen), authority) {
         Some(command) => {
-            let words = owned(alloc, &[command, host, port])?;
-            start(reach, shell, Program::Command, &words)
+            let argv = owned_argv(alloc, &[command, host, port])?;
+            start(context, shell, Program::Command, &argv)
         }
         None => {
             check_family(family)?;
-            let words = owned(alloc, &[host, port])?;
-            start(reach, shell, Program::Socket, &words)
+            let argv = owned_argv(alloc, &[host, port])?;
+            start(context, shell, Program::Socket, &argv)
         }
     }
 }
 
-// Starts git's own program for a web server. It belongs to the repository that fetches, and has its variables.
-fn start_web(reach: Reach<'_>, shell: &mut Shell) -> Result<(), Trouble> {
-    if reach.version != Protocol::V2 {
-        return Err(Trouble::Fatal("over HTTP only version 2 of the protocol is spoken here"));
+// Starts git's own program for HTTP. It keeps the variables of the repository.
+fn start_web(context: ServerContext<'_>, shell: &mut Shell) -> Result<(), Error> {
+    if context.version != Protocol::V2 {
+        return Err(Error::Fatal("git-remote-gixp speaks only protocol version 2 over HTTP"));
     }
-    let scheme = reach.address.transport.name().as_bytes();
-    let url = reach.address.path.as_bytes();
-    let words = web_words(reach.rt.alloc(), scheme, reach.name, url)?;
-    start_with(reach, shell, Program::Git, &[], &words)
+    let scheme = context.address.scheme.name().as_bytes();
+    let url = context.address.path.as_bytes();
+    let argv = web_argv(context.rt.alloc(), scheme, context.name, url)?;
+    start_with(context, shell, Program::Git, &[], &argv)
 }
 
-// Starts a server.
 fn start(
-    reach: Reach<'_>,
+    context: ServerContext<'_>,
     shell: &mut Shell,
     program: Program,
-    words: &[BString],
-) -> Result<(), Trouble> {
-    let variables = server_variables(reach.rt.alloc(), version_word(reach.version))?;
-    start_with(reach, shell, program, &variables, words)
+    argv: &[BString],
+) -> Result<(), Error> {
+    let variables = server_variables(context.rt.alloc(), version_word(context.version))?;
+    start_with(context, shell, program, &variables, argv)
 }
 
-// Starts a server with these variables.
+// Starts a server with these environment variables.
 fn start_with(
-    reach: Reach<'_>,
+    context: ServerContext<'_>,
     shell: &mut Shell,
     program: Program,
     variables: &[BString],
-    words: &[BString],
-) -> Result<(), Trouble> {
-    let status = shell.ask(&Request::Start(Start {
-        task: Task::Server,
+    argv: &[BString],
+) -> Result<(), Error> {
+    let status = shell.ask(&ShellRequest::Start(Start {
+        task: ShellTask::Server,
         program,
-        input: HEARS,
-        output: SAYS,
+        input: TO_SERVER,
+        output: FROM_SERVER,
         variables,
-        words,
+        argv,
     }))?;
     if status == 0 {
         Ok(())
     } else {
-        Err(Trouble::of_word(
-            reach.rt.alloc(),
+        Err(Error::with_text(
+            context.rt.alloc(),
             "unable to connect to",
-            reach.address.authority.as_bytes(),
+            context.address.authority.as_bytes(),
         ))
     }
 }
 
-// What is sent first to a server that listens.
-fn opening_of(reach: Reach<'_>) -> Result<Option<Opening>, AllocError> {
-    let host = variable(reach.rt, "GIT_OVERRIDE_VIRTUAL_HOST");
-    opening_by(reach.rt.alloc(), reach.address, bytes_of(&host))
+// The opening request to a `git://` server.
+fn opening_of(context: ServerContext<'_>) -> Result<Option<Opening>, AllocError> {
+    let host = variable(context.rt, "GIT_OVERRIDE_VIRTUAL_HOST");
+    choose_opening(context.rt.alloc(), context.address, bytes_of(&host))
 }
 
-// What a server says, over the pipe from it.
-fn says_of(
-    reach: Reach<'_>,
+// The output of the server.
+fn server_output(
+    context: ServerContext<'_>,
     from: File,
     to: &mut BufWriter<File>,
-    choices: &Choices,
-) -> Result<Says, Trouble> {
-    if !reach.address.transport.is_web() {
-        return Ok(Says::Stream(from));
+    options: &HelperOptions,
+) -> Result<ServerOutput, Error> {
+    if !context.address.scheme.is_web() {
+        return Ok(ServerOutput::Stream(from));
     }
-    let alloc = reach.rt.alloc();
+    let alloc = context.rt.alloc();
     let mut from = BufReader::new(alloc, from)?;
-    connect_stateless(alloc, &mut from, to, choices.is_quiet, choices.family)?;
-    Ok(Says::Answers(Answers::new(from)))
+    connect_stateless(alloc, &mut from, to, options.is_quiet, options.family)?;
+    Ok(ServerOutput::Answers(Answers::new(from)))
 }
 
-// What a server says, without the section `packfile-uris` where the server may send one.
-fn read_by<'a>(reach: Reach<'a>, says: Says) -> Result<ReadSays<'a>, AllocError> {
-    if protocols_of(reach.uri_setting) == UriProtocols::Neither {
-        return Ok(ReadSays::Whole(says));
+// The output of the server. If the server may name packs by URIs, the section `packfile-uris` is
+// taken out.
+fn response_reader<'a>(
+    context: ServerContext<'a>,
+    output: ServerOutput,
+) -> Result<ResponseReader<'a>, AllocError> {
+    if protocols_of(context.uri_setting) == UriProtocols::Neither {
+        return Ok(ResponseReader::Whole(output));
     }
-    let alloc = reach.rt.alloc();
-    let noted = Noted {
+    let alloc = context.rt.alloc();
+    let recorder = UriRecorder {
         alloc,
-        uris: reach.uris,
+        uris: context.uris,
     };
-    let reader = PackfileUris::new(alloc, says, noted)?;
-    let uris = reach.uris;
-    Ok(ReadSays::WithoutUris(WithoutUris { reader, uris }))
+    let reader = PackfileUris::new(alloc, output, recorder)?;
+    let uris = context.uris;
+    Ok(ResponseReader::WithoutUris(WithoutUris { reader, uris }))
 }
 
-// The transport over the two pipes.
-fn open_wire<'a>(reach: Reach<'a>, choices: &Choices) -> Result<Wire<'a>, Trouble> {
-    let alloc = reach.rt.alloc();
-    let to = OpenOptions::new().write(true).open(reach.rt, HEARS)?;
-    let from = File::open(reach.rt, SAYS)?;
+fn open_transport<'a>(
+    context: ServerContext<'a>,
+    options: &HelperOptions,
+) -> Result<HelperTransport<'a>, Error> {
+    let alloc = context.rt.alloc();
+    let to = OpenOptions::new().write(true).open(context.rt, TO_SERVER)?;
+    let from = File::open(context.rt, FROM_SERVER)?;
     let mut to = BufWriter::new(alloc, to)?;
-    let says = says_of(reach, from, &mut to, choices)?;
-    let url = reach.address.path.clone()?;
+    let output = server_output(context, from, &mut to, options)?;
+    let url = context.address.path.clone()?;
     let connection = Connection::new(
         alloc,
-        read_by(reach, says)?,
+        response_reader(context, output)?,
         to,
         url,
-        reach.version,
+        context.version,
         Vec::new(alloc),
-        opening_of(reach)?,
+        opening_of(context)?,
     )?;
-    Ok(Bounded::new(connection, reach.bounds, reach.readiness))
+    Ok(ShallowTap::new(connection, context.shallow_updates, context.readiness))
 }
 
-/// Starts the server, where the user allows its transport. The shell ends one that was started before.
+/// Starts the server, if the user allows its protocol. The shell kills the server that was started
+/// before.
 pub(crate) fn start_server(
-    reach: Reach<'_>,
+    context: ServerContext<'_>,
     shell: &mut Shell,
     family: Family,
-) -> Result<(), Trouble> {
-    check_policy(reach)?;
-    match reach.address.transport {
-        Transport::File => start_here(reach, shell),
-        Transport::Ssh => start_ssh(reach, shell, family),
-        Transport::Git => start_socket(reach, shell, family),
-        Transport::Http | Transport::Https => start_web(reach, shell),
+) -> Result<(), Error> {
+    check_policy(context)?;
+    match context.address.scheme {
+        Scheme::File => start_local(context, shell),
+        Scheme::Ssh => start_ssh(context, shell, family),
+        Scheme::Git => connect_daemon(context, shell, family),
+        Scheme::Http | Scheme::Https => start_web(context, shell),
     }
 }
 
-/// Shakes hands with the server that was started.
-pub(crate) fn shake_hands<'a>(reach: Reach<'a>, choices: &Choices) -> Result<Talk<'a>, Trouble> {
-    reach.has_failed.set(false);
-    forget(reach.bounds);
-    let wire = open_wire(reach, choices)?;
-    let shown = Shown::new(reach.rt, reach.erases, reach.has_failed)?;
-    let mut session = open(reach.rt.alloc(), wire, "gixp", shown, Discard)?;
-    if let Some(id) = reach.session_id {
-        // One that a variable spoils isn't sent.
+/// Opens a session with the server that was started.
+pub(crate) fn shake_hands<'a>(
+    context: ServerContext<'a>,
+    options: &HelperOptions,
+) -> Result<HelperSession<'a>, Error> {
+    context.has_failed.set(false);
+    clear_updates(context.shallow_updates);
+    let transport = open_transport(context, options)?;
+    let printer = MessagePrinter::new(context.rt, context.erases, context.has_failed)?;
+    let mut session = open(context.rt.alloc(), transport, "gixp", printer, Discard)?;
+    if let Some(id) = context.session_id {
+        // an id that an environment variable spoiled isn't sent
         let _ = session.set_session_id(id)?;
     }
     Ok(session)
 }
 
-/// Ends a session over which all went well. git's program for a web server saves cookies as it ends by itself, so it is waited for
-/// (git-config, "http.saveCookies").
-pub(crate) fn end_well(reach: Reach<'_>, shell: &mut Shell, session: Talk<'_>) {
-    leave(reach, session);
-    if reach.address.transport.is_web() {
-        let _ = shell.ask(&Request::Status(Task::Server));
+/// Ends a session that succeeded. Waits for git's program for HTTP, which saves cookies when it
+/// exits (git-config, "http.saveCookies").
+pub(crate) fn end_session(
+    context: ServerContext<'_>,
+    shell: &mut Shell,
+    session: HelperSession<'_>,
+) {
+    drop_session(context, session);
+    if context.address.scheme.is_web() {
+        let _ = shell.ask(&ShellRequest::Status(ShellTask::Server));
     }
 }
 
-/// Ends a session. A web server isn't told, since it would be one more request.
-pub(crate) fn leave(reach: Reach<'_>, session: Talk<'_>) {
-    if reach.address.transport.is_web() {
+/// Ends a session. A web server gets no flush packet, since that would be another request.
+pub(crate) fn drop_session(context: ServerContext<'_>, session: HelperSession<'_>) {
+    if context.address.scheme.is_web() {
         let _ = session.into_transport();
     } else {
         drop(session);

@@ -1,75 +1,79 @@
 //! One fetch of objects by their ids.
 ghost use Rattle.std.specs.Prelude.{◌≡◌};
-ghost use Rattle.gixp_remote_session.specs.Leaving.{was_left};
-ghost use Rattle.gixp_remote_session.specs.Packs.{TellsFailure};
+ghost use Rattle.gixp_remote_session.specs.ServerLeft.{server_left};
+ghost use Rattle.gixp_remote_session.specs.Packs.{ErrorIsFailure};
 
 use crate::boundary::{
-    boundary_of, changed, leave_boundary, lock_boundary, prepare_boundary, replace_boundary,
+    boundary_of, changed, lock_boundary, prepare_boundary, replace_boundary, unlock_boundary,
 };
-use crate::bounded::forget;
-use crate::checks::{checks_of, expect_whole};
-use crate::connect::{Reach, leave, shake_hands, start_server};
+use crate::connect::{ServerContext, drop_session, shake_hands, start_server};
+use crate::connectivity::check_connected;
+use crate::error::Error;
+use crate::fsck::fsck_argv;
 use crate::history::shallow_of;
-use crate::local::Places;
-use crate::order::{
-    Order, begin, begin_borrowing, filter_of, haves_for, known, list_commits, map_of, request_of,
+use crate::job::{
+    FetchJob, filter_of, haves_for, known_repository, list_commits, map_of_ids, request_of,
+    start_borrowed_questions, start_questions,
 };
-use crate::pack::{BAD_HEADER, Came, PackPlan, PackRules, PackState, QuarantinedPack, Said};
-use crate::place::{place, place_objects};
+use crate::migrate::{migrate_objects, migrate_pack};
+use crate::pack::{
+    BAD_HEADER, FetchResult, PackPlan, PackPreamble, PackRules, PackState, QuarantinedPack,
+};
+use crate::paths::RepositoryPaths;
 use crate::readiness::Readiness;
+use crate::shallow_tap::clear_updates;
 use crate::shell::Shell;
-use crate::trouble::Trouble;
-use crate::unpacking::limit_of;
-use crate::uris::{download_all, expect_lines, forget_uris};
-use crate::wire::Talk;
+use crate::transport::HelperSession;
+use crate::unpacking::choose_limit;
+use crate::uris::{clear_uris, download_all, expect_lines};
 use bstr::BString;
 use gix_protocol::client;
 use gix_protocol::fetch::Shallow;
 use gix_protocol::transport::{ObjectId, Protocol};
-use gixp_fetch_local::{Haves, PackPlace};
-use gixp_fetch_session::failure::Failure;
-use gixp_fetch_session::receive::PackReceiver;
-use gixp_fetch_session::repository::Repository;
-use gixp_fetch_session::session::Asked;
-use gixp_fetch_session::{ask_filter, negotiate, offer_in_order, unless_failed};
-use gixp_remote_rules::{Boundary, Task, tells_closed};
+use gixp_fetch_common::failure::{Failure, unless_failed};
+use gixp_fetch_common::negotiate::{negotiate, offer_in_order};
+use gixp_fetch_common::receive::PackReceiver;
+use gixp_fetch_common::repository::KnownRepository;
+use gixp_fetch_common::session::{MappedFetch, ask_filter};
+use gixp_fetch_common::{Haves, PackPlace};
+use gixp_remote_rules::{BoundaryChange, reports_connectivity};
 use std::alloc::Global;
 use std::fs::File;
 use std::io::ErrorKind;
 
-/// A session that may be there.
-pub(crate) type Open<'a> = Option<Talk<'a>>;
+/// The session, if one is open.
+pub(crate) type OpenSession<'a> = Option<HelperSession<'a>>;
 
-// How one fetch goes on, once it is known where the repository is.
+// The parts of a fetch that are known before its session.
 #[derive(Clone, Copy)]
-struct Plan<'a, 'b, 'c> {
-    order: Order<'a, 'b>,
+struct FetchPlan<'a, 'b, 'c> {
+    job: FetchJob<'a, 'b>,
     shallow: &'c Shallow,
     filter: Option<&'c str>,
     haves: Haves,
     pack: &'c PackPlan,
 }
 
-// Fetches over a session, and gives the new boundary.
-fn fetch_over<P: PackPlace + Drop>(
-    reach: Reach<'_>,
-    session: &mut Talk<'_>,
-    asked: Asked<'_>,
-    repository: &mut Repository,
+// Fetches over a session. Returns the boundary as the server has it.
+fn run_fetch<P: PackPlace + Drop>(
+    context: ServerContext<'_>,
+    session: &mut HelperSession<'_>,
+    asked: MappedFetch<'_>,
+    repository: &mut KnownRepository,
     commits: Option<File>,
     place: P,
 ) -> Result<Vec<ObjectId>, Failure> {
-    let alloc = reach.rt.alloc();
+    let alloc = context.rt.alloc();
     let mut pack = PackReceiver::new(alloc, place);
-    let came = match commits {
+    let fetched = match commits {
         Some(file) => {
             offer_in_order(
                 alloc, session, repository, asked, "commits", file, &mut pack,
             )
         }
-        None => negotiate(reach.rt, session, repository, asked, &mut pack),
+        None => negotiate(context.rt, session, repository, asked, &mut pack),
     };
-    match unless_failed(came, reach.has_failed.get()) {
+    match unless_failed(fetched, context.has_failed.get()) {
         Ok(fetched) => keep_pack(alloc, &mut pack, &fetched.boundary),
         Err(e) => {
             pack.give_up();
@@ -78,15 +82,15 @@ fn fetch_over<P: PackPlace + Drop>(
     }
 }
 
-// Why the pack isn't kept: git says so itself.
-fn refused(kind: ErrorKind) -> Failure {
+// The error if the pack isn't accepted. git reports the reason itself.
+fn refusal_of(kind: ErrorKind) -> Failure {
     match kind {
         ErrorKind::OutOfMemory => Failure::Memory,
         _ => Failure::PackRefused,
     }
 }
 
-// Waits until the pack is indexed that came, and gives the new boundary.
+// Waits until git has accepted the pack. Returns the boundary as the server has it.
 fn keep_pack<P: PackPlace>(
     alloc: Global,
     pack: &mut PackReceiver<P>,
@@ -94,56 +98,56 @@ fn keep_pack<P: PackPlace>(
 ) -> Result<Vec<ObjectId>, Failure> {
     match pack.keep() {
         Ok(_) => {}
-        Err(e) => return Err(refused(e.kind())),
+        Err(e) => return Err(refusal_of(e.kind())),
     }
     Ok(boundary.with_unasked(alloc)?)
 }
 
-// Why a fetch failed: a pack that can't be read is one of git's own reasons.
-fn trouble_of(pack: PackState, e: Failure) -> Trouble
-    ensures { TellsFailure pack e result }
+// The error of a fetch. A bad pack header and a refused pack override the session's error.
+fn error_of(pack: PackState, e: Failure) -> Error
+    ensures { ErrorIsFailure pack e result }
 {
     match pack {
-        PackState::Unreadable => Trouble::Fatal(BAD_HEADER),
-        PackState::Refused => Trouble::Fetch(Failure::PackRefused),
+        PackState::Unreadable => Error::Fatal(BAD_HEADER),
+        PackState::Refused => Error::Fetch(Failure::PackRefused),
         PackState::Unbegun
         | PackState::Begun
-        | PackState::Kept(_)
+        | PackState::Indexed(_)
         | PackState::Unpacked(_)
-        | PackState::Empty(_) => Trouble::Fetch(e),
+        | PackState::Empty(_) => Error::Fetch(e),
     }
 }
 
-// What came with the server's pack, and with the packs that it named by URIs.
-fn came(
-    order: Order<'_, '_>,
+// Downloads the packs that the server named by URIs, and returns the whole result.
+fn fetch_result(
+    job: FetchJob<'_, '_>,
     shell: &mut Shell,
     plan: &PackPlan,
     boundary: Vec<ObjectId>,
-) -> Result<Came, Trouble> {
+) -> Result<FetchResult, Error> {
     let pack = shell.pack;
-    let packs = download_all(order, shell, plan, pack)?;
-    Ok(Came {
+    let packs = download_all(job, shell, plan, pack)?;
+    Ok(FetchResult {
         pack,
         boundary,
         packs,
     })
 }
 
-// A fetch over one session, and what became of the pack.
-fn fetch_by(
-    plan: Plan<'_, '_, '_>,
+// Fetches over one session.
+fn fetch_over_session(
+    plan: FetchPlan<'_, '_, '_>,
     shell: &mut Shell,
-    session: &mut Talk<'_>,
-    repository: &mut Repository,
+    session: &mut HelperSession<'_>,
+    repository: &mut KnownRepository,
     commits: Option<File>,
-) -> Result<Came, Trouble> {
-    let order = plan.order;
-    let rt = order.reach.rt;
-    let mut request = request_of(rt.alloc(), order, plan.shallow)?;
+) -> Result<FetchResult, Error> {
+    let job = plan.job;
+    let rt = job.context.rt;
+    let mut request = request_of(rt.alloc(), job, plan.shallow)?;
     ask_filter(rt, session, &mut request, plan.filter)?;
-    let map = map_of(rt.alloc(), order.ids)?;
-    let asked = Asked {
+    let map = map_of_ids(rt.alloc(), job.ids)?;
+    let asked = MappedFetch {
         map: &map,
         request: &request,
         haves: plan.haves,
@@ -151,104 +155,114 @@ fn fetch_by(
     };
     let pack = plan.pack.copy(rt.alloc())?;
     if session.version() == Protocol::V2 {
-        forget(order.reach.bounds);
+        clear_updates(job.context.shallow_updates);
     }
-    forget_uris(order.reach.uris);
-    order.reach.readiness.set(Readiness::Unready);
-    let said = Said {
-        bounds: order.reach.bounds,
-        uris: order.reach.uris,
+    clear_uris(job.context.uris);
+    job.context.readiness.set(Readiness::Unready);
+    let preamble = PackPreamble {
+        shallow_updates: job.context.shallow_updates,
+        uris: job.context.uris,
     };
-    let place = QuarantinedPack::new(rt.clone()?, shell, pack, said);
-    let fetched = fetch_over(order.reach, session, asked, repository, commits, place);
-    order.reach.readiness.get().expect_pack()?;
-    expect_lines(order.reach.uris)?;
+    let place = QuarantinedPack::new(rt.clone()?, shell, pack, preamble);
+    let fetched = run_fetch(job.context, session, asked, repository, commits, place);
+    job.context.readiness.get().expect_pack()?;
+    expect_lines(job.context.uris)?;
     match fetched {
-        Ok(boundary) => came(order, shell, plan.pack, boundary),
-        Err(e) => Err(trouble_of(shell.pack, e)),
+        Ok(boundary) => fetch_result(job, shell, plan.pack, boundary),
+        Err(e) => Err(error_of(shell.pack, e)),
     }
 }
 
-// Whether a fetch failed since the server had left, before a pack came. A web server is asked anew by each request.
-fn was_left(reach: Reach<'_>, came: &Result<Came, Trouble>, shell: &Shell) -> bool
-    ensures { result ≡ was_left came.now shell.now.pack reach.entry.address.now.transport }
+// Whether the server closed an old session before a pack began. Then the fetch is tried over a new
+// one. A web server gets each request on its own.
+fn server_left(
+    context: ServerContext<'_>,
+    fetched: &Result<FetchResult, Error>,
+    shell: &Shell,
+) -> bool
+    ensures { result ≡ server_left fetched.now shell.now.pack context.entry.address.now.scheme }
 {
-    match came {
+    match fetched {
         Ok(_) => false,
         Err(e) => {
-            e.is_hang_up() && shell.pack == PackState::Unbegun && !reach.address.transport.is_web()
+            e.is_hang_up() && shell.pack == PackState::Unbegun && !context.address.scheme.is_web()
         }
     }
 }
 
-// Fetches over the session that is there, or over a new one, also where the one that is there was left by the server.
-fn fetch_once_more<'a>(
-    plan: Plan<'a, '_, '_>,
+// Fetches over the open session, or over a new one if there is none or the server has closed it.
+fn fetch_or_reconnect<'a>(
+    plan: FetchPlan<'a, '_, '_>,
     shell: &mut Shell,
-    open: &mut Open<'a>,
-    repository: &mut Repository,
+    open: &mut OpenSession<'a>,
+    repository: &mut KnownRepository,
     commits: Option<File>,
-) -> Result<Came, Trouble> {
-    let reach = plan.order.reach;
+) -> Result<FetchResult, Error> {
+    let context = plan.job.context;
     let mut commits = commits;
     if let Some(mut session) = open.take() {
-        let came = fetch_by(plan, shell, &mut session, repository, commits.take());
-        if !was_left(reach, &came, shell) {
-            settle(reach, session, open, came.is_ok());
-            return came;
+        let fetched = fetch_over_session(plan, shell, &mut session, repository, commits.take());
+        if !server_left(context, &fetched, shell) {
+            store_or_end(context, session, open, fetched.is_ok());
+            return fetched;
         }
-        commits = list_commits(plan.order, shell, plan.haves)?;
+        commits = list_commits(plan.job, shell, plan.haves)?;
     }
-    let choices = plan.order.choices;
-    start_server(reach, shell, choices.family)?;
-    let mut session = shake_hands(reach, choices)?;
-    let came = fetch_by(plan, shell, &mut session, repository, commits);
-    settle(reach, session, open, came.is_ok());
-    came
+    let options = plan.job.options;
+    start_server(context, shell, options.family)?;
+    let mut session = shake_hands(context, options)?;
+    let fetched = fetch_over_session(plan, shell, &mut session, repository, commits);
+    store_or_end(context, session, open, fetched.is_ok());
+    fetched
 }
 
-// Keeps a session of version 2 over which all went well, and ends any other.
-fn settle<'a>(reach: Reach<'a>, session: Talk<'a>, open: &mut Open<'a>, is_well: bool) {
+// Stores a session of version 2 that succeeded, and ends any other.
+fn store_or_end<'a>(
+    context: ServerContext<'a>,
+    session: HelperSession<'a>,
+    open: &mut OpenSession<'a>,
+    is_well: bool,
+) {
     if is_well && session.version() == Protocol::V2 {
         *open = Some(session);
     } else {
-        leave(reach, session);
+        drop_session(context, session);
     }
 }
 
-/// What is reported to git of a fetch.
+/// The parts of the reply to git.
 #[derive(Drop)]
-pub(crate) struct Reply {
+pub(crate) struct FetchReply {
     /// The lock of the pack.
     pub(crate) lock: Option<BString>,
-    /// Whether all that the pack leads to is in it.
-    pub(crate) is_closed: bool,
+    /// Whether connectivity was checked.
+    pub(crate) is_connected: bool,
 }
 
-/// What comes of a fetch.
+/// A fetch that succeeded.
 #[derive(Drop)]
-pub(crate) struct Fetched {
-    pub(crate) reply: Reply,
-    /// Where the pack was indexed.
+pub(crate) struct FinishedFetch {
+    pub(crate) reply: FetchReply,
+    /// The quarantine of the pack.
     pub(crate) pack: PackPlan,
 }
 
-// Puts what came where git finds it, the server's own pack last. Returns the lock of that. The locks of others are the helper's, which
-// takes them away as it ends: git's language of helpers has one lock.
-fn put(
+// Moves the packs out of quarantine, the server's own pack last, and returns its lock. git accepts
+// one lock from a helper. The shell removes the locks of the other packs at the end.
+fn migrate_packs(
     rt: &HostRuntime,
     shell: &mut Shell,
-    places: &Places,
+    paths: &RepositoryPaths,
     plan: &PackPlan,
-    came: &Came,
-) -> Result<Option<BString>, Trouble> {
-    for pack in &came.packs {
-        let _ = place(rt, shell, places, plan, pack)?;
+    fetched: &FetchResult,
+) -> Result<Option<BString>, Error> {
+    for pack in &fetched.packs {
+        let _ = migrate_pack(rt, shell, paths, plan, pack)?;
     }
-    match came.pack {
-        PackState::Kept(kept) => place(rt, shell, places, plan, &kept.hash),
+    match fetched.pack {
+        PackState::Indexed(indexed) => migrate_pack(rt, shell, paths, plan, &indexed.hash),
         PackState::Unpacked(_) => {
-            place_objects(rt, places, plan)?;
+            migrate_objects(rt, paths, plan)?;
             Ok(None)
         }
         PackState::Unbegun
@@ -259,82 +273,83 @@ fn put(
     }
 }
 
-// Puts the pack and the boundary where git finds them. Whatever else may fail is done before.
-fn finish(
-    plan: Plan<'_, '_, '_>,
+// Moves the packs out of quarantine, and changes the boundary. Whatever else can fail is done
+// before.
+fn finish_fetch(
+    plan: FetchPlan<'_, '_, '_>,
     shell: &mut Shell,
-    places: &Places,
+    paths: &RepositoryPaths,
     old: &[ObjectId],
-    came: &Came,
-) -> Result<Reply, Trouble> {
-    let order = plan.order;
-    let rt = order.reach.rt;
-    let (boundary, was_here) = boundary_of(order, shell, plan.pack, old, came)?;
-    if let Boundary::Refused(id) = &boundary {
+    fetched: &FetchResult,
+) -> Result<FetchReply, Error> {
+    let job = plan.job;
+    let rt = job.context.rt;
+    let (boundary, was_here) = boundary_of(job, shell, plan.pack, old, fetched)?;
+    if let BoundaryChange::Refused(id) = &boundary {
         let digits = id.to_hex();
-        return Err(Trouble::of_word(
+        return Err(Error::with_text(
             rt.alloc(),
-            "the server's boundary names, which is no commit here,",
+            "the server's shallow boundary has an id that is not a commit of this repository:",
             &digits,
         ));
     }
     let new = changed(rt.alloc(), &boundary, old)?;
     if let Some(new) = &new {
-        prepare_boundary(order, shell, places, plan.pack, old, new)?;
+        prepare_boundary(job, shell, paths, plan.pack, old, new)?;
     }
-    expect_whole(order, shell, plan.pack, came, old, new.as_deref())?;
-    let lock = put(rt, shell, places, plan.pack, came)?;
+    check_connected(job, shell, plan.pack, fetched, old, new.as_deref())?;
+    let lock = migrate_packs(rt, shell, paths, plan.pack, fetched)?;
     match &new {
-        Some(new) => replace_boundary(rt, shell, places, new)?,
-        None => leave_boundary(order.choices, shell, places)?,
+        Some(new) => replace_boundary(rt, shell, paths, new)?,
+        None => unlock_boundary(job.options, shell, paths)?,
     }
-    let is_closed = match came.pack {
-        PackState::Kept(kept) if came.packs.is_empty() => {
-            tells_closed(order.choices, kept.is_bounded, was_here, kept.status)
+    let is_connected = match fetched.pack {
+        PackState::Indexed(indexed) if fetched.packs.is_empty() => {
+            reports_connectivity(job.options, indexed.has_boundary, was_here, indexed.status)
         }
         _ => false,
     };
-    Ok(Reply { lock, is_closed })
+    Ok(FetchReply { lock, is_connected })
 }
 
-/// Fetches the objects of these ids. The pack is indexed in a folder of this name.
+/// Fetches objects by their ids. The quarantine gets this name.
 pub(crate) fn fetch<'a>(
-    order: Order<'a, '_>,
+    job: FetchJob<'a, '_>,
     shell: &mut Shell,
-    open: &mut Open<'a>,
+    open: &mut OpenSession<'a>,
     folder: &[u8],
-) -> Result<Fetched, Trouble> {
-    let rt = order.reach.rt;
+) -> Result<FinishedFetch, Error> {
+    let rt = job.context.rt;
     let alloc = rt.alloc();
-    let mut commits = begin(order, shell)?;
-    let places = Places::read(rt, shell)?;
-    places.expect_format(alloc, order.choices.is_cloning)?;
-    if order.choices.has_depth() {
-        lock_boundary(alloc, shell, &places)?;
+    let mut commits = start_questions(job, shell)?;
+    let paths = RepositoryPaths::read(rt, shell)?;
+    paths.expect_format(alloc, job.options.is_cloning)?;
+    if job.options.has_depth() {
+        lock_boundary(alloc, shell, &paths)?;
     }
-    let old = places.boundary(rt)?;
-    let shallow = shallow_of(rt, shell, order.choices)?;
-    let has_alternates = places.has_alternates(rt);
-    let haves = haves_for(order, has_alternates);
+    let old = paths.boundary(rt)?;
+    let shallow = shallow_of(rt, shell, job.options)?;
+    let has_alternates = paths.has_alternates(rt);
+    let haves = haves_for(job, has_alternates);
     if commits.is_none() {
-        commits = begin_borrowing(order, shell, has_alternates, haves)?;
+        commits = start_borrowed_questions(job, shell, has_alternates, haves)?;
     }
-    let mut repository = known(order, shell, &old, has_alternates, haves)?;
-    let checks = checks_of(order, shell)?;
+    let mut repository = known_repository(job, shell, &old, has_alternates, haves)?;
+    let checks = fsck_argv(job, shell)?;
     let rules = PackRules {
         checks: &checks,
-        limit: limit_of(order, shell, !checks.is_empty())?,
+        limit: choose_limit(job, shell, !checks.is_empty())?,
     };
-    let pack = PackPlan::new(rt, &places, folder, order.choices, rules, &old)?;
-    let filter = filter_of(alloc, order.choices)?;
-    let plan = Plan {
-        order,
+    let pack = PackPlan::new(rt, &paths, folder, job.options, rules, &old)?;
+    let filter = filter_of(alloc, job.options)?;
+    let plan = FetchPlan {
+        job,
         shallow: &shallow,
         filter: filter.as_deref(),
         haves,
         pack: &pack,
     };
-    let came = fetch_once_more(plan, shell, open, &mut repository, commits)?;
-    let reply = finish(plan, shell, &places, &old, &came)?;
-    Ok(Fetched { reply, pack })
+    let fetched = fetch_or_reconnect(plan, shell, open, &mut repository, commits)?;
+    let reply = finish_fetch(plan, shell, &paths, &old, &fetched)?;
+    Ok(FinishedFetch { reply, pack })
 }

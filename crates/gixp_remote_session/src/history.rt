@@ -1,38 +1,37 @@
-//! How much of the history is wanted.
+//! The depth of a fetch.
 ghost use Rattle.std.specs.Prelude.{◌≡◌, ◌∷◌, [], ◌++◌, false, map, is_some, IfOk, IsOk, OnOk};
 ghost use Rattle.bstr.specs.Owned.{bstring_bytes};
 ghost use Rattle.gix_protocol.specs.PartialName.{name_bytes};
 ghost use Rattle.gix_protocol.specs.Shallow.{shallow_value};
-ghost use Rattle.gixp_remote_session.specs.History.{is_twofold, IsPart, IsWished};
+ghost use Rattle.gixp_remote_session.specs.History.{has_two_limits, IsPart, IsRequested};
 
+use crate::error::Error;
 use crate::shell::Shell;
-use crate::trouble::Trouble;
 use bstr::{BString, ByteSlice};
 use gix_protocol::fetch::Shallow;
 use gix_protocol::refspec::PartialName;
-use gixp_remote_rules::{Choices, Depth, Question};
+use gixp_remote_rules::{Depth, HelperOptions, Question};
 use std::alloc::Global;
 use std::num::NonZeroU32;
 
-// A time as git reads it, in seconds.
-fn seconds_of(rt: &HostRuntime, shell: &mut Shell, since: &[u8]) -> Result<i64, Trouble> {
+// A time in seconds, as git parses it.
+fn seconds_of(rt: &HostRuntime, shell: &mut Shell, since: &[u8]) -> Result<i64, Error> {
     let alloc = rt.alloc();
-    let told = shell.git(rt, Question::Time(since))?;
-    let line = told.text.as_slice().trim();
+    let output = shell.ask_git(rt, Question::Time(since))?;
+    let line = output.text.as_slice().trim();
     let Some(digits) = line.strip_prefix(b"--max-age=") else {
-        return Err(Trouble::of_word(alloc, "this is no time:", since));
+        return Err(Error::with_text(alloc, "this is not a time:", since));
     };
     match digits.to_str() {
         Ok(digits) => match digits.parse::<i64>() {
             Ok(seconds) => Ok(seconds),
-            Err(_) => Err(Trouble::of_word(alloc, "this is no time:", since)),
+            Err(_) => Err(Error::with_text(alloc, "this is not a time:", since)),
         },
-        Err(_) => Err(Trouble::of_word(alloc, "this is no time:", since)),
+        Err(_) => Err(Error::with_text(alloc, "this is not a time:", since)),
     }
 }
 
-// A name more.
-fn add_name(alloc: Global, names: &mut Vec<PartialName>, word: &[u8]) -> Result<(), Trouble>
+fn add_name(alloc: Global, names: &mut Vec<PartialName>, word: &[u8]) -> Result<(), Error>
     ensures { OnOk result (map name_bytes names.new.items ≡ map name_bytes names.old.items ++ word.now ∷ []) }
 {
     match PartialName::new(BString::from_slice(alloc, word)?) {
@@ -40,32 +39,32 @@ fn add_name(alloc: Global, names: &mut Vec<PartialName>, word: &[u8]) -> Result<
             names.push(name)?;
             Ok(())
         }
-        Err(_) => Err(Trouble::of_word(alloc, "this is no name of a ref:", word)),
+        Err(_) => Err(Error::with_text(alloc, "this is not the name of a ref:", word)),
     }
 }
 
-// The names whose commits aren't wanted.
-fn names_of(alloc: Global, words: &[BString]) -> Result<Vec<PartialName>, Trouble>
-    ensures { IfOk result (λ names. map name_bytes names.items ≡ map bstring_bytes words.now) }
+// The names of the excluded refs.
+fn names_of(alloc: Global, excluded: &[BString]) -> Result<Vec<PartialName>, Error>
+    ensures { IfOk result (λ names. map name_bytes names.items ≡ map bstring_bytes excluded.now) }
 {
     let mut names = Vec::new(alloc);
-    for word in words {
+    for word in excluded {
         add_name(alloc, &mut names, word.as_bytes())?;
     }
     Ok(names)
 }
 
-// What a time and names leave.
-fn cut(rt: &HostRuntime, shell: &mut Shell, choices: &Choices) -> Result<Shallow, Trouble>
-    ensures { IfOk result (λ s. IsPart choices.now.excluded.items (is_some choices.now.since) (shallow_value s)) }
+// The limits by a time and by excluded refs.
+fn limits_of(rt: &HostRuntime, shell: &mut Shell, options: &HelperOptions) -> Result<Shallow, Error>
+    ensures { IfOk result (λ s. IsPart options.now.excluded.items (is_some options.now.since) (shallow_value s)) }
 {
-    let since_cutoff = match &choices.since {
+    let since_cutoff = match &options.since {
         Some(since) => Some(seconds_of(rt, shell, since.as_bytes())?),
         None => None,
     };
-    if !choices.excluded.is_empty() {
+    if !options.excluded.is_empty() {
         return Ok(Shallow::Exclude {
-            remote_refs: names_of(rt.alloc(), &choices.excluded)?,
+            remote_refs: names_of(rt.alloc(), &options.excluded)?,
             since_cutoff,
         });
     }
@@ -75,36 +74,34 @@ fn cut(rt: &HostRuntime, shell: &mut Shell, choices: &Choices) -> Result<Shallow
     }
 }
 
-// Whether a depth is wanted and a time or names too, which no server takes.
-fn is_twofold(choices: &Choices) -> bool
-    ensures { result ≡ is_twofold choices.now.depth choices.now.excluded.items (is_some choices.now.since) }
+// Whether a depth is set and a time or an excluded ref too. No server accepts both.
+fn has_two_limits(options: &HelperOptions) -> bool
+    ensures { result ≡ has_two_limits options.now.depth options.now.excluded.items (is_some options.now.since) }
 {
-    match choices.depth {
+    match options.depth {
         Depth::Any => false,
-        Depth::Commits(_) | Depth::All => choices.since.is_some() || !choices.excluded.is_empty(),
+        Depth::Commits(_) | Depth::All => options.since.is_some() || !options.excluded.is_empty(),
     }
 }
 
-/// What git's options ask for.
+/// The limits that git's options ask for.
 pub(crate) fn shallow_of(
     rt: &HostRuntime,
     shell: &mut Shell,
-    choices: &Choices,
-) -> Result<Shallow, Trouble>
-    ensures wished { IfOk result (λ s. IsWished choices.now.depth choices.now.is_relative choices.now.excluded.items
-        (is_some choices.now.since) (shallow_value s)) }
-    ensures single { IsOk result → is_twofold choices.now.depth choices.now.excluded.items (is_some choices.now.since) ≡ false }
+    options: &HelperOptions,
+) -> Result<Shallow, Error>
+    ensures requested { IfOk result (λ s. IsRequested options.now.depth options.now.is_relative options.now.excluded.items
+        (is_some options.now.since) (shallow_value s)) }
+    ensures single { IsOk result → has_two_limits options.now.depth options.now.excluded.items (is_some options.now.since) ≡ false }
 {
-    if is_twofold(choices) {
-        return Err(Trouble::Fatal(
-            "deepen and deepen-since (or deepen-not) cannot be used together",
-        ));
+    if has_two_limits(options) {
+        return Err(Error::Fatal("deepen and deepen-since (or deepen-not) cannot be used together"));
     }
-    match choices.depth {
+    match options.depth {
         Depth::All => Ok(Shallow::undo()),
         Depth::Commits(count) => match NonZeroU32::new(count) {
             Some(depth) => {
-                if choices.is_relative {
+                if options.is_relative {
                     Ok(Shallow::Deepen(count))
                 } else {
                     Ok(Shallow::DepthAtRemote(depth))
@@ -112,6 +109,6 @@ pub(crate) fn shallow_of(
             }
             None => Ok(Shallow::NoChange),
         },
-        Depth::Any => cut(rt, shell, choices),
+        Depth::Any => limits_of(rt, shell, options),
     }
 }

@@ -1,43 +1,47 @@
-//! The program `gixp_remote`: a remote helper of git, beside a shell that starts and ends other programs for it.
+//! The program `gixp_remote`: a remote helper of git. A shell starts and ends the other programs.
 #![tactic(auto)]
 
 mod boundary;
-mod bounded;
-mod checks;
-mod chosen;
 mod connect;
+mod connectivity;
+mod error;
 mod fetching;
+mod fsck;
+mod helper;
 mod history;
+mod job;
 mod listing;
-mod local;
-mod order;
+mod messages;
+mod migrate;
 mod pack;
+mod paths;
 mod pipes;
-mod place;
 mod readiness;
-mod remote;
+mod repository;
+mod server_config;
 mod session_id;
 mod setup;
+mod shallow_tap;
 mod shell;
-mod trouble;
+mod transport;
 mod unpacking;
 mod uris;
 mod web;
-mod wire;
 
-use crate::remote::converse;
-use crate::trouble::{Trouble, show};
+use crate::error::{Error, print_error};
+use crate::helper::converse;
 use std::process::ExitCode;
 
-/// Speaks with git on standard input and output, in the folder of the shell's open files, of which one has the name that git has for
-/// the server, the URL and git's settings; the words after the program's name are the helper's mark, the name of the terminal, the
-/// pipe to the shell and the one from it. The status is 0, or 128 where something failed, which a sentence on standard error says.
+/// Runs the helper. Standard input and output are git's. The working directory is the folder of the
+/// shell's open files (`/proc/PID/fd`). The arguments are the mark of the helper, the name of the
+/// terminal, the pipe to the shell and the pipe from it. The exit status is 0, or 128 after an
+/// error, which is printed on standard error.
 pub fn run(rt: &HostRuntime) -> ExitCode {
     match converse(rt) {
         Ok(()) => ExitCode::SUCCESS,
-        Err(Trouble::Told) => ExitCode::from(128),
+        Err(Error::AlreadyReported) => ExitCode::from(128),
         Err(e) => {
-            show(rt, e.speaker(), &e);
+            print_error(rt, e.prefix(), &e);
             ExitCode::from(128)
         }
     }

@@ -1,11 +1,11 @@
-//! The refs of a server, as git reads them from a remote helper.
+//! The list of refs that git reads from a remote helper (gitremote-helpers, "list").
 ghost use Rattle.std.specs.Prelude.{◌≡◌, ◌||◌, ◌∷◌, [], ◌++◌, ℕ, List, flat_map, map, IfOk, OnOk};
 ghost use Rattle.std.specs.List.{list_all};
 ghost use Rattle.std.specs.Option.{option_map};
 ghost use Rattle.std.specs.Str.{bytes_eq};
 ghost use Rattle.bstr.specs.Owned.{bstring_bytes};
 ghost use Rattle.gixp_remote_session.specs.RefLines.{is_plain, is_plain_byte, id_line, symbolic_line, object_lines, ref_lines};
-ghost use Rattle.gixp_remote_session.specs.RefLines.{has_text, holds, is_held, is_by_target, fitting_lines, funny_name, format_line, list_text};
+ghost use Rattle.gixp_remote_session.specs.RefLines.{has_text, holds, is_held, is_by_target, fitting_lines, broken_name, format_line, list_text};
 
 use bstr::BString;
 use gix_protocol::handshake::Ref;
@@ -13,28 +13,28 @@ use gix_protocol::transport::ObjectId;
 use std::alloc::{AllocError, Global};
 use std::collections::BTreeSet;
 
-// Whether a byte is neither a blank nor a control character.
+// Whether a byte is neither a space nor a control character.
 fn is_plain_byte(byte: u8) -> bool
     ensures { result ≡ is_plain_byte byte }
 {
     byte > b' ' && byte != 127
 }
 
-// Whether all bytes are such.
 fn are_plain(name: &[u8]) -> bool
     ensures { result ≡ list_all is_plain_byte name.now }
 {
     name.iter().all(|byte| is_plain_byte(*byte))
 }
 
-// Whether a name fits the lines of git's: git leaves out others too, as names that no ref may have (git-check-ref-format).
+// Whether the name can be in a line of the list. git itself skips other names that aren't valid
+// (git-check-ref-format).
 fn is_plain(name: &[u8]) -> bool
     ensures { result ≡ is_plain name.now }
 {
     !name.is_empty() && are_plain(name)
 }
 
-// A line of an id and a name.
+// A line with an id and a name.
 fn append_id(text: &mut Vec<u8>, id: &ObjectId, name: &[u8], mark: &[u8]) -> Result<(), AllocError>
     ensures { OnOk result (text.new.items ≡ text.old.items ++ id_line id.now.bytes name.now mark.now) }
 {
@@ -45,7 +45,7 @@ fn append_id(text: &mut Vec<u8>, id: &ObjectId, name: &[u8], mark: &[u8]) -> Res
     text.extend_from_slice(b"\n")
 }
 
-// A line of a symbolic ref.
+// The line of a symbolic ref.
 fn append_symbolic(text: &mut Vec<u8>, target: &[u8], name: &[u8]) -> Result<(), AllocError>
     ensures { OnOk result (text.new.items ≡ text.old.items ++ symbolic_line target.now name.now) }
 {
@@ -56,7 +56,6 @@ fn append_symbolic(text: &mut Vec<u8>, target: &[u8], name: &[u8]) -> Result<(),
     text.extend_from_slice(b"\n")
 }
 
-// Adds a name to a set.
 fn add_text<'r>(names: &mut BTreeSet<&'r [u8]>, name: &'r [u8]) -> Result<(), AllocError>
     ensures { OnOk result ((text : List ℕ) → has_text names.new text ≡ (has_text names.old text || bytes_eq text name.now)) }
 {
@@ -64,7 +63,7 @@ fn add_text<'r>(names: &mut BTreeSet<&'r [u8]>, name: &'r [u8]) -> Result<(), Al
     Ok(())
 }
 
-// Adds the name of a ref that holds an object itself.
+// Adds the name of a ref that isn't symbolic.
 fn add_holder<'r>(names: &mut BTreeSet<&'r [u8]>, found: &'r Ref) -> Result<(), AllocError>
     ensures { OnOk result ((text : List ℕ) → has_text names.new text ≡ (has_text names.old text || holds text found.now)) }
 {
@@ -75,7 +74,7 @@ fn add_holder<'r>(names: &mut BTreeSet<&'r [u8]>, found: &'r Ref) -> Result<(), 
     }
 }
 
-// The names of the refs that hold an object themselves.
+// The names of the refs that aren't symbolic.
 fn holders(alloc: Global, refs: &[Ref]) -> Result<BTreeSet<&[u8]>, AllocError>
     ensures { IfOk result (λ names. (text : List ℕ) → has_text names text ≡ is_held refs.now text) }
 {
@@ -86,7 +85,7 @@ fn holders(alloc: Global, refs: &[Ref]) -> Result<BTreeSet<&[u8]>, AllocError>
     Ok(names)
 }
 
-// The lines of an object, and of a tag that leads to it.
+// The line of an object, or of a tag and of the object that it points to.
 fn append_object(
     text: &mut Vec<u8>,
     name: &[u8],
@@ -104,7 +103,8 @@ fn append_object(
     }
 }
 
-// The lines of a ref. A symbolic ref is listed by its target where that holds an object itself, else by what it leads to.
+// The lines of a ref. A symbolic ref is listed by its target if the list has the target, else by
+// its object.
 fn append_ref(text: &mut Vec<u8>, found: &Ref, by_target: bool) -> Result<(), AllocError>
     ensures { OnOk result (text.new.items ≡ text.old.items ++ ref_lines by_target found.now) }
 {
@@ -134,7 +134,6 @@ fn append_ref(text: &mut Vec<u8>, found: &Ref, by_target: bool) -> Result<(), Al
     }
 }
 
-// Whether a symbolic ref's target holds an object itself.
 fn is_by_target(found: &Ref, holders: &BTreeSet<&[u8]>) -> bool
     ensures { result ≡ is_by_target (has_text holders.now) found.now }
 {
@@ -144,16 +143,15 @@ fn is_by_target(found: &Ref, holders: &BTreeSet<&[u8]>) -> bool
     }
 }
 
-/// The listing of the refs for git.
+/// The list of refs for git.
 #[derive(Drop)]
-pub(crate) struct RefsTold {
+pub(crate) struct RefListing {
     /// The lines.
     pub(crate) text: Vec<u8>,
-    /// The names that were left out.
-    pub(crate) funny: Vec<BString>,
+    /// The names that git can't read in a line. They are left out.
+    pub(crate) broken: Vec<BString>,
 }
 
-// Adds the name of a ref.
 fn add_name(alloc: Global, names: &mut Vec<BString>, name: &[u8]) -> Result<(), AllocError>
     ensures { OnOk result (map bstring_bytes names.new.items ≡ map bstring_bytes names.old.items ++ name.now ∷ []) }
 {
@@ -161,51 +159,51 @@ fn add_name(alloc: Global, names: &mut Vec<BString>, name: &[u8]) -> Result<(), 
     Ok(())
 }
 
-// Adds the lines of a ref, or its name to those that are left out.
-fn tell_ref(
+// Adds the lines of a ref, or adds its name to the broken ones.
+fn list_ref(
     alloc: Global,
-    told: &mut RefsTold,
+    listing: &mut RefListing,
     found: &Ref,
     holders: &BTreeSet<&[u8]>,
 ) -> Result<(), AllocError>
-    ensures text { OnOk result (told.new.text.items ≡ told.old.text.items ++ fitting_lines (has_text holders.now) found.now) }
-    ensures funny { OnOk result (map bstring_bytes told.new.funny.items ≡ map bstring_bytes told.old.funny.items ++ funny_name found.now) }
+    ensures text { OnOk result (listing.new.text.items ≡ listing.old.text.items ++ fitting_lines (has_text holders.now) found.now) }
+    ensures broken { OnOk result (map bstring_bytes listing.new.broken.items ≡ map bstring_bytes listing.old.broken.items ++ broken_name found.now) }
 {
     if is_plain(found.name().as_bytes()) {
-        append_ref(&mut told.text, found, is_by_target(found, holders))
+        append_ref(&mut listing.text, found, is_by_target(found, holders))
     } else {
-        add_name(alloc, &mut told.funny, found.name().as_bytes())
+        add_name(alloc, &mut listing.broken, found.name().as_bytes())
     }
 }
 
-// The line of the hash function, where git asks for it.
-fn format_line(alloc: Global, tells_format: bool) -> Result<Vec<u8>, AllocError>
-    ensures { IfOk result (λ text. text.items ≡ format_line tells_format) }
+// The line of the hash function, if git asks for it.
+fn format_line(alloc: Global, lists_format: bool) -> Result<Vec<u8>, AllocError>
+    ensures { IfOk result (λ text. text.items ≡ format_line lists_format) }
 {
-    if tells_format {
+    if lists_format {
         Vec::from_slice(alloc, b":object-format sha1\n")
     } else {
         Ok(Vec::new(alloc))
     }
 }
 
-/// The lines of the refs, with the hash function where git asks for it, and the empty line after them.
-pub(crate) fn refs_told(
+/// The list of the refs, with the hash function if git asks for it. An empty line ends it.
+pub(crate) fn ref_listing(
     alloc: Global,
     refs: &[Ref],
-    tells_format: bool,
-) -> Result<RefsTold, AllocError>
-    ensures text { IfOk result (λ told. told.text.items ≡ list_text tells_format refs.now) }
-    ensures funny { IfOk result (λ told. map bstring_bytes told.funny.items ≡ flat_map funny_name refs.now) }
+    lists_format: bool,
+) -> Result<RefListing, AllocError>
+    ensures text { IfOk result (λ listing. listing.text.items ≡ list_text lists_format refs.now) }
+    ensures broken { IfOk result (λ listing. map bstring_bytes listing.broken.items ≡ flat_map broken_name refs.now) }
 {
     let holders = holders(alloc, refs)?;
-    let mut told = RefsTold {
-        text: format_line(alloc, tells_format)?,
-        funny: Vec::new(alloc),
+    let mut listing = RefListing {
+        text: format_line(alloc, lists_format)?,
+        broken: Vec::new(alloc),
     };
     'refs: for found in refs {
-        tell_ref(alloc, &mut told, found, &holders)?;
+        list_ref(alloc, &mut listing, found, &holders)?;
     }
-    told.text.extend_from_slice(b"\n")?;
-    Ok(told)
+    listing.text.extend_from_slice(b"\n")?;
+    Ok(listing)
 }

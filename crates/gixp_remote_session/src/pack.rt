@@ -1,24 +1,26 @@
-//! Where the pack goes: git indexes it, or unpacks it, in a folder for objects of its own.
+//! Passes the pack to git, which indexes or unpacks it in quarantine: an object directory of its
+//! own.
 ghost use Rattle.std.specs.Prelude.{◌≡◌, ◌≤◌, ◌-◌, ◌&&◌, ⊤, ◌∷◌, [], ◌++◌, true, false, not, if◌then◌else◌, min, max, length, map, codes, IfOk, IfSome, OnOk, string_bytes};
 ghost use Rattle.bstr.specs.Owned.{bstring_bytes};
-ghost use Rattle.gixp_remote_rules.specs.Choosing.{chosen};
-ghost use Rattle.gixp_remote_session.specs.Packs.{pack_folder, IsPlan, SamePlan, has_objects, is_bounded, is_unpacked, unpacked_state, kept_state, IsStateAfter};
-ghost use Rattle.gixp_remote_session.specs.Troubles.{kind_of};
+ghost use Rattle.gixp_remote_rules.specs.HelperOptions.{options_value};
+ghost use Rattle.gixp_remote_session.specs.Packs.{pack_folder, IsPlan, SamePlan, has_objects, has_boundary, is_unpacked, unpacked_state, indexed_state, IsStateAfter};
+ghost use Rattle.gixp_remote_session.specs.Errors.{error_kind_of};
 
-use crate::bounded::Bounds;
-use crate::local::Places;
-use crate::pipes::{BOUNDARY, IDS, KEPT, PACK};
+use crate::error::Error;
+use crate::paths::RepositoryPaths;
+use crate::pipes::{BOUNDARY, IDS, PACK_INPUT, PACK_OUTPUT};
 use crate::setup::{variable, within};
+use crate::shallow_tap::ShallowUpdates;
 use crate::shell::Shell;
-use crate::trouble::Trouble;
-use crate::uris::{Uris, are_named};
+use crate::uris::{Uris, has_uris};
 use bstr::{BString, ByteSlice};
 use gix_protocol::fetch::shallow_text;
 use gix_protocol::transport::ObjectId;
-use gixp_fetch_local::PackPlace;
+use gixp_fetch_common::PackPlace;
 use gixp_remote_rules::{
-    Choices, Program, Request, Start, Task, index_words, kept_pack, object_variables, pack_count,
-    pack_variables, part_words, tells_more, unpack_words, unpacks,
+    HelperOptions, Program, ShellRequest, ShellTask, Start, accepted_pack, index_argv,
+    lists_gitmodules, object_variables, pack_count, pack_variables, part_argv, unpack_argv,
+    unpacks,
 };
 use std::alloc::{AllocError, Global};
 use std::cell::RefCell;
@@ -26,168 +28,187 @@ use std::fs::{File, OpenOptions};
 use std::io::{ErrorKind, Read, Write};
 use std::{fs, io, mem};
 
-/// What git says of a pack that doesn't begin as one does.
+/// git's error text for a pack with a bad header.
 pub(crate) const BAD_HEADER: &str = "protocol error: bad pack header";
 
-/// Where the pack is put, and by which words and variables of git's.
+/// The quarantine of a pack, and the arguments and variables of git there.
 #[derive(Drop)]
 pub(crate) struct PackPlan {
-    /// The folder in which it is indexed.
+    /// The folder of the quarantine.
     pub(crate) folder: String,
-    /// The words of `git index-pack`, where the server says nothing of the boundary.
-    pub(crate) words: Vec<BString>,
-    /// Its words, where the server named a boundary.
-    pub(crate) bounded_words: Vec<BString>,
-    /// The file for that.
+    /// The arguments of `git index-pack` if the server sends no boundary.
+    pub(crate) argv: Vec<BString>,
+    /// The arguments of `git index-pack` if the server sends a boundary.
+    pub(crate) boundary_argv: Vec<BString>,
+    /// The file for the server's boundary.
     pub(crate) shallow: String,
     /// The boundary before the fetch.
     pub(crate) old: Vec<ObjectId>,
-    /// The variables that make git look into that folder.
+    /// The variables that make git look for objects in the quarantine.
     pub(crate) variables: Vec<BString>,
-    /// A pack of fewer objects is unpacked; none where each is kept.
+    /// A pack with fewer objects is unpacked. `None` keeps every pack.
     pub(crate) limit: Option<u32>,
     /// Whether progress is shown.
     pub(crate) shows_progress: bool,
 }
 
-/// What the user's settings choose of a pack.
+/// The user's settings for a pack.
 #[derive(Clone, Copy)]
 pub(crate) struct PackRules<'a> {
-    /// The words for what is checked of its objects.
+    /// The arguments for checking objects.
     pub(crate) checks: &'a [BString],
-    /// A pack of fewer objects is unpacked; none where each is kept.
+    /// A pack with fewer objects is unpacked. `None` keeps every pack.
     pub(crate) limit: Option<u32>,
 }
 
-// The words of `git index-pack`, by whether the server named a boundary.
-fn words_by<'x>(
-    words: &'x [BString],
-    bounded_words: &'x [BString],
-    is_bounded: bool,
+fn argv_by<'x>(
+    argv: &'x [BString],
+    boundary_argv: &'x [BString],
+    has_boundary: bool,
 ) -> &'x [BString]
-    ensures bounded { is_bounded ≡ true → result.now ≡ bounded_words.now }
-    ensures unbounded { is_bounded ≡ false → result.now ≡ words.now }
+    ensures bounded { has_boundary ≡ true → result.now ≡ boundary_argv.now }
+    ensures unbounded { has_boundary ≡ false → result.now ≡ argv.now }
 {
-    if is_bounded { bounded_words } else { words }
+    if has_boundary { boundary_argv } else { argv }
 }
 
-// A word more.
-fn add_word(alloc: Global, words: &mut Vec<BString>, word: &[u8]) -> Result<(), Trouble>
-    ensures { OnOk result (map bstring_bytes words.new.items ≡ map bstring_bytes words.old.items ++ word.now ∷ []) }
+fn add_word(alloc: Global, argv: &mut Vec<BString>, word: &[u8]) -> Result<(), Error>
+    ensures { OnOk result (map bstring_bytes argv.new.items ≡ map bstring_bytes argv.old.items ++ word.now ∷ []) }
 {
-    words.push(BString::from_slice(alloc, word)?)?;
+    argv.push(BString::from_slice(alloc, word)?)?;
     Ok(())
 }
 
-// Words once more.
-fn copied(alloc: Global, words: &[BString]) -> Result<Vec<BString>, Trouble>
-    ensures { IfOk result (λ all. map bstring_bytes all.items ≡ map bstring_bytes words.now) }
+fn copy_argv(alloc: Global, argv: &[BString]) -> Result<Vec<BString>, Error>
+    ensures { IfOk result (λ all. map bstring_bytes all.items ≡ map bstring_bytes argv.now) }
 {
     let mut all = Vec::new(alloc);
-    for word in words {
+    for word in argv {
         add_word(alloc, &mut all, word.as_bytes())?;
     }
     Ok(all)
 }
 
-// The name of the folder, as files are opened by.
-fn room_of(name: &[u8]) -> Result<&str, Trouble>
+// The name of the quarantine as a string.
+fn utf8_name(name: &[u8]) -> Result<&str, Error>
     ensures { IfOk result (λ r. r.now ≡ name.now) }
 {
     match name.to_str() {
-        Ok(room) => Ok(room),
-        Err(_) => Err(Trouble::Other("the helper's mark is no UTF-8")),
+        Ok(utf8) => Ok(utf8),
+        Err(_) => Err(Error::Other("the mark of the helper is not UTF-8")),
     }
 }
 
-// The folder beside the objects that has this name.
-fn folder_beside(alloc: Global, objects: &str, room: &str) -> Result<String, Trouble>
-    ensures { IfOk result (λ f. string_bytes f ≡ pack_folder objects.now room.now) }
+// The path of the quarantine, which is in the object directory.
+fn quarantine_folder(alloc: Global, objects: &str, utf8: &str) -> Result<String, Error>
+    ensures { IfOk result (λ f. string_bytes f ≡ pack_folder objects.now utf8.now) }
 {
-    Ok(format!(in alloc; "{objects}/tmp_objdir-{room}")?)
+    Ok(format!(in alloc; "{objects}/tmp_objdir-{utf8}")?)
 }
 
-// The file of the boundary in it.
-fn boundary_in(alloc: Global, folder: &str) -> Result<String, Trouble>
+// The file for the boundary in the quarantine.
+fn shallow_file(alloc: Global, folder: &str) -> Result<String, Error>
     ensures { IfOk result (λ f. string_bytes f ≡ folder.now ++ codes "/shallow") }
 {
     Ok(format!(in alloc; "{folder}/shallow")?)
 }
 
-/// Makes the folder of a plan, unless a pack is in it already. The shell takes it away at the end.
+/// Creates the quarantine, unless a pack is in it already. The shell removes it at the end.
 pub(crate) fn make_folder(
     rt: &HostRuntime,
     shell: &mut Shell,
     plan: &PackPlan,
-) -> Result<(), Trouble> {
+) -> Result<(), Error> {
     if shell.pack == PackState::Unbegun {
-        shell.ask(&Request::Folder(plan.folder.as_bytes()))?;
+        shell.ask(&ShellRequest::Folder(plan.folder.as_bytes()))?;
         fs::create_dir_all(rt, plan.folder.as_str())?;
     }
     Ok(())
 }
 
-/// Takes the folder away once nothing is wanted of it. What can't be taken away so is left to the shell, which needs a program more.
-pub(crate) fn clear_folder(rt: &HostRuntime, plan: &PackPlan) -> Result<(), Trouble> {
-    let folder = &plan.folder;
-    let _ = fs::remove_file(rt, plan.shallow.as_str());
-    for name in [IDS, BOUNDARY] {
-        let _ = fs::remove_file(rt, format!(in rt.alloc(); "{folder}/{name}")?.as_str());
+// Returns the error of a removal, unless the file or folder didn't exist.
+fn unless_absent(removed: io::Result<()>) -> io::Result<()> {
+    match removed {
+        Ok(()) => Ok(()),
+        Err(e) => {
+            if e.kind() == ErrorKind::NotFound {
+                Ok(())
+            } else {
+                Err(e)
+            }
+        }
     }
-    let _ = fs::remove_dir(rt, format!(in rt.alloc(); "{folder}/pack")?.as_str());
-    let _ = fs::remove_dir(rt, folder.as_str());
+}
+
+// Removes the files of a quarantine that has no pack, and its folders. Stops at the first error.
+fn remove_quarantine(rt: &HostRuntime, plan: &PackPlan) -> Result<(), Error> {
+    let folder = &plan.folder;
+    unless_absent(fs::remove_file(rt, plan.shallow.as_str()))?;
+    for name in [IDS, BOUNDARY] {
+        let path = format!(in rt.alloc(); "{folder}/{name}")?;
+        unless_absent(fs::remove_file(rt, path.as_str()))?;
+    }
+    let packs = format!(in rt.alloc(); "{folder}/pack")?;
+    unless_absent(fs::remove_dir(rt, packs.as_str()))?;
+    unless_absent(fs::remove_dir(rt, folder.as_str()))?;
     Ok(())
 }
 
+/// Removes the quarantine after a fetch that succeeded. After an error the shell removes the rest
+/// when the helper ends. If it fails too, it prints the error.
+pub(crate) fn clear_folder(rt: &HostRuntime, plan: &PackPlan) {
+    let _ = remove_quarantine(rt, plan);
+}
+
 impl PackPlan {
-    /// The words of git that indexes a pack, by whether the server named a boundary.
-    pub(crate) fn words_for(&self, is_bounded: bool) -> &[BString]
-        ensures bounded { is_bounded ≡ true → result.now ≡ self.now.bounded_words.items }
-        ensures unbounded { is_bounded ≡ false → result.now ≡ self.now.words.items }
+    /// The arguments of `git index-pack`, by whether the server sent a boundary.
+    pub(crate) fn argv_for(&self, has_boundary: bool) -> &[BString]
+        ensures bounded { has_boundary ≡ true → result.now ≡ self.now.boundary_argv.items }
+        ensures unbounded { has_boundary ≡ false → result.now ≡ self.now.argv.items }
     {
-        words_by(&self.words, &self.bounded_words, is_bounded)
+        argv_by(&self.argv, &self.boundary_argv, has_boundary)
     }
 
-    /// The same once more.
-    pub(crate) fn copy(&self, alloc: Global) -> Result<PackPlan, Trouble>
+    /// A copy.
+    pub(crate) fn copy(&self, alloc: Global) -> Result<PackPlan, Error>
         ensures { IfOk result (SamePlan self.now) }
     {
         Ok(PackPlan {
             folder: self.folder.clone()?,
-            words: copied(alloc, &self.words)?,
-            bounded_words: copied(alloc, &self.bounded_words)?,
+            argv: copy_argv(alloc, &self.argv)?,
+            boundary_argv: copy_argv(alloc, &self.boundary_argv)?,
             shallow: self.shallow.clone()?,
             old: Vec::from_slice(alloc, &self.old)?,
-            variables: copied(alloc, &self.variables)?,
+            variables: copy_argv(alloc, &self.variables)?,
             limit: self.limit,
             shows_progress: self.shows_progress,
         })
     }
 
-    /// A pack for the folder of this name.
+    /// The plan of a pack whose quarantine has this name.
     pub(crate) fn new(
         rt: &HostRuntime,
-        places: &Places,
+        paths: &RepositoryPaths,
         name: &[u8],
-        choices: &Choices,
+        options: &HelperOptions,
         rules: PackRules<'_>,
         old: &[ObjectId],
-    ) -> Result<PackPlan, Trouble>
-        ensures plan { IfOk result (IsPlan (string_bytes places.now.objects) name.now (chosen choices.now) (map bstring_bytes rules.entry.checks.now)) }
+    ) -> Result<PackPlan, Error>
+        ensures plan { IfOk result (IsPlan (string_bytes paths.now.objects) name.now (options_value options.now) (map bstring_bytes rules.entry.checks.now)) }
         ensures limit { IfOk result (λ p. p.limit ≡ rules.entry.limit) }
-        ensures progress { IfOk result (λ p. p.shows_progress ≡ (choices.now.shows_progress && not choices.now.is_quiet)) }
+        ensures progress { IfOk result (λ p. p.shows_progress ≡ (options.now.shows_progress && not options.now.is_quiet)) }
         ensures old { IfOk result (λ p. p.old.items ≡ old.now) }
     {
         let alloc = rt.alloc();
-        let room = room_of(name)?;
-        let folder = folder_beside(alloc, places.objects.as_str(), room)?;
-        let shallow = boundary_in(alloc, folder.as_str())?;
-        let words = index_words(alloc, name, None, choices, rules.checks)?;
-        let bounded_words = index_words(
+        let utf8 = utf8_name(name)?;
+        let folder = quarantine_folder(alloc, paths.objects.as_str(), utf8)?;
+        let shallow = shallow_file(alloc, folder.as_str())?;
+        let argv = index_argv(alloc, name, None, options, rules.checks)?;
+        let boundary_argv = index_argv(
             alloc,
             name,
             Some(shallow.as_bytes()),
-            choices,
+            options,
             rules.checks,
         )?;
         let more = variable(rt, "GIT_ALTERNATE_OBJECT_DIRECTORIES");
@@ -195,62 +216,58 @@ impl PackPlan {
             Some(more) => Some(more.as_bytes()),
             None => None,
         };
-        let variables = object_variables(
-            alloc,
-            folder.as_bytes(),
-            places.objects.as_bytes(),
-            more,
-        )?;
+        let variables = object_variables(alloc, folder.as_bytes(), paths.objects.as_bytes(), more)?;
         Ok(PackPlan {
             folder,
-            words,
-            bounded_words,
+            argv,
+            boundary_argv,
             shallow,
             old: Vec::from_slice(alloc, old)?,
             variables,
             limit: rules.limit,
-            shows_progress: choices.tells_progress(),
+            shows_progress: options.wants_progress(),
         })
     }
 }
 
-/// What became of a pack.
+/// The state of a pack.
 #[derive(Clone, Copy, Debug, PartialEq, Eq)]
 pub(crate) enum PackState {
-    /// None came.
+    /// No pack was received.
     Unbegun,
-    /// It began, and isn't in the folder.
+    /// A pack began. It isn't in the quarantine yet.
     Begun,
-    /// It doesn't begin as a pack does.
+    /// It has a bad header.
     Unreadable,
     /// It is indexed.
-    Kept(Kept),
-    /// git ended before it had all of it.
+    Indexed(IndexedPack),
+    /// git exited before it had read the whole pack.
     Refused,
-    /// Its objects are in the folder; and whether the server named a boundary before it.
+    /// Its objects are unpacked in the quarantine. The value says whether the server sent a
+    /// boundary.
     Unpacked(bool),
-    /// It has no objects; and whether the server named a boundary before it.
+    /// It has no objects. The value says whether the server sent a boundary.
     Empty(bool),
 }
 
-/// A pack that is indexed.
+/// A pack in the quarantine.
 #[derive(Clone, Copy, Debug, PartialEq, Eq)]
-pub(crate) struct Kept {
-    /// Its name.
+pub(crate) struct IndexedPack {
+    /// Its hash.
     pub(crate) hash: ObjectId,
-    /// Whether the server named a boundary before it.
-    pub(crate) is_bounded: bool,
-    /// The status of git that indexed it.
+    /// Whether the server sent a boundary.
+    pub(crate) has_boundary: bool,
+    /// The exit status of git.
     pub(crate) status: u32,
 }
 
 impl PackState {
-    /// Whether objects came, which git finds in the folder alone.
+    /// Whether objects were received, which are only in the quarantine.
     pub(crate) fn has_objects(self) -> bool
         ensures { result ≡ has_objects self }
     {
         match self {
-            PackState::Kept(_) | PackState::Unpacked(_) => true,
+            PackState::Indexed(_) | PackState::Unpacked(_) => true,
             PackState::Unbegun
             | PackState::Begun
             | PackState::Unreadable
@@ -259,13 +276,13 @@ impl PackState {
         }
     }
 
-    /// Whether the server named a boundary before a pack.
-    pub(crate) fn is_bounded(self) -> bool
-        ensures { result ≡ is_bounded self }
+    /// Whether the server sent a boundary before the pack.
+    pub(crate) fn has_boundary(self) -> bool
+        ensures { result ≡ has_boundary self }
     {
         match self {
-            PackState::Kept(kept) => kept.is_bounded,
-            PackState::Unpacked(is_bounded) | PackState::Empty(is_bounded) => is_bounded,
+            PackState::Indexed(indexed) => indexed.has_boundary,
+            PackState::Unpacked(has_boundary) | PackState::Empty(has_boundary) => has_boundary,
             PackState::Unbegun | PackState::Begun | PackState::Unreadable | PackState::Refused => {
                 false
             }
@@ -273,21 +290,21 @@ impl PackState {
     }
 }
 
-/// What comes of a fetch.
+/// The result of a fetch.
 #[derive(Drop)]
-pub(crate) struct Came {
-    /// What became of the pack.
+pub(crate) struct FetchResult {
+    /// The state of the pack.
     pub(crate) pack: PackState,
-    /// The boundary as the server makes it.
+    /// The boundary as the server has it.
     pub(crate) boundary: Vec<ObjectId>,
     /// The packs that the server named by URIs.
     pub(crate) packs: Vec<ObjectId>,
 }
 
-impl Came {
-    /// The variables by which git sees what came, if anything did.
+impl FetchResult {
+    /// The variables that let git see the received objects, if there are any.
     pub(crate) fn variables<'x>(&self, plan: &'x PackPlan) -> &'x [BString]
-        ensures came { has_objects self.now.pack ≡ true → result.now ≡ plan.now.variables.items }
+        ensures received { has_objects self.now.pack ≡ true → result.now ≡ plan.now.variables.items }
         ensures none { has_objects self.now.pack ≡ false → result.now ≡ [] }
     {
         if self.pack.has_objects() {
@@ -298,32 +315,32 @@ impl Came {
     }
 }
 
-// The kind of a trouble, for a call that reports kinds alone.
-fn kind_of(e: &Trouble) -> ErrorKind
-    ensures { result ≡ kind_of e.now }
+// The kind of an error, for callers that report only a kind.
+fn error_kind_of(e: &Error) -> ErrorKind
+    ensures { result ≡ error_kind_of e.now }
 {
     match e {
-        Trouble::Io(kind) => *kind,
-        Trouble::Memory => ErrorKind::OutOfMemory,
+        Error::Io(kind) => *kind,
+        Error::Memory => ErrorKind::OutOfMemory,
         _ => ErrorKind::Other,
     }
 }
 
-// Has git started that takes the pack.
-fn start_git(shell: &mut Shell, variables: &[BString], words: &[BString]) -> Result<(), Trouble> {
+// Starts git for the pack.
+fn start_git(shell: &mut Shell, variables: &[BString], argv: &[BString]) -> Result<(), Error> {
     let start = Start {
-        task: Task::Pack,
+        task: ShellTask::Pack,
         program: Program::Git,
-        input: PACK,
-        output: KEPT,
+        input: PACK_INPUT,
+        output: PACK_OUTPUT,
         variables,
-        words,
+        argv,
     };
-    shell.ask(&Request::Start(start))?;
+    shell.ask(&ShellRequest::Start(start))?;
     Ok(())
 }
 
-// Whether a pack of so many objects is unpacked.
+// Whether a pack with this many objects is unpacked.
 fn is_unpacked(limit: Option<u32>, count: u32) -> bool
     ensures { result ≡ is_unpacked limit count }
 {
@@ -333,39 +350,40 @@ fn is_unpacked(limit: Option<u32>, count: u32) -> bool
     }
 }
 
-// How many objects count: of a pack beside others one at least, so that it is kept.
-fn count_kept(count: u32, has_uris: bool) -> u32
+// The number of objects that counts. With packs from URIs it is at least one, so that the server's
+// pack is kept.
+fn count_with_uris(count: u32, has_uris: bool) -> u32
     ensures { result ≡ (if has_uris then max count 1 else count) }
 {
     if has_uris { count.max(1) } else { count }
 }
 
-// What is done with a pack: git takes it into the folder of its plan.
+// One run of git over a pack.
 #[derive(Drop)]
-struct Job<'a> {
+struct PackRun<'a> {
     rt: HostRuntime,
     shell: &'a mut Shell,
     plan: PackPlan,
-    bounds: &'a RefCell<Bounds>,
-    // What the server says of URIs, which comes before the pack.
+    shallow_updates: &'a RefCell<ShallowUpdates>,
+    // The packs that the server named by URIs, which precede the pack.
     uris: &'a RefCell<Uris>,
-    // Whether the server named other packs by URIs. Then this one is kept, though it has no objects.
+    // Whether the server named packs by URIs. Then its own pack is kept, even without objects.
     has_uris: bool,
-    // What git says of the pack, once it is started.
-    told: Option<File>,
-    // Whether the server named a boundary before it.
-    is_bounded: bool,
-    // How many objects it has, and whether they are unpacked.
+    // The output of git, once it is started.
+    output: Option<File>,
+    // Whether the server sent a boundary before the pack.
+    has_boundary: bool,
+    // The number of objects, and whether they are unpacked.
     count: u32,
     is_unpacked: bool,
 }
 
-impl Job<'_> {
-    // Writes what the server makes of the boundary into its file. Returns whether it said something of it.
-    fn write_boundary(&self) -> Result<bool, Trouble> {
+impl PackRun<'_> {
+    // Writes the boundary as the server has it into its file. Returns whether the server sent one.
+    fn write_boundary(&self) -> Result<bool, Error> {
         let alloc = self.rt.alloc();
-        let ids = match self.bounds.try_borrow() {
-            Ok(bounds) => bounds.over(alloc, &self.plan.old)?,
+        let ids = match self.shallow_updates.try_borrow() {
+            Ok(shallow_updates) => shallow_updates.apply_to(alloc, &self.plan.old)?,
             Err(_) => None,
         };
         let Some(ids) = ids else {
@@ -376,191 +394,187 @@ impl Job<'_> {
         Ok(true)
     }
 
-    // Makes the folder, and writes the boundary.
-    fn prepare(&mut self) -> Result<(), Trouble> {
+    // Creates the quarantine, and writes the boundary.
+    fn prepare(&mut self) -> Result<(), Error> {
         make_folder(&self.rt, self.shell, &self.plan)?;
-        self.is_bounded = self.write_boundary()?;
-        self.has_uris = are_named(self.uris);
+        self.has_boundary = self.write_boundary()?;
+        self.has_uris = has_uris(self.uris);
         self.shell.pack = PackState::Begun;
         Ok(())
     }
 
-    // The variables of git that takes the pack.
     fn variables(&self) -> Result<Vec<BString>, AllocError> {
         pack_variables(self.rt.alloc(), within(&self.rt), &self.plan.variables)
     }
 
-    // The words of git that unpacks the objects.
-    fn unpacking_words(&self) -> Result<Vec<BString>, AllocError> {
+    fn unpacking_argv(&self) -> Result<Vec<BString>, AllocError> {
         let shallow = self.plan.shallow.as_bytes();
-        if self.is_bounded {
-            unpack_words(self.rt.alloc(), Some(shallow), self.plan.shows_progress)
+        if self.has_boundary {
+            unpack_argv(self.rt.alloc(), Some(shallow), self.plan.shows_progress)
         } else {
-            unpack_words(self.rt.alloc(), None, self.plan.shows_progress)
+            unpack_argv(self.rt.alloc(), None, self.plan.shows_progress)
         }
     }
 
-    // Starts git that unpacks the objects.
-    fn start_unpacking(&mut self) -> Result<(), Trouble> {
+    fn start_unpacking(&mut self) -> Result<(), Error> {
         let variables = self.variables()?;
-        let words = self.unpacking_words()?;
-        start_git(self.shell, &variables, &words)
+        let argv = self.unpacking_argv()?;
+        start_git(self.shell, &variables, &argv)
     }
 
-    // Starts git that indexes the pack.
-    fn start_indexing(&mut self) -> Result<(), Trouble> {
+    fn start_indexing(&mut self) -> Result<(), Error> {
         let variables = self.variables()?;
-        let words = self.plan.words_for(self.is_bounded);
+        let argv = self.plan.argv_for(self.has_boundary);
         if self.has_uris {
-            let words = part_words(self.rt.alloc(), words)?;
-            return start_git(self.shell, &variables, &words);
+            let argv = part_argv(self.rt.alloc(), argv)?;
+            return start_git(self.shell, &variables, &argv);
         }
-        start_git(self.shell, &variables, words)
+        start_git(self.shell, &variables, argv)
     }
 
-    // Starts git for a pack of this header, opens the two pipes, and passes the header on.
-    fn start(&mut self, header: &[u8]) -> Result<File, Trouble> {
+    // Starts git for a pack with this header, opens the pipes, and writes the header.
+    fn start(&mut self, header: &[u8]) -> Result<File, Error> {
         let Some(count) = pack_count(header) else {
             self.shell.pack = PackState::Unreadable;
-            return Err(Trouble::Fatal(BAD_HEADER));
+            return Err(Error::Fatal(BAD_HEADER));
         };
-        self.count = count_kept(count, self.has_uris);
+        self.count = count_with_uris(count, self.has_uris);
         self.is_unpacked = !self.has_uris && is_unpacked(self.plan.limit, count);
         if self.is_unpacked {
             self.start_unpacking()?;
         } else {
             self.start_indexing()?;
         }
-        // what is offered is offered: the list takes its time to end, and nothing waits for that now
-        self.shell.end(Task::Listing)?;
-        let mut writer = OpenOptions::new().write(true).open(&self.rt, PACK)?;
-        self.told = Some(File::open(&self.rt, KEPT)?);
+        // no more haves are sent: the list of commits ends now, while nothing waits for it
+        self.shell.end(ShellTask::Listing)?;
+        let mut writer = OpenOptions::new().write(true).open(&self.rt, PACK_INPUT)?;
+        self.output = Some(File::open(&self.rt, PACK_OUTPUT)?);
         writer.write_all(header)?;
         Ok(writer)
     }
 
-    // Waits until git is done.
-    fn finish(&mut self) -> Result<PackState, Trouble> {
-        // the shell waits meanwhile, as git says too little to wait for a reader
-        self.shell.send(&Request::Status(Task::Pack))?;
+    // Waits until git exits.
+    fn finish(&mut self) -> Result<PackState, Error> {
+        // the shell waits at the same time, since git's output fits the pipe
+        self.shell.send(&ShellRequest::Status(ShellTask::Pack))?;
         let mut text = Vec::new(self.rt.alloc());
-        if let Some(mut told) = self.told.take() {
-            told.read_to_end(&mut text)?;
+        if let Some(mut output) = self.output.take() {
+            output.read_to_end(&mut text)?;
         }
-        let status = self.shell.settle()?;
-        if tells_more(&text) {
-            self.shell.tells_more = true;
+        let status = self.shell.wait_answers()?;
+        if lists_gitmodules(&text) {
+            self.shell.lists_gitmodules = true;
         }
         match self.outcome(&text, status) {
             Some(state) => Ok(state),
-            None => Err(Trouble::Other("git refused the pack")),
+            None => Err(Error::Other("git refused the pack")),
         }
     }
 
-    // Notes that a write failed: git has ended, and said why.
-    fn note(&mut self, kind: ErrorKind) {
+    // Records a failed write: git has exited and reported the reason.
+    fn record_write_error(&mut self, kind: ErrorKind) {
         if kind == ErrorKind::BrokenPipe {
             self.shell.pack = PackState::Refused;
         }
     }
 
-    // What became of the pack, by what git says of it and its status.
+    // The state of the pack, by the output of git and its exit status.
     fn outcome(&self, text: &[u8], status: u32) -> Option<PackState>
-        ensures { IsStateAfter self.now.is_unpacked self.now.is_bounded self.now.count text.now status result }
+        ensures { IsStateAfter self.now.is_unpacked self.now.has_boundary self.now.count text.now status result }
     {
         if self.is_unpacked {
-            return unpacked_state(self.count, self.is_bounded, status);
+            return unpacked_state(self.count, self.has_boundary, status);
         }
-        match kept_pack(text, status) {
-            Some(hash) => Some(kept_state(self.count, hash, self.is_bounded, status)),
+        match accepted_pack(text, status) {
+            Some(hash) => Some(indexed_state(self.count, hash, self.has_boundary, status)),
             None => None,
         }
     }
 }
 
-// What became of a pack whose objects git unpacks.
-fn unpacked_state(count: u32, is_bounded: bool, status: u32) -> Option<PackState>
-    ensures { result ≡ unpacked_state count is_bounded status }
+// The state of a pack that git unpacked.
+fn unpacked_state(count: u32, has_boundary: bool, status: u32) -> Option<PackState>
+    ensures { result ≡ unpacked_state count has_boundary status }
 {
     if status != 0 {
         None
     } else if count == 0 {
-        Some(PackState::Empty(is_bounded))
+        Some(PackState::Empty(has_boundary))
     } else {
-        Some(PackState::Unpacked(is_bounded))
+        Some(PackState::Unpacked(has_boundary))
     }
 }
 
-// What became of a pack that git indexed.
-fn kept_state(count: u32, hash: ObjectId, is_bounded: bool, status: u32) -> PackState
-    ensures { result ≡ kept_state count hash is_bounded status }
+// The state of a pack that git indexed.
+fn indexed_state(count: u32, hash: ObjectId, has_boundary: bool, status: u32) -> PackState
+    ensures { result ≡ indexed_state count hash has_boundary status }
 {
     if count == 0 {
-        PackState::Empty(is_bounded)
+        PackState::Empty(has_boundary)
     } else {
-        PackState::Kept(Kept {
+        PackState::Indexed(IndexedPack {
             hash,
-            is_bounded,
+            has_boundary,
             status,
         })
     }
 }
 
-// Where the bytes of a pack go.
+// The destination of the pack's bytes.
 #[derive(Drop)]
 enum Stream {
-    // They are the first of the header, by which git is started.
+    // The header, which isn't complete yet. git is started when it is.
     Header(Vec<u8>),
     // The pipe to git.
     Git(File),
-    // They can't be taken, with this kind.
+    // No bytes can be written. Each write returns this error.
     Failed(ErrorKind),
 }
 
-// How many bytes a header has.
+// The size of a header.
 const HEADER_LEN: usize = 12;
 
-// How many of the next bytes belong to a header of which so many are known.
-fn missing(known: usize, size: usize) -> usize
+// How many of the next `size` bytes belong to the header, of which `known` bytes are known.
+fn header_bytes_left(known: usize, size: usize) -> usize
     ensures value { result ≡ min (12 - known) size }
     ensures within { result ≤ size }
 {
     HEADER_LEN.saturating_sub(known).min(size)
 }
 
-/// What a pack is written into. Where nothing can be written, each write says why, since a pack is begun in any case.
+/// The writer of a pack. If the pack can't be written, each write returns the error.
 #[derive(Drop)]
 pub(crate) struct PackWriter<'a> {
-    job: Job<'a>,
+    run: PackRun<'a>,
     stream: Stream,
 }
 
 impl PackWriter<'_> {
-    // Takes bytes of the header. Returns how many, and whether it is whole.
-    fn take_header(header: &mut Vec<u8>, buf: &[u8]) -> io::Result<(usize, bool)>
+    // Reads bytes of the header. Returns their number, and whether the header is complete.
+    fn read_header(header: &mut Vec<u8>, buf: &[u8]) -> io::Result<(usize, bool)>
         ensures { IfOk result (λ taken. taken.0 ≤ length buf.now) }
     {
-        let count = missing(header.len(), buf.len());
+        let count = header_bytes_left(header.len(), buf.len());
         match header.extend_from_slice(&buf[..count]) {
             Ok(()) => Ok((count, header.len() == HEADER_LEN)),
             Err(_) => Err(io::Error::from(ErrorKind::OutOfMemory)),
         }
     }
 
-    // Starts git for the header that came.
+    // Starts git with the header.
     fn start(&mut self) -> io::Result<()> {
         let stream = mem::replace(&mut self.stream, Stream::Failed(ErrorKind::Other));
         let Stream::Header(header) = stream else {
             return Err(io::Error::from(ErrorKind::Other));
         };
-        match self.job.start(&header) {
+        match self.run.start(&header) {
             Ok(file) => {
                 self.stream = Stream::Git(file);
                 Ok(())
             }
             Err(e) => {
-                self.stream = Stream::Failed(kind_of(&e));
-                Err(io::Error::from(kind_of(&e)))
+                self.stream = Stream::Failed(error_kind_of(&e));
+                Err(io::Error::from(error_kind_of(&e)))
             }
         }
     }
@@ -569,11 +583,11 @@ impl PackWriter<'_> {
 impl Write for PackWriter<'_> {
     fn write(&mut self, buf: &[u8]) -> io::Result<usize> {
         let (count, is_whole) = match &mut self.stream {
-            Stream::Header(header) => PackWriter::take_header(header, buf)?,
+            Stream::Header(header) => PackWriter::read_header(header, buf)?,
             Stream::Git(file) => match file.write(buf) {
                 Ok(count) => return Ok(count),
                 Err(e) => {
-                    self.job.note(e.kind());
+                    self.run.record_write_error(e.kind());
                     return Err(e);
                 }
             },
@@ -594,44 +608,44 @@ impl Write for PackWriter<'_> {
     }
 }
 
-/// What the server says before a pack.
+/// What the server sends before a pack.
 #[derive(Clone, Copy)]
-pub(crate) struct Said<'a> {
-    /// Of the shallow boundary.
-    pub(crate) bounds: &'a RefCell<Bounds>,
-    /// Of packs that it names by URIs.
+pub(crate) struct PackPreamble<'a> {
+    /// The updates of the shallow boundary.
+    pub(crate) shallow_updates: &'a RefCell<ShallowUpdates>,
+    /// The packs that it names by URIs.
     pub(crate) uris: &'a RefCell<Uris>,
 }
 
-/// A pack that git takes into a folder of its own as it comes.
+/// A pack that git receives in quarantine.
 #[derive(Drop)]
 pub(crate) struct QuarantinedPack<'a> {
-    // What is done with it, until it is written.
-    job: Option<Job<'a>>,
+    // The run of git, until the writer takes it.
+    run: Option<PackRun<'a>>,
 }
 
 impl<'a> QuarantinedPack<'a> {
-    /// Before a pack comes.
+    /// The state before a pack.
     pub(crate) fn new(
         rt: HostRuntime,
         shell: &'a mut Shell,
         plan: PackPlan,
-        said: Said<'a>,
+        preamble: PackPreamble<'a>,
     ) -> QuarantinedPack<'a>
-        ensures plan { IfSome result.job (λ job. job.plan ≡ plan) }
+        ensures plan { IfSome result.run (λ run. run.plan ≡ plan) }
     {
         shell.pack = PackState::Unbegun;
-        shell.tells_more = false;
+        shell.lists_gitmodules = false;
         QuarantinedPack {
-            job: Some(Job {
+            run: Some(PackRun {
                 rt,
                 shell,
                 plan,
-                bounds: said.bounds,
-                uris: said.uris,
+                shallow_updates: preamble.shallow_updates,
+                uris: preamble.uris,
                 has_uris: false,
-                told: None,
-                is_bounded: false,
+                output: None,
+                has_boundary: false,
                 count: 0,
                 is_unpacked: false,
             }),
@@ -649,31 +663,31 @@ impl<'a> PackPlace for QuarantinedPack<'a> {
     ghost gives_up = { λ p w q. ⊤ };
 
     fn begin(&mut self) -> io::Result<PackWriter<'a>> {
-        let Some(mut job) = self.job.take() else {
+        let Some(mut run) = self.run.take() else {
             return Err(io::Error::from(ErrorKind::Other));
         };
-        let stream = match job.prepare() {
-            Ok(()) => Stream::Header(Vec::new(job.rt.alloc())),
-            Err(e) => Stream::Failed(kind_of(&e)),
+        let stream = match run.prepare() {
+            Ok(()) => Stream::Header(Vec::new(run.rt.alloc())),
+            Err(e) => Stream::Failed(error_kind_of(&e)),
         };
-        Ok(PackWriter { job, stream })
+        Ok(PackWriter { run, stream })
     }
 
     fn keep(&mut self, writer: PackWriter<'a>) -> io::Result<()> {
-        let PackWriter { mut job, stream } = writer;
+        let PackWriter { mut run, stream } = writer;
         drop(stream);
-        match job.finish() {
+        match run.finish() {
             Ok(state) => {
-                job.shell.pack = state;
+                run.shell.pack = state;
                 Ok(())
             }
-            Err(e) => Err(io::Error::from(kind_of(&e))),
+            Err(e) => Err(io::Error::from(error_kind_of(&e))),
         }
     }
 
     fn give_up(&mut self, writer: PackWriter<'a>) {
-        let PackWriter { mut job, stream } = writer;
+        let PackWriter { mut run, stream } = writer;
         drop(stream);
-        let _ = job.shell.end(Task::Pack);
+        let _ = run.shell.end(ShellTask::Pack);
     }
 }

@@ -1,35 +1,36 @@
-//! What the shell starts programs over. Of the pipes to and from them the shell has one end each, and this program stands in the
-//! folder of the shell's open files (proc(5), `/proc/PID/fd`), so that each is a file there.
+//! The files over which the shell starts programs. The shell holds one end of each pipe. The
+//! working directory is the folder of the shell's open files (proc(5), `/proc/PID/fd`), so each
+//! pipe is a file there.
 
-/// The words that git started the helper with, and git's settings.
-pub(crate) const GIVEN: &str = "9";
+/// The startup input, and then git's configuration.
+pub(crate) const STARTUP: &str = "9";
 
 /// To the server.
-pub(crate) const HEARS: &str = "20";
+pub(crate) const TO_SERVER: &str = "20";
 
 /// From the server.
-pub(crate) const SAYS: &str = "21";
+pub(crate) const FROM_SERVER: &str = "21";
 
-/// From git, or another program, that is asked something.
-pub(crate) const TOLD: &str = "22";
+/// From git or another program that answers a question.
+pub(crate) const PROGRAM_OUTPUT: &str = "22";
 
-/// From git that lists refs.
+/// From git that lists the objects of refs.
 pub(crate) const REFS: &str = "23";
 
 /// From git that lists commits.
 pub(crate) const COMMITS: &str = "24";
 
-/// To git that indexes a pack.
-pub(crate) const PACK: &str = "25";
+/// To git that receives a pack.
+pub(crate) const PACK_INPUT: &str = "25";
 
-/// From git that indexes a pack.
-pub(crate) const KEPT: &str = "26";
+/// From git that receives a pack.
+pub(crate) const PACK_OUTPUT: &str = "26";
 
-/// To what looks whether git is still there.
+/// To the process that watches whether git still runs.
 pub(crate) const WATCHER: &str = "27";
 
-/// Ids that git reads: this is a file of the folder that was made last.
+/// The file of ids for git, in the last folder.
 pub(crate) const IDS: &str = "ids";
 
-/// The boundary that is to be written: this is a file of that folder too.
+/// The file of the new boundary, in the last folder.
 pub(crate) const BOUNDARY: &str = "boundary";

@@ -1,24 +1,24 @@
-//! Whether a pack follows where the server is ready (gitprotocol-v2, "fetch").
+//! Whether the pack follows the server's `ready` (gitprotocol-v2, "fetch").
 ghost use Rattle.std.specs.Prelude.{◌≡◌, ◌≢◌, codes, MatchResult};
-ghost use Rattle.gixp_remote_session.specs.Readied.{after_line, after_end};
-ghost use Rattle.gixp_remote_session.specs.Troubles.{TellsFatal};
+ghost use Rattle.gixp_remote_session.specs.Readiness.{after_line, after_end};
+ghost use Rattle.gixp_remote_session.specs.Errors.{ErrorIsFatal};
 
-use crate::trouble::Trouble;
+use crate::error::Error;
 use gix_protocol::transport::MessageKind;
 
-/// Whether the server is ready to send the pack, and what followed then.
+/// Whether the server is ready to send the pack.
 #[derive(Clone, Copy, Debug, PartialEq, Eq)]
 pub(crate) enum Readiness {
     /// It isn't ready.
     Unready,
-    /// It is. A delimiter packet and the pack are to follow.
+    /// It is ready: a delimiter packet and the pack must follow.
     Ready,
-    /// Another packet followed, or the stream ended.
+    /// Another packet followed `ready`, or the stream ended.
     PackMissing,
 }
 
 impl Readiness {
-    /// After a line of the server.
+    /// The state after a line.
     pub(crate) fn after_line(self, line: &[u8]) -> Readiness
         ensures { result ≡ after_line self line.now }
     {
@@ -35,7 +35,8 @@ impl Readiness {
         }
     }
 
-    /// After the end of lines: the packet that ended them, or none where the stream ended.
+    /// The state after the end of the lines: a flush, delimiter or response-end packet, or `None`
+    /// if the stream ended.
     pub(crate) fn after_end(self, stop: Option<MessageKind>) -> Readiness
         ensures { result ≡ after_end self stop }
     {
@@ -47,13 +48,13 @@ impl Readiness {
         }
     }
 
-    /// Fails where the pack is missing.
-    pub(crate) fn expect_pack(self) -> Result<(), Trouble>
+    /// Fails if the pack is missing.
+    pub(crate) fn expect_pack(self) -> Result<(), Error>
         ensures { MatchResult result (λ _. self ≢ Readiness.PackMissing)
-            (λ e. (self ≡ Readiness.PackMissing) × TellsFatal (codes "expected packfile to be sent after 'ready'") e) }
+            (λ e. (self ≡ Readiness.PackMissing) × ErrorIsFatal (codes "expected packfile to be sent after 'ready'") e) }
     {
         if self == Readiness::PackMissing {
-            Err(Trouble::Fatal("expected packfile to be sent after 'ready'"))
+            Err(Error::Fatal("expected packfile to be sent after 'ready'"))
         } else {
             Ok(())
         }

@@ -1,17 +1,17 @@
-//! The session id that a server may log, in git's form (git-config, "transfer.advertiseSID").
+//! The session id, which a server may log, in git's form (git-config, "transfer.advertiseSID").
+use crate::error::Error;
 use crate::setup::variable;
-use crate::trouble::Trouble;
 use gixp_remote_rules::{Settings, is_true};
 use jiff::Timestamp;
 use sha1::Sha1;
 use std::alloc::Global;
 use std::{fs, process};
 
-// The file of the host's name, with an LF behind it.
+// The file with the host name. A line feed ends it.
 const HOST_NAME: &str = "/proc/sys/kernel/hostname";
 
-// The host, by the first digits of the SHA-1 of its name.
-fn host_part(rt: &HostRuntime) -> Result<String, Trouble> {
+// The part for the host: the first digits of the SHA-1 of its name.
+fn host_part(rt: &HostRuntime) -> Result<String, Error> {
     let alloc = rt.alloc();
     let Ok(line) = fs::read(rt, HOST_NAME) else {
         return Ok(String::from_str(alloc, "Localhost")?);
@@ -21,10 +21,10 @@ fn host_part(rt: &HostRuntime) -> Result<String, Trouble> {
     Ok(format!(in alloc; "H{a:02x}{b:02x}{c:02x}{d:02x}")?)
 }
 
-// The time in UTC to the microsecond, the host, and the number of this process.
-fn own_part(rt: &HostRuntime) -> Result<String, Trouble> {
+// The time in UTC with microseconds, the host, and the id of this process.
+fn own_part(rt: &HostRuntime) -> Result<String, Error> {
     let alloc = rt.alloc();
-    let unread = Trouble::Other("the clock can't be read");
+    let unread = Error::Other("the clock can't be read");
     let Ok(now) = Timestamp::now(rt) else {
         return Err(unread);
     };
@@ -36,19 +36,20 @@ fn own_part(rt: &HostRuntime) -> Result<String, Trouble> {
     Ok(format!(in alloc; "{time}-{host}-P{number:08x}")?)
 }
 
-// Whether the user has it sent.
-fn is_wanted(alloc: Global, settings: &Settings) -> Result<bool, Trouble> {
+// Whether the user has the id sent.
+fn is_wanted(alloc: Global, settings: &Settings) -> Result<bool, Error> {
     let Some(chosen) = settings.last(b"transfer.advertisesid") else {
         return Ok(false);
     };
     match is_true(chosen) {
         Some(is_wanted) => Ok(is_wanted),
-        None => Err(Trouble::of_word(alloc, "bad boolean value of", chosen.name.as_bytes())),
+        None => Err(Error::with_text(alloc, "bad boolean value of", chosen.name.as_bytes())),
     }
 }
 
-/// The id of this session where the user has it sent: behind that of the git which started this helper, where that has one.
-pub(crate) fn session_id(rt: &HostRuntime, settings: &Settings) -> Result<Option<String>, Trouble> {
+/// The session id, if the user has it sent. It follows the session id of the git process that
+/// started the helper, if that has one.
+pub(crate) fn session_id(rt: &HostRuntime, settings: &Settings) -> Result<Option<String>, Error> {
     let alloc = rt.alloc();
     if !is_wanted(alloc, settings)? {
         return Ok(None);

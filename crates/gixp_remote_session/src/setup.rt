@@ -1,23 +1,23 @@
-//! What the helper begins with: the URL, variables and settings.
+//! The input of the helper at startup: the URL, environment variables and configuration.
 ghost use Rattle.std.specs.Prelude.{◌≡◌, string_bytes};
 ghost use Rattle.std.specs.Option.{option_map};
-ghost use Rattle.gixp_remote_session.specs.UserChoices.{can_erase};
-ghost use Rattle.gixp_remote_session.specs.UserChoices.{version_by, IsNamedHaves, haves_set};
+ghost use Rattle.gixp_remote_session.specs.UserConfig.{can_erase};
+ghost use Rattle.gixp_remote_session.specs.UserConfig.{choose_version, IsNamedHaves, haves_by_setting};
 ghost use Rattle.gixp_remote_session.specs.Version.{protocol_of, version_word};
 
-use crate::pipes::GIVEN;
+use crate::error::Error;
+use crate::pipes::STARTUP;
 use crate::shell::Shell;
-use crate::trouble::Trouble;
 use gix_protocol::fetch::negotiate::Algorithm;
 use gix_protocol::transport::Protocol;
-use gixp_fetch_local::Haves;
-use gixp_remote_rules::{Request, Settings, Task, Within, within_of};
+use gixp_fetch_common::Haves;
+use gixp_remote_rules::{Settings, ShellRequest, ShellTask, Within, within_of};
 use std::alloc::Global;
 use std::env;
 use std::fs::File;
 use std::io::{BufRead, BufReader, Read};
 
-/// A variable of the environment, none where it isn't set.
+/// An environment variable. `None` if it isn't set, or isn't UTF-8.
 pub(crate) fn variable(rt: &HostRuntime, name: &str) -> Option<String> {
     match env::var(rt, name) {
         Ok(value) => Some(value),
@@ -25,7 +25,6 @@ pub(crate) fn variable(rt: &HostRuntime, name: &str) -> Option<String> {
     }
 }
 
-/// Its bytes.
 pub(crate) fn bytes_of(value: &Option<String>) -> Option<&[u8]>
     ensures { option_map (λ b. b.now) result ≡ option_map string_bytes value.now }
 {
@@ -35,62 +34,63 @@ pub(crate) fn bytes_of(value: &Option<String>) -> Option<&[u8]>
     }
 }
 
-/// What another helper waits for that had git start this one.
+/// The work of an outer helper that made git start this one.
 pub(crate) fn within(rt: &HostRuntime) -> Within {
     within_of(bytes_of(&variable(rt, "GIXP_WITHIN")))
 }
 
-/// What the shell says before anything is asked: the words that git started it with, and this program's.
+/// The input of the helper at startup: git's arguments, and the helper's own.
 #[derive(Drop)]
-pub(crate) struct Given {
-    /// The name that git has for the server.
+pub(crate) struct StartupInput {
+    /// git's name of the remote.
     pub(crate) name: Vec<u8>,
-    /// The URL. It comes over a pipe, since others see a program's words.
+    /// The URL. It is sent over a pipe, since other users can see the arguments of a program.
     pub(crate) url: Vec<u8>,
-    // The pipe over which these came, and git's settings come.
-    told: BufReader<File>,
-    /// The mark of the helper, which is in the names of its folders and in its locks.
+    // The pipe with these values and git's configuration.
+    pipe: BufReader<File>,
+    /// A text that is unique to this helper. The names of its folders and its locks have it.
     pub(crate) mark: String,
     /// The pipe to the shell.
     pub(crate) requests: String,
-    /// The pipe from it.
+    /// The pipe from the shell.
     pub(crate) answers: String,
-    /// Whether standard error is a terminal in which the rest of a line can be erased.
+    /// Whether standard error is a terminal that can erase the rest of a line.
     pub(crate) erases: bool,
 }
 
-// Whether a terminal of this name can erase the rest of a line, as git has it. Standard error that is none has no name.
+// Whether git would erase the rest of a line in this terminal. The name is empty if standard error
+// isn't a terminal.
 fn can_erase(terminal: &[u8]) -> bool
     ensures { result ≡ can_erase terminal.now }
 {
     !terminal.is_empty() && terminal != b"dumb".as_slice()
 }
 
-// A field, which a zero byte ends.
-fn field(alloc: Global, told: &mut BufReader<File>) -> Result<Vec<u8>, Trouble> {
+// A field, which a NUL byte ends.
+fn field(alloc: Global, pipe: &mut BufReader<File>) -> Result<Vec<u8>, Error> {
     let mut field = Vec::new(alloc);
-    told.read_until(0, &mut field)?;
+    pipe.read_until(0, &mut field)?;
     field.pop();
     Ok(field)
 }
 
-/// What the shell says before anything is asked.
-pub(crate) fn read_given(rt: &HostRuntime) -> Result<Given, Trouble> {
+/// Reads the input at startup.
+pub(crate) fn read_startup(rt: &HostRuntime) -> Result<StartupInput, Error> {
     let alloc = rt.alloc();
-    let mut words = env::args(rt)?.skip(1);
+    let mut argv = env::args(rt)?.skip(1);
     let (Some(mark), Some(terminal), Some(requests), Some(answers)) = (
-        words.next(),
-        words.next(),
-        words.next(),
-        words.next(),
+        argv.next(),
+        argv.next(),
+        argv.next(),
+        argv.next(),
     ) else {
-        return Err(Trouble::Other("this program is started by git-remote-gixp"));
+        return Err(Error::Other("this program is started by git-remote-gixp"));
     };
-    let mut told = BufReader::new(alloc, File::open(rt, GIVEN)?)?;
-    Ok(Given {
-        name: field(alloc, &mut told)?,
-        url: field(alloc, &mut told)?,
-        told,
+    let mut pipe = BufReader::new(alloc, File::open(rt, STARTUP)?)?;
+    Ok(StartupInput {
+        name: field(alloc, &mut pipe)?,
+        url: field(alloc, &mut pipe)?,
+        pipe,
         mark,
         requests,
         answers,
@@ -98,30 +98,30 @@ pub(crate) fn read_given(rt: &HostRuntime) -> Result<Given, Trouble> {
     })
 }
 
-/// The user's settings, which come after the words.
+/// Reads the user's configuration, which follows the fields.
 pub(crate) fn read_settings(
     alloc: Global,
-    given: &mut Given,
+    startup: &mut StartupInput,
     shell: &mut Shell,
-) -> Result<Settings, Trouble> {
+) -> Result<Settings, Error> {
     let mut text = Vec::new(alloc);
-    given.told.read_to_end(&mut text)?;
-    if shell.ask(&Request::Status(Task::Settings))? == 0 {
+    startup.pipe.read_to_end(&mut text)?;
+    if shell.ask(&ShellRequest::Status(ShellTask::Settings))? == 0 {
         Ok(Settings::read(alloc, &text)?)
     } else {
-        Err(Trouble::Other("git can't read its settings"))
+        Err(Error::Other("git can't read its configuration"))
     }
 }
 
-/// The version of the protocol that is asked for.
+/// The version of the protocol to request.
 pub(crate) fn version_of(rt: &HostRuntime, settings: &Settings) -> Protocol {
     let word = variable(rt, "GIXP_VERSION");
-    version_by(bytes_of(&word), settings.value(b"protocol.version"))
+    choose_version(bytes_of(&word), settings.value(b"protocol.version"))
 }
 
-// The version that the variable names, or else the setting.
-fn version_by(variable: Option<&[u8]>, setting: Option<&[u8]>) -> Protocol
-    ensures { result ≡ version_by (option_map (λ w. w.now) variable.entry) (option_map (λ w. w.now) setting.entry) }
+// The version that the variable names, else the setting.
+fn choose_version(variable: Option<&[u8]>, setting: Option<&[u8]>) -> Protocol
+    ensures { result ≡ choose_version (option_map (λ w. w.now) variable.entry) (option_map (λ w. w.now) setting.entry) }
 {
     match (variable, setting) {
         (Some(word), _) | (None, Some(word)) => protocol_of(word),
@@ -129,7 +129,7 @@ fn version_by(variable: Option<&[u8]>, setting: Option<&[u8]>) -> Protocol
     }
 }
 
-// The version that a word names.
+// The version of this name.
 fn protocol_of(word: &[u8]) -> Protocol
     ensures { result ≡ protocol_of word.now }
 {
@@ -142,7 +142,7 @@ fn protocol_of(word: &[u8]) -> Protocol
     }
 }
 
-/// The text of a version where it isn't 0.
+/// The text of a version. `None` for version 0.
 pub(crate) fn version_word(version: Protocol) -> Option<&'static [u8]>
     ensures { option_map (λ w. w.now) result ≡ version_word version }
 {
@@ -153,15 +153,15 @@ pub(crate) fn version_word(version: Protocol) -> Option<&'static [u8]>
     }
 }
 
-/// Who chooses the haves.
-pub(crate) fn haves_of(rt: &HostRuntime, settings: &Settings) -> Haves {
+/// How the haves are chosen.
+pub(crate) fn choose_haves(rt: &HostRuntime, settings: &Settings) -> Haves {
     match variable(rt, "GIXP_NEGOTIATOR") {
         Some(word) => named_haves(word.as_str()),
-        None => haves_set(settings.value(b"fetch.negotiationalgorithm")),
+        None => haves_by_setting(settings.value(b"fetch.negotiationalgorithm")),
     }
 }
 
-// The algorithm of this name, or git's own order.
+// The algorithm of this name, else git's own order.
 fn named_haves(name: &str) -> Haves
     ensures { IsNamedHaves name.now result }
 {
@@ -171,9 +171,9 @@ fn named_haves(name: &str) -> Haves
     }
 }
 
-// Who the setting chooses.
-fn haves_set(setting: Option<&[u8]>) -> Haves
-    ensures { result ≡ haves_set (option_map (λ w. w.now) setting.entry) }
+// The algorithm that the setting names, else git's own order.
+fn haves_by_setting(setting: Option<&[u8]>) -> Haves
+    ensures { result ≡ haves_by_setting (option_map (λ w. w.now) setting.entry) }
 {
     let Some(text) = setting else {
         return Haves::InOrder;

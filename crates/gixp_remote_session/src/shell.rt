@@ -1,50 +1,51 @@
-//! The shell beside the program: it starts and ends programs, and answers each request with a number.
+//! The shell that starts and ends programs. It answers each request with a number.
 ghost use Rattle.std.specs.Prelude.{◌≡◌, IfOk, map};
 ghost use Rattle.bstr.specs.Owned.{bstring_bytes};
 
+use crate::error::Error;
 use crate::pack::PackState;
-use crate::pipes::{TOLD, WATCHER};
-use crate::trouble::Trouble;
+use crate::pipes::{PROGRAM_OUTPUT, WATCHER};
 use bstr::BString;
 use gixp_remote_rules::{
-    Program, Question, Request, Start, Task, question_variables, question_words, read_answer, send,
+    Program, Question, ShellRequest, ShellTask, Start, question_argv, question_variables,
+    read_answer, write_request,
 };
 use std::alloc::Global;
 use std::fs;
 use std::fs::{File, OpenOptions};
 use std::io::{BufReader, Write};
 
-/// What a program reads where it is to read nothing.
+/// Standard input of a program that reads nothing.
 pub(crate) const NOTHING: &str = "/dev/null";
 
-/// The shell, by the pipes to it and from it.
+/// The shell, and the pipes to it and from it.
 #[derive(Drop)]
 pub(crate) struct Shell {
     alloc: Global,
     requests: File,
     answers: BufReader<File>,
-    // How many requests have no answer yet.
+    // The number of requests without an answer.
     unanswered: u64,
-    // The pipe to its watcher.
+    // The pipe to the process that watches git.
     watcher: File,
-    // Whether git was asked for the places of the repository, and nothing else since then.
-    asks_places: bool,
-    /// What became of the pack that git was given last.
+    // Whether git was asked for the paths of the repository, and the answer wasn't read yet.
+    asks_paths: bool,
+    /// The state of the last pack.
     pub(crate) pack: PackState,
-    /// Whether git told of a `.gitmodules` whose contents aren't in the pack that it looked at.
-    pub(crate) tells_more: bool,
+    /// Whether git listed a `.gitmodules` file that is not in its pack.
+    pub(crate) lists_gitmodules: bool,
 }
 
-/// What a program said, and its status.
+/// The output of a program, and its exit status.
 #[derive(Drop)]
-pub(crate) struct Told {
+pub(crate) struct Output {
     pub(crate) status: u32,
     pub(crate) text: Vec<u8>,
 }
 
 impl Shell {
     /// Opens the pipes to the shell and from it.
-    pub(crate) fn open(rt: &HostRuntime, requests: &str, answers: &str) -> Result<Shell, Trouble> {
+    pub(crate) fn open(rt: &HostRuntime, requests: &str, answers: &str) -> Result<Shell, Error> {
         let alloc = rt.alloc();
         let requests = OpenOptions::new().write(true).open(rt, requests)?;
         let answers = BufReader::new(alloc, File::open(rt, answers)?)?;
@@ -54,21 +55,21 @@ impl Shell {
             answers,
             unanswered: 0,
             watcher: OpenOptions::new().write(true).open(rt, WATCHER)?,
-            asks_places: false,
+            asks_paths: false,
             pack: PackState::Unbegun,
-            tells_more: false,
+            lists_gitmodules: false,
         })
     }
 
-    /// Makes a request, without waiting for its answer.
-    pub(crate) fn send(&mut self, request: &Request<'_>) -> Result<(), Trouble> {
-        send(self.alloc, &mut self.requests, request)?;
+    /// Sends a request. Doesn't wait for the answer.
+    pub(crate) fn send(&mut self, request: &ShellRequest<'_>) -> Result<(), Error> {
+        write_request(self.alloc, &mut self.requests, request)?;
         self.unanswered = self.unanswered.saturating_add(1);
         Ok(())
     }
 
-    /// Waits for the answers to all that was sent, and gives the last.
-    pub(crate) fn settle(&mut self) -> Result<u32, Trouble> {
+    /// Waits for the answers to all requests, and returns the last.
+    pub(crate) fn wait_answers(&mut self) -> Result<u32, Error> {
         let count = self.unanswered;
         self.unanswered = 0;
         let mut last = 0;
@@ -78,101 +79,104 @@ impl Shell {
         Ok(last)
     }
 
-    /// Makes a request, and waits for its answer.
-    pub(crate) fn ask(&mut self, request: &Request<'_>) -> Result<u32, Trouble> {
+    /// Sends a request, and waits for the answer.
+    pub(crate) fn ask(&mut self, request: &ShellRequest<'_>) -> Result<u32, Error> {
         self.send(request)?;
-        self.settle()
+        self.wait_answers()
     }
 
-    /// Has the watcher look whether git is there, from now on while git waits.
-    pub(crate) fn watch(&mut self) -> Result<(), Trouble> {
+    /// From now on the helper ends if git exits.
+    pub(crate) fn start_watch(&mut self) -> Result<(), Error> {
         self.watcher.write_all(b"watch\n")?;
         Ok(())
     }
 
-    /// Lets the watcher rest, before git is told what it waits for.
-    pub(crate) fn rest(&mut self) -> Result<(), Trouble> {
+    /// Ends that. Called before the helper writes to git, which may write then.
+    pub(crate) fn stop_watch(&mut self) -> Result<(), Error> {
         self.watcher.write_all(b"rest\n")?;
         Ok(())
     }
 
-    /// Ends a program, if it runs.
-    pub(crate) fn end(&mut self, task: Task) -> Result<(), Trouble> {
-        self.ask(&Request::End(task))?;
+    /// Kills a program, if it runs.
+    pub(crate) fn end(&mut self, task: ShellTask) -> Result<(), Error> {
+        self.ask(&ShellRequest::End(task))?;
         Ok(())
     }
 
-    /// Reads what a program says that was begun for it, and waits for its status.
-    pub(crate) fn told(&mut self, rt: &HostRuntime, task: Task) -> Result<Told, Trouble> {
-        self.settle()?;
-        self.asks_places = false;
-        let text = fs::read(rt, TOLD)?;
-        let status = self.ask(&Request::Status(task))?;
-        Ok(Told { status, text })
+    /// Reads the output of a program that was started, and waits for its exit status.
+    pub(crate) fn read_output(
+        &mut self,
+        rt: &HostRuntime,
+        task: ShellTask,
+    ) -> Result<Output, Error> {
+        self.wait_answers()?;
+        self.asks_paths = false;
+        let text = fs::read(rt, PROGRAM_OUTPUT)?;
+        let status = self.ask(&ShellRequest::Status(task))?;
+        Ok(Output { status, text })
     }
 
-    /// Has git begin to tell the places of the repository, unless it did already.
-    pub(crate) fn ask_places(&mut self) -> Result<(), Trouble> {
-        if !self.asks_places {
-            self.begin_git(Question::Places)?;
-            self.asks_places = true;
+    /// Asks git for the paths of the repository, unless that was done.
+    pub(crate) fn ask_paths(&mut self) -> Result<(), Error> {
+        if !self.asks_paths {
+            self.start_question(Question::Paths)?;
+            self.asks_paths = true;
         }
         Ok(())
     }
 
-    // Has git begin to tell something, without waiting until it does.
-    fn begin_git(&mut self, question: Question<'_>) -> Result<(), Trouble> {
-        let words = question_words(self.alloc, question)?;
+    // Starts a question to git. Doesn't wait for the answer.
+    fn start_question(&mut self, question: Question<'_>) -> Result<(), Error> {
+        let argv = question_argv(self.alloc, question)?;
         let variables = question_variables(self.alloc, &[])?;
-        self.send(&Request::Start(Start {
-            task: Task::Question,
+        self.send(&ShellRequest::Start(Start {
+            task: ShellTask::Question,
             program: Program::Git,
             input: NOTHING,
-            output: TOLD,
+            output: PROGRAM_OUTPUT,
             variables: &variables,
-            words: &words,
+            argv: &argv,
         }))
     }
 
-    /// Runs a program, and waits for what it says and its status.
-    pub(crate) fn tell(
+    /// Runs a program, and waits for its output and exit status.
+    pub(crate) fn run(
         &mut self,
         rt: &HostRuntime,
-        task: Task,
+        task: ShellTask,
         program: Program,
         input: &str,
         variables: &[BString],
-        words: &[BString],
-    ) -> Result<Told, Trouble> {
+        argv: &[BString],
+    ) -> Result<Output, Error> {
         let start = Start {
             task,
             program,
             input,
-            output: TOLD,
+            output: PROGRAM_OUTPUT,
             variables,
-            words,
+            argv,
         };
-        self.send(&Request::Start(start))?;
-        self.told(rt, task)
+        self.send(&ShellRequest::Start(start))?;
+        self.read_output(rt, task)
     }
 
-    /// Asks git, and waits for what it says and its status.
-    pub(crate) fn git(
+    /// Asks git a question, and waits for the answer.
+    pub(crate) fn ask_git(
         &mut self,
         rt: &HostRuntime,
         question: Question<'_>,
-    ) -> Result<Told, Trouble> {
-        self.begin_git(question)?;
-        self.told(rt, Task::Question)
+    ) -> Result<Output, Error> {
+        self.start_question(question)?;
+        self.read_output(rt, ShellTask::Question)
     }
 }
 
-/// Words of their own.
-pub(crate) fn owned(alloc: Global, words: &[&[u8]]) -> Result<Vec<BString>, Trouble>
-    ensures { IfOk result (λ all. map bstring_bytes all.items ≡ map (λ w. w.now) words.now) }
+pub(crate) fn owned_argv(alloc: Global, argv: &[&[u8]]) -> Result<Vec<BString>, Error>
+    ensures { IfOk result (λ all. map bstring_bytes all.items ≡ map (λ w. w.now) argv.now) }
 {
     let mut all = Vec::new(alloc);
-    for word in words {
+    for word in argv {
         all.push(BString::from_slice(alloc, *word)?)?;
     }
     Ok(all)

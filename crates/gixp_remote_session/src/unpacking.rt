@@ -1,32 +1,32 @@
-//! Which packs are unpacked, by the user's settings (git-config, "fetch.unpackLimit", "transfer.unpackLimit").
-use crate::order::Order;
+//! The unpack limit of the user (git-config, "fetch.unpackLimit", "transfer.unpackLimit").
+use crate::error::Error;
+use crate::job::FetchJob;
 use crate::shell::Shell;
-use crate::trouble::Trouble;
-use gixp_remote_rules::{Question, limit_by, limit_in, may_unpack};
+use gixp_remote_rules::{Question, may_unpack, parse_limit, unpack_limit};
 
-// The limit that a setting names, as git reads its number. git says why it can't.
-fn limit_set(order: Order<'_, '_>, shell: &mut Shell, name: &[u8]) -> Result<Option<u32>, Trouble> {
-    if order.reach.settings.last(name).is_none() {
+// The limit of a setting. git parses the number, and reports an error itself.
+fn read_limit(job: FetchJob<'_, '_>, shell: &mut Shell, name: &[u8]) -> Result<Option<u32>, Error> {
+    if job.context.settings.last(name).is_none() {
         return Ok(None);
     }
-    let told = shell.git(order.reach.rt, Question::Number(name))?;
-    if told.status == 0 {
-        Ok(limit_in(&told.text))
+    let output = shell.ask_git(job.context.rt, Question::Number(name))?;
+    if output.status == 0 {
+        Ok(parse_limit(&output.text))
     } else {
-        Err(Trouble::Told)
+        Err(Error::AlreadyReported)
     }
 }
 
-/// Below how many objects a pack is unpacked; none where each is kept.
-pub(crate) fn limit_of(
-    order: Order<'_, '_>,
+/// A pack with fewer objects is unpacked. `None` keeps every pack.
+pub(crate) fn choose_limit(
+    job: FetchJob<'_, '_>,
     shell: &mut Shell,
     has_checks: bool,
-) -> Result<Option<u32>, Trouble> {
-    if !may_unpack(order.choices, has_checks) {
+) -> Result<Option<u32>, Error> {
+    if !may_unpack(job.options, has_checks) {
         return Ok(None);
     }
-    let transfer = limit_set(order, shell, b"transfer.unpacklimit")?;
-    let fetch = limit_set(order, shell, b"fetch.unpacklimit")?;
-    Ok(Some(limit_by(transfer, fetch)))
+    let transfer = read_limit(job, shell, b"transfer.unpacklimit")?;
+    let fetch = read_limit(job, shell, b"fetch.unpacklimit")?;
+    Ok(Some(unpack_limit(transfer, fetch)))
 }

@@ -1,70 +1,69 @@
-//! The packs that the server names by URIs in place of objects in its pack (gitprotocol-v2, "packfile-uris"; git's "Packfile URIs"): what
-//! it says of them, and their downloads by git. A download goes where the server's pack is, and no object is used before all are there.
+//! The packs that the server names by URIs (gitprotocol-v2, "packfile-uris"; git's "Packfile
+//! URIs"), and their downloads by git. They are downloaded into the quarantine of the server's
+//! pack. No object is used before all packs are present.
 ghost use Rattle.std.specs.Prelude.{◌≡◌, IfSome};
-ghost use Rattle.gixp_remote_session.specs.Downloads.{protocols_of, AreParts, why_none, hash_of};
-ghost use Rattle.gixp_remote_session.specs.Troubles.{TellsFatal};
+ghost use Rattle.gixp_remote_session.specs.Downloads.{protocols_of, AreParts, download_error, own_pack};
+ghost use Rattle.gixp_remote_session.specs.Errors.{ErrorIsFatal};
 
-use crate::order::Order;
+use crate::error::Error;
+use crate::job::FetchJob;
 use crate::pack::{PackPlan, PackState};
 use crate::setup::within;
 use crate::shell::{NOTHING, Shell};
-use crate::trouble::Trouble;
 use bstr::BString;
 use gix_protocol::client::UriProtocols;
 use gix_protocol::transport::ObjectId;
 use gixp_packfile_uris::UriSink;
 use gixp_remote_rules::{
-    DownloadError, Program, Task, UriSetting, check_words, download_words, downloaded, is_named,
-    joined, pack_file, pack_variables, part_words, tells_more,
+    DownloadError, Program, ShellTask, UriSetting, concat, download_argv, downloaded_pack,
+    fsck_pack_argv, has_pack_name, lists_gitmodules, pack_file, pack_variables, part_argv,
 };
 use std::alloc::Global;
 use std::cell::RefCell;
 use std::{fs, mem};
 
-// What is said of a section that was refused.
+// The error text for a section that is refused.
 const BAD_LINE: &str = "expected '<hash> <uri>' in each line of the section packfile-uris";
 
-/// What the server says of URIs.
+/// The section `packfile-uris` of a response.
 #[derive(Drop)]
 pub(crate) struct Uris {
-    // The lines of its section, each the name of a pack, a space and a URI.
+    // Its lines: the hash of a pack, a space and a URI.
     lines: Vec<BString>,
-    // Whether one is missing, since an allocation failed.
-    is_cut: bool,
-    // Whether a line of it was refused.
+    // Whether a line is missing, since an allocation failed.
+    is_incomplete: bool,
+    // Whether a line was refused.
     is_refused: bool,
 }
 
 impl Uris {
-    /// Nothing is said.
     pub(crate) fn new(alloc: Global) -> Uris {
         Uris {
             lines: Vec::new(alloc),
-            is_cut: false,
+            is_incomplete: false,
             is_refused: false,
         }
     }
 
-    // Notes a line.
     fn add(&mut self, alloc: Global, line: &[u8]) {
         let is_kept = match BString::from_slice(alloc, line) {
             Ok(line) => self.lines.push(line).is_ok(),
             Err(_) => false,
         };
         if !is_kept {
-            self.is_cut = true;
+            self.is_incomplete = true;
         }
     }
 }
 
-/// Where the reader of a server puts these lines.
+/// The sink for the lines of the section.
 #[derive(Drop)]
-pub(crate) struct Noted<'a> {
+pub(crate) struct UriRecorder<'a> {
     pub(crate) alloc: Global,
     pub(crate) uris: &'a RefCell<Uris>,
 }
 
-impl UriSink for Noted<'_> {
+impl UriSink for UriRecorder<'_> {
     fn take(&mut self, line: &[u8]) {
         if let Ok(mut uris) = self.uris.try_borrow_mut() {
             uris.add(self.alloc, line);
@@ -72,48 +71,48 @@ impl UriSink for Noted<'_> {
     }
 }
 
-/// Notes that a line of the section was refused.
-pub(crate) fn note_refusal(uris: &RefCell<Uris>) {
+/// Records that a line was refused.
+pub(crate) fn record_refusal(uris: &RefCell<Uris>) {
     if let Ok(mut uris) = uris.try_borrow_mut() {
         uris.is_refused = true;
     }
 }
 
-/// Forgets what was said.
-pub(crate) fn forget_uris(uris: &RefCell<Uris>) {
+/// Removes all lines.
+pub(crate) fn clear_uris(uris: &RefCell<Uris>) {
     if let Ok(mut uris) = uris.try_borrow_mut() {
         uris.lines.clear();
-        uris.is_cut = false;
+        uris.is_incomplete = false;
         uris.is_refused = false;
     }
 }
 
-/// Fails where a line of the section was refused.
-pub(crate) fn expect_lines(uris: &RefCell<Uris>) -> Result<(), Trouble> {
+/// Fails if a line was refused.
+pub(crate) fn expect_lines(uris: &RefCell<Uris>) -> Result<(), Error> {
     match uris.try_borrow() {
-        Ok(uris) if uris.is_refused => Err(Trouble::Fatal(BAD_LINE)),
+        Ok(uris) if uris.is_refused => Err(Error::Fatal(BAD_LINE)),
         _ => Ok(()),
     }
 }
 
 /// Whether the server named packs by URIs.
-pub(crate) fn are_named(uris: &RefCell<Uris>) -> bool {
+pub(crate) fn has_uris(uris: &RefCell<Uris>) -> bool {
     match uris.try_borrow() {
-        Ok(uris) => uris.is_cut || !uris.lines.is_empty(),
+        Ok(uris) => uris.is_incomplete || !uris.lines.is_empty(),
         Err(_) => false,
     }
 }
 
-// The lines, which are taken.
-fn take_lines(alloc: Global, uris: &RefCell<Uris>) -> Result<Vec<BString>, Trouble> {
+// Takes the lines out.
+fn take_lines(alloc: Global, uris: &RefCell<Uris>) -> Result<Vec<BString>, Error> {
     match uris.try_borrow_mut() {
-        Ok(uris) if uris.is_cut => Err(Trouble::Memory),
+        Ok(uris) if uris.is_incomplete => Err(Error::Memory),
         Ok(mut uris) => Ok(mem::replace(&mut uris.lines, Vec::new(alloc))),
         Err(_) => Ok(Vec::new(alloc)),
     }
 }
 
-/// The protocols that a server is asked to use.
+/// The protocols of URIs to request.
 pub(crate) fn protocols_of(setting: UriSetting) -> UriProtocols
     ensures { result ≡ protocols_of setting.http setting.https }
 {
@@ -125,7 +124,7 @@ pub(crate) fn protocols_of(setting: UriSetting) -> UriProtocols
     }
 }
 
-// The name of a pack and the URI of a line.
+// The hash of a pack and the URI in a line.
 fn parts_of(line: &[u8]) -> Option<(&[u8], &[u8])>
     ensures { IfSome result (λ parts. AreParts line.now parts.0.now parts.1.now) }
 {
@@ -138,121 +137,130 @@ fn parts_of(line: &[u8]) -> Option<(&[u8], &[u8])>
     }
 }
 
-// A pack that the server names.
+// A pack that the server names by a URI.
 #[derive(Clone, Copy)]
-struct Named<'a> {
+struct NamedPack<'a> {
     name: &'a [u8],
     uri: &'a [u8],
 }
 
-// The packs of the lines, each over a protocol that the user allows.
-fn named_by<'a>(
+// The packs of the lines. Fails if the user doesn't allow the protocol of a URI.
+fn named_packs<'a>(
     alloc: Global,
     setting: UriSetting,
     lines: &'a [BString],
-) -> Result<Vec<Named<'a>>, Trouble> {
+) -> Result<Vec<NamedPack<'a>>, Error> {
     let mut all = Vec::new(alloc);
     for line in lines {
         let Some((name, uri)) = parts_of(line.as_bytes()) else {
-            return Err(Trouble::Fatal(BAD_LINE));
+            return Err(Error::Fatal(BAD_LINE));
         };
         if !setting.allows(uri) {
-            return Err(Trouble::of_word(
+            return Err(Error::with_text(
                 alloc,
                 "fetch.uriProtocols doesn't have the protocol of the server's URI",
                 uri,
             ));
         }
-        all.push(Named { name, uri })?;
+        all.push(NamedPack { name, uri })?;
     }
     Ok(all)
 }
 
-// Why a download isn't the pack that the server named, as git says it.
-fn mismatch(alloc: Global, named: Named<'_>) -> Trouble {
+// The error if a download isn't the pack that the server named, in git's words.
+fn mismatch(alloc: Global, named: NamedPack<'_>) -> Error {
     match (
         BString::from_slice(alloc, named.uri),
         BString::from_slice(alloc, named.name),
     ) {
-        (Ok(uri), Ok(name)) => Trouble::Mismatch(uri, name),
-        _ => Trouble::Memory,
+        (Ok(uri), Ok(name)) => Error::Mismatch(uri, name),
+        _ => Error::Memory,
     }
 }
 
-// What git says of a download that failed.
-fn why_none(e: DownloadError) -> Trouble
-    ensures { TellsFatal (why_none e) result }
+// The error of a download, in git's words.
+fn download_error(e: DownloadError) -> Error
+    ensures { ErrorIsFatal (download_error e) result }
 {
     match e {
-        DownloadError::NoLock => Trouble::Fatal(
+        DownloadError::NoLock => Error::Fatal(
             "fetch-pack: expected keep then TAB at start of http-fetch output",
         ),
-        DownloadError::NoName => Trouble::Fatal(
+        DownloadError::NoName => Error::Fatal(
             "fetch-pack: expected hash then LF at end of http-fetch output",
         ),
-        DownloadError::Unfinished => Trouble::Fatal("fetch-pack: unable to finish http-fetch"),
+        DownloadError::Unfinished => Error::Fatal("fetch-pack: unable to finish http-fetch"),
     }
 }
 
-// How git downloads packs.
+// The settings of all downloads.
 #[derive(Clone, Copy)]
-struct Way<'a> {
+struct Downloader<'a> {
     rt: &'a HostRuntime,
-    // The words of git that indexes each.
-    words: &'a [BString],
+    // The arguments of `git index-pack`.
+    argv: &'a [BString],
     variables: &'a [BString],
 }
 
-// Has git download a pack.
-fn download(way: Way<'_>, shell: &mut Shell, named: Named<'_>) -> Result<ObjectId, Trouble> {
-    let alloc = way.rt.alloc();
-    let words = download_words(alloc, named.name, way.words, named.uri)?;
-    let told = shell.tell(
-        way.rt,
-        Task::Question,
+// Downloads a pack.
+fn download(
+    downloader: Downloader<'_>,
+    shell: &mut Shell,
+    named: NamedPack<'_>,
+) -> Result<ObjectId, Error> {
+    let alloc = downloader.rt.alloc();
+    let argv = download_argv(alloc, named.name, downloader.argv, named.uri)?;
+    let output = shell.run(
+        downloader.rt,
+        ShellTask::Question,
         Program::Git,
         NOTHING,
-        way.variables,
-        &words,
+        downloader.variables,
+        &argv,
     )?;
-    if tells_more(&told.text) {
-        shell.tells_more = true;
+    if lists_gitmodules(&output.text) {
+        shell.lists_gitmodules = true;
     }
-    match downloaded(&told.text, told.status) {
-        Ok(pack) if is_named(named.name, &pack) => Ok(pack),
+    match downloaded_pack(&output.text, output.status) {
+        Ok(pack) if has_pack_name(named.name, &pack) => Ok(pack),
         Ok(_) => Err(mismatch(alloc, named)),
-        Err(e) => Err(why_none(e)),
+        Err(e) => Err(download_error(e)),
     }
 }
 
-// Has git look at the objects of a pack once more, as it does where it checks them: the contents of a `.gitmodules` may be in another
-// pack than the tree that has it.
-fn check(way: Way<'_>, shell: &mut Shell, folder: &[u8], pack: &ObjectId) -> Result<(), Trouble> {
-    let alloc = way.rt.alloc();
-    let index = joined(alloc, &[folder, b"/check.idx"])?;
+// Has git check the objects of a pack again. The `.gitmodules` file of a tree may be in another
+// pack than the tree.
+fn check_pack(
+    downloader: Downloader<'_>,
+    shell: &mut Shell,
+    folder: &[u8],
+    pack: &ObjectId,
+) -> Result<(), Error> {
+    let alloc = downloader.rt.alloc();
+    let index = concat(alloc, &[folder, b"/check.idx"])?;
     let file = pack_file(alloc, folder, pack, b".pack")?;
-    let words = check_words(alloc, &index, &file)?;
-    let told = shell.tell(
-        way.rt,
-        Task::Question,
+    let argv = fsck_pack_argv(alloc, &index, &file)?;
+    let output = shell.run(
+        downloader.rt,
+        ShellTask::Question,
         Program::Git,
         NOTHING,
-        way.variables,
-        &words,
+        downloader.variables,
+        &argv,
     )?;
-    if told.status == 0 {
+    if output.status == 0 {
         Ok(())
     } else {
-        Err(Trouble::Fatal("fsck failed"))
+        Err(Error::Fatal("fsck failed"))
     }
 }
 
-// The pack of the server, where it has a name.
-fn hash_of(pack: PackState) -> Option<ObjectId>
-    ensures { result ≡ hash_of pack }
+// The hash of the server's own pack, if it is indexed.
+fn own_pack(pack: PackState) -> Option<ObjectId>
+    ensures { result ≡ own_pack pack }
 {
     match pack {
-        PackState::Kept(kept) => Some(kept.hash),
+        PackState::Indexed(indexed) => Some(indexed.hash),
         PackState::Unbegun
         | PackState::Begun
         | PackState::Unreadable
@@ -262,52 +270,53 @@ fn hash_of(pack: PackState) -> Option<ObjectId>
     }
 }
 
-// Has git look at all packs once more, where it told of what isn't in the pack that it looked at.
-fn check_all(
-    way: Way<'_>,
+// Has git check all packs again, if a `.gitmodules` file was not in the pack of its tree.
+fn check_packs(
+    downloader: Downloader<'_>,
     shell: &mut Shell,
     folder: &[u8],
     pack: PackState,
     packs: &[ObjectId],
-) -> Result<(), Trouble> {
-    if !shell.tells_more {
+) -> Result<(), Error> {
+    if !shell.lists_gitmodules {
         return Ok(());
     }
-    if let Some(hash) = hash_of(pack) {
-        check(way, shell, folder, &hash)?;
+    if let Some(hash) = own_pack(pack) {
+        check_pack(downloader, shell, folder, &hash)?;
     }
     for pack in packs {
-        check(way, shell, folder, pack)?;
+        check_pack(downloader, shell, folder, pack)?;
     }
     Ok(())
 }
 
-/// Has git download the packs that the server named, in its order, into the folder of its own pack. Returns their names.
+/// Downloads the packs that the server named, in its order, into the quarantine. Returns their
+/// hashes.
 pub(crate) fn download_all(
-    order: Order<'_, '_>,
+    job: FetchJob<'_, '_>,
     shell: &mut Shell,
     plan: &PackPlan,
     pack: PackState,
-) -> Result<Vec<ObjectId>, Trouble> {
-    let rt = order.reach.rt;
+) -> Result<Vec<ObjectId>, Error> {
+    let rt = job.context.rt;
     let alloc = rt.alloc();
     let mut packs = Vec::new(alloc);
-    let lines = take_lines(alloc, order.reach.uris)?;
+    let lines = take_lines(alloc, job.context.uris)?;
     if lines.is_empty() {
         return Ok(packs);
     }
-    let all = named_by(alloc, order.reach.uri_setting, &lines)?;
+    let all = named_packs(alloc, job.context.uri_setting, &lines)?;
     fs::create_dir_all(rt, format!(in alloc; "{}/pack", plan.folder)?.as_str())?;
-    let words = part_words(alloc, plan.words_for(pack.is_bounded()))?;
+    let argv = part_argv(alloc, plan.argv_for(pack.has_boundary()))?;
     let variables = pack_variables(alloc, within(rt), &plan.variables)?;
-    let way = Way {
+    let downloader = Downloader {
         rt,
-        words: &words,
+        argv: &argv,
         variables: &variables,
     };
     for named in &all {
-        packs.push(download(way, shell, *named)?)?;
+        packs.push(download(downloader, shell, *named)?)?;
     }
-    check_all(way, shell, plan.folder.as_bytes(), pack, &packs)?;
+    check_packs(downloader, shell, plan.folder.as_bytes(), pack, &packs)?;
     Ok(packs)
 }

@@ -1,4 +1,4 @@
--- What stands more than once, by rows in order: each key with the place where it stands.
+-- Which keys of a sorted list of rows repeat an earlier key. A row is a key and its position in the original list.
 use Rattle.std.proofs.Common.{◌≡◌, ℕ, ◌+◌, ◌<◌, ◌≤◌, zero, suc, Bool, true, false, cond, List, [], ◌∷◌, length, get_or, replicate, Ordering, Less, Equal, Greater, IsPermutation, refl, sym, ap, subst, ◌∙◌, inl, inr, arith}
 use Rattle.std.specs.Prelude.{◌&&◌, ◌||◌, ◌==◌, ◌⊎◌, nat_lt, not}
 use Rattle.std.specs.Cmp.{IsTotalOrder}
@@ -11,7 +11,7 @@ use Rattle.std.proofs.lemmas.List.Sorted.{list_any-IsPermutation}
 use Rattle.std.proofs.lemmas.Map.Keys.{IsDistinct-IsPermutation, sorted_from_all_adjacent}
 use Rattle.gixp_repeats.specs.Repeats.{is_before, is_repeat, marked_after, marked, tested_from}
 
--- ---- tests of the places of a list
+-- ---- tests of the positions of a list
 
 pub eqb_other : (j k : ℕ) → j < k → (j == k) ≡ false
 eqb_other j k l = grind arith
@@ -28,17 +28,17 @@ and_false true = refl
 and_false false = refl
 
 module _ {A : Type 0} where
-  -- tests that agree from a place on
+  -- tests that agree from position n on
   pub tested_same : (t s : ℕ → Bool) (n : ℕ) (xs : List A) → ((q : ℕ) → n ≤ q → t q ≡ s q) → tested_from t n xs ≡ tested_from s n xs
   tested_same t s n [] h = refl
   tested_same t s n (x ∷ xs) h = rw (h n (omega arith), tested_same t s (n + 1) xs (λ q l. h q (omega arith))) refl
 
-  -- where no flag was taken yet
+  -- every flag is still set
   pub tested_all : (n : ℕ) (xs : List A) → replicate (length xs) true ≡ tested_from (λ p. true) n xs
   tested_all n [] = refl
   tested_all n (x ∷ xs) = ap (λ l. true ∷ l) (tested_all (n + 1) xs)
 
-  -- one flag is taken
+  -- one flag is cleared
   tested_set : (t : ℕ → Bool) (n k : ℕ) (xs : List A)
       → slice_set (tested_from t n xs) k false ≡ tested_from (λ q. t q && not (n + k == q)) n xs
   tested_set t n k [] = refl
@@ -55,7 +55,7 @@ module _ {A : Type 0} where
       tested_set t (n + 1) k xs ∙ ap (λ m. tested_from (λ q. t q && not (m == q)) (n + 1) xs) same in
       rw (here, ← there) refl
 
-  -- it is taken or not
+  -- one flag is cleared, or none
   tested_set_if : (b : Bool) (t : ℕ → Bool) (k : ℕ) (xs : List A)
       → cond b (slice_set (tested_from t 0 xs) k false) (tested_from t 0 xs) ≡ tested_from (λ q. t q && not (b && (k == q))) 0 xs
   tested_set_if true t k xs = tested_set t 0 k xs ∙ ap (λ m. tested_from (λ q. t q && not (m == q)) 0 xs) (omega arith)
@@ -100,7 +100,7 @@ and_alike true false z h = h refl
 and_alike false true z h = refl
 and_alike false false z h = refl
 
--- ---- rows in order
+-- ---- sorted rows
 
 less_is : (x y : Ordering) → ordering_then x y ≡ Less → (x ≡ Less) ⊎ ((x ≡ Equal) × (y ≡ Less))
 less_is Less y h = inl refl
@@ -125,7 +125,7 @@ equal_is Equal h = refl
 equal_is Greater h = cc
 
 module _ {K : Type 0} {R : K → K → Ordering} (o : IsTotalOrder R) where
-  -- by the key, and then by the place
+  -- by key, then by position
   abbrev pub place_cmp : K × ℕ → K × ℕ → Ordering
   place_cmp a b = ordering_then (R a.0 b.0) (nat_cmp a.1 b.1)
 
@@ -135,7 +135,7 @@ module _ {K : Type 0} {R : K → K → Ordering} (o : IsTotalOrder R) where
   turned : (x y : K) → R x y ≡ Equal → R y x ≡ Equal
   turned x y h = o.antisymm y x ∙ ap ordering_reverse h
 
-  -- a row's key doesn't stand before it in a later one
+  -- no row sorted after this one has the same key at an earlier position
   own : (row later : K × ℕ) → place_cmp row later ≡ Less → (eq_by_cmp R later.0 row.0 && nat_lt later.1 row.1) ≡ false
   own row later h = not_both _ _ (λ e l.
       let same = turned later.0 row.0 (equal_is (R later.0 row.0) e) in
@@ -147,7 +147,7 @@ module _ {K : Type 0} {R : K → K → Ordering} (o : IsTotalOrder R) where
             absurd (omega arith))
       ])
 
-  -- what stands between two rows of a key has that key
+  -- a row sorted between two rows of one key has that key
   between : (a b c : K × ℕ) → place_cmp a b ≡ Less → place_cmp b c ≡ Less → eq_by_cmp R a.0 c.0 ≡ true
       → (eq_by_cmp R b.0 c.0 && nat_lt b.1 c.1) ≡ true
   between a b c h k e =
@@ -164,7 +164,7 @@ module _ {K : Type 0} {R : K → K → Ordering} (o : IsTotalOrder R) where
             rw (both.0, lower) refl)
       ]
 
-  -- a key that stands right before stands before
+  -- a key equal to that of the row before it is a repeat
   right_before : (row next : K × ℕ) (rows : List (K × ℕ)) → place_cmp row next ≡ Less
       → AllByRecursion (λ later. place_cmp next later ≡ Less) rows
       → is_before R (row ∷ next ∷ rows) next.0 next.1 ≡ eq_by_cmp R row.0 next.0
@@ -185,7 +185,7 @@ module _ {K : Type 0} {R : K → K → Ordering} (o : IsTotalOrder R) where
         | inr other ↦ rw (other, itself, rest) refl
       ]
 
-  -- a row further before changes nothing for those after the next
+  -- an earlier row doesn't matter for the rows after the next one
   before_same : (row next : K × ℕ) (rows : List (K × ℕ)) (p : ℕ) → place_cmp row next ≡ Less → (later : K × ℕ)
       → place_cmp next later ≡ Less
       → ((later.1 == p) && is_before R (row ∷ next ∷ rows) later.0 p) ≡ ((later.1 == p) && is_before R (next ∷ rows) later.0 p)
@@ -196,7 +196,7 @@ module _ {K : Type 0} {R : K → K → Ordering} (o : IsTotalOrder R) where
       let head = between row next later h k (and_parts _ _ is).0 in
       or_left _ _ (subst (λ q. (eq_by_cmp R next.0 later.0 && nat_lt next.1 q) ≡ true) place head))
 
-  -- the flags that are left after some rows
+  -- whether the position p repeats an earlier key, among the remaining rows
   abbrev rest_repeats : K × ℕ → List (K × ℕ) → ℕ → Bool
   rest_repeats row rows p = list_any (λ r. (r.1 == p) && is_before R (row ∷ rows) r.0 p) rows
 
@@ -219,7 +219,7 @@ module _ {K : Type 0} {R : K → K → Ordering} (o : IsTotalOrder R) where
       ∙ ap (λ x. t p && not (x || rest_repeats next rows p)) here
       ∙ ap (λ x. t p && not (((next.1 == p) && is_before R (row ∷ next ∷ rows) next.0 p) || x)) (sym later))
 
-  -- the first row of all is none that comes again
+  -- the first sorted row is not a repeat
   first_is_new : (row : K × ℕ) (rows : List (K × ℕ)) (p : ℕ) → AllByRecursion (λ later. place_cmp row later ≡ Less) rows
       → ((row.1 == p) && is_before R (row ∷ rows) row.0 p) ≡ false
   first_is_new row rows p all = not_both _ _ (λ at is.
@@ -238,13 +238,13 @@ module _ {K : Type 0} {R : K → K → Ordering} (o : IsTotalOrder R) where
       marked_rows xs (λ p. true) row rows h
       ∙ tested_same _ _ 0 xs (λ p l. sym (ap (λ x. not (x || rest_repeats row rows p)) (first_is_new row rows p h.0)))
 
-  -- rows in another order have the same repeats
+  -- a permutation of the rows has the same repeats
   repeats_same : (rows sorted : List (K × ℕ)) → IsPermutation rows sorted → (p : ℕ) → is_repeat R sorted p ≡ is_repeat R rows p
   repeats_same rows sorted h p =
       any_alike _ _ sorted (λ row. ap (λ x. (row.1 == p) && x) (sym (list_any-IsPermutation _ rows sorted h)))
       ∙ sym (list_any-IsPermutation _ rows sorted h)
 
-  -- ---- what a sort ensures
+  -- ---- after a sort
 
   eq_turned : (x y : ℕ) → (x == y) ≡ (y == x)
   eq_turned x y = grind arith
@@ -289,7 +289,7 @@ module _ {K : Type 0} {R : K → K → Ordering} (o : IsTotalOrder R) where
       place_total.antisymm a b ∙ not_less (place_cmp b a) (h k row (omega arith) l)
       (λ e. false≢true (sym other ∙ nat_equal a.1 b.1 (then_equal _ _ (place_total.antisymm a b ∙ e)))))
 
-  -- the flags of the places whose key doesn't stand before them
+  -- the flags of the positions whose key has no earlier equal
   pub marked_after_sort : {A : Type 0} (xs : List A) (rows sorted : List (K × ℕ)) → IsPermutation rows sorted → IsSorted place_cmp sorted
       → IsDistinct (λ a b. a.1 == b.1) rows
       → marked R (tested_from (λ p. true) 0 xs) sorted ≡ tested_from (λ p. not (is_repeat R rows p)) 0 xs
@@ -298,7 +298,7 @@ module _ {K : Type 0} {R : K → K → Ordering} (o : IsTotalOrder R) where
       (IsDistinct-IsPermutation (λ a b. a.1 == b.1) (λ a b. eq_turned a.1 b.1) rows sorted same apart))
       ∙ tested_same _ _ 0 xs (λ p l. ap not (repeats_same rows sorted same p))
 
-  -- ---- another test of keys that tells as much
+  -- ---- another comparison of keys that finds the same repeats
 
   module _ (S : K → K → Ordering) (alike : (a b : K) → eq_by_cmp R a b ≡ eq_by_cmp S a b) where
     marked_after_alike : (rows : List (K × ℕ)) (flags : List Bool) (last : K × ℕ)
@@ -316,7 +316,7 @@ module _ {K : Type 0} {R : K → K → Ordering} (o : IsTotalOrder R) where
     repeats_alike rows p = any_alike _ _ rows (λ row. ap (λ b. (row.1 == p) && b)
         (any_alike _ _ rows (λ earlier. ap (λ b. b && nat_lt earlier.1 p) (alike earlier.0 row.0))))
 
-    -- the flags of the places whose key doesn't stand before them by that test
+    -- the flags of the positions whose key has no earlier equal by that comparison
     pub marked_alike_after_sort : {A : Type 0} (xs : List A) (rows sorted : List (K × ℕ)) → IsPermutation rows sorted
         → IsSorted place_cmp sorted → IsDistinct (λ a b. a.1 == b.1) rows
         → marked S (tested_from (λ p. true) 0 xs) sorted ≡ tested_from (λ p. not (is_repeat S rows p)) 0 xs

@@ -1,11 +1,11 @@
-//! Keys that come more than once, which a sort tells whatever they are.
+//! Finds the keys of a list that repeat an earlier key, by sorting them.
 ghost use Rattle.std.specs.Prelude.{◌≡◌, ◌==◌, false, true, if◌then◌else◌, IfOk};
 ghost use Rattle.std.specs.List.{IsDistinct, slice_set};
 ghost use Rattle.gixp_repeats.specs.Repeats.{is_first, marked, tested_from};
 
 use std::alloc::{AllocError, Global};
 
-// Takes the flag of a place.
+// Clears the flag at this position.
 fn take_flag(flags: &mut Vec<bool>, place: usize, is_same: bool)
     ensures { flags.new.items ≡ (if is_same then slice_set flags.old.items place false else flags.old.items) }
 {
@@ -14,7 +14,7 @@ fn take_flag(flags: &mut Vec<bool>, place: usize, is_same: bool)
     }
 }
 
-/// Takes the flag of each place whose key is the key of the row before it.
+/// Clears the flag of each row whose key equals the key of the row before it. A row is a key and its position.
 pub fn mark<K: Ord>(rows: &[(K, usize)], flags: &mut Vec<bool>)
     ensures { flags.new.items ≡ marked K.cmp flags.old.items rows.now }
 {
@@ -28,19 +28,18 @@ pub fn mark<K: Ord>(rows: &[(K, usize)], flags: &mut Vec<bool>)
     }
 }
 
-// A flag for each row, none of which was taken.
 fn untaken<K>(alloc: Global, rows: &[(K, usize)]) -> Result<Vec<bool>, AllocError>
     ensures { IfOk result (λ flags. flags.items ≡ tested_from (λ place. true) 0 rows.now) }
 {
     vec![in alloc; true; rows.len()]
 }
 
-/// For each place from 0 on, of which there are as many as rows, whether no earlier one has its key. The rows have each place
-/// once at most.
+/// For each position below the number of rows, whether no earlier position has the same key. A row is a key and its
+/// position. No two rows may have the same position.
 ///
 /// # Errors
 ///
-/// An allocation failed.
+/// An allocation failure.
 pub fn first_flags<K: Ord>(alloc: Global, rows: Vec<(K, usize)>) -> Result<Vec<bool>, AllocError>
 where
     K: Drop,

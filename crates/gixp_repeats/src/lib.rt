@@ -1,4 +1,4 @@
-//! Keys that stand more than once in a list, which a sort tells whatever they are.
+//! Keys that occur more than once in a list, found by sorting.
 #![tactic(auto)]
 
 mod flags;

@@ -1,4 +1,4 @@
-//! A text as an id, and as each kind of line of an answer. It has no settings.
+//! Parses a text as an id, and as each kind of line of a fetch response. There are no settings.
 use crate::report::Report;
 use crate::rows::Row;
 use crate::values;
@@ -22,7 +22,7 @@ fn report_id(text: &[u8], report: &mut Report) {
     }
 }
 
-/// The value, or the error, of each reading of the text.
+/// The value or the error of each parser.
 pub(crate) fn report_line(alloc: Global, row: &Row<'_>, report: &mut Report) {
     report_id(row.payload, report);
     let Ok(text) = str::from_utf8(row.payload) else {

@@ -1,8 +1,8 @@
-//! An answer to a fetch.
+//! A response to a fetch.
 //!
-//! `version`, `pack` (whether one is expected), `negotiates` (whether the client wants to), `bands` (whether the answer
-//! comes in them), `over` and `lines`, how many lines are taken after an answer in bands. What is left in the reader
-//! follows.
+//! Settings: `version`; `pack`, whether a pack is expected; `negotiates`, whether the client wants to negotiate; `bands`, whether
+//! the response is banded; `over`; `lines`, the number of lines to read after a banded response. The rest of the reader is reported
+//! last.
 use crate::handshakes::{connection, one_body};
 use crate::lines::{report_rest, take_line};
 use crate::packs::Notes;
@@ -24,7 +24,6 @@ pub(crate) const SETTINGS: &[Setting] = &[
     ("lines", &[], 0),
 ];
 
-/// How an answer is read.
 #[derive(Clone, Copy)]
 pub(crate) struct Reading {
     pub(crate) version: Protocol,
@@ -45,7 +44,7 @@ impl Reading {
     }
 }
 
-/// An answer by these settings, whether or not they say bands. What was read, if there was no error.
+/// Reads a response with these settings, except `bands`. Returns it unless there was an error.
 pub(crate) fn read_response<R: ExtendedBufRead>(
     alloc: Global,
     reader: &mut R,
@@ -71,7 +70,7 @@ pub(crate) fn read_response<R: ExtendedBufRead>(
     }
 }
 
-// Through bands, and then so many lines.
+// Reads a response through bands, then more lines.
 fn report_banded<R: ExtendedBufRead>(
     alloc: Global,
     reader: &mut R,
@@ -113,7 +112,7 @@ fn report_over<R: ExtendedBufRead>(
     Ok(())
 }
 
-// An empty request, and its answer.
+// Sends an empty request, and reads the response.
 fn request_and_report<T: Transport>(
     alloc: Global,
     row: &Row<'_>,
@@ -147,7 +146,7 @@ fn report_over_body(alloc: Global, row: &Row<'_>, report: &mut Report) -> Result
     request_and_report(alloc, row, &mut transport, report)
 }
 
-/// An answer over a line reader, a connection or memory.
+/// Reads a response from a line reader, a connection or memory.
 pub(crate) fn report_answer(
     alloc: Global,
     row: &Row<'_>,

@@ -1,9 +1,9 @@
-//! Calls of a reader of bands, and what they leave in the line reader.
+//! Calls of a reader of bands, and their effect on the line reader.
 //!
-//! The first line of the bytes has the calls, as in `lines`, and the stream stands after it. Beside those of a line reader
-//! there are `read-1` to `read-9`, a `read` of so many bytes, `fill_buf`, `buffer`, `consume-0`, `consume-1` and
-//! `consume-9`, and `fault`. `version` is that of the reader, `interrupt-at` which question for an interrupt is answered
-//! with true, `memory-at` which text can't be allocated, both from 0 on.
+//! The first line of the payload has the calls, as in `lines`, and the stream follows. In addition to those of a line reader there
+//! are `read-1` to `read-9`, which read this number of bytes, `fill_buf`, `buffer`, `consume-0`, `consume-1`, `consume-9`, and
+//! `fault`. Settings: `version` of the reader; `interrupt-at`, which check for an interrupt is true; `memory-at`, for which text an
+//! allocation fails. Both count from 0.
 use crate::packs::{Notes, Once, report_fault};
 use crate::report::Report;
 use crate::rows::{Row, Setting, cut_at_byte, meaning_of};
@@ -20,7 +20,6 @@ pub(crate) const SETTINGS: &[Setting] = &[
     ("memory-at", &[], u64::MAX),
 ];
 
-// A call of a reader of bands.
 #[derive(Clone, Copy)]
 enum Call {
     Read(usize),
@@ -56,7 +55,7 @@ fn call_of(word: &[u8]) -> Option<Call> {
     }
 }
 
-// The bytes that a call gives, or the kind of its error.
+// The bytes that a call returns, or the kind of its error.
 fn report_bytes(report: &mut Report, bytes: io::Result<&[u8]>) {
     match bytes {
         Ok(bytes) => report.quote(bytes),
@@ -65,7 +64,7 @@ fn report_bytes(report: &mut Report, bytes: io::Result<&[u8]>) {
     report.word(" ");
 }
 
-// A read of at most nine bytes.
+// Reads at most nine bytes.
 fn read<R: Read>(reader: &mut R, size: usize, report: &mut Report) {
     let mut room = [0u8; 9];
     let size = size.min(9);
@@ -94,7 +93,7 @@ fn make_call<T: ExtendedBufRead, I: Interrupt>(
     Ok(())
 }
 
-// A word's call, as often as it says.
+// Makes the call of a word, repeatedly if it says so.
 fn call_word<T: ExtendedBufRead, I: Interrupt>(
     alloc: Global,
     reader: &mut WithSidebands<'_, '_, T, Notes<'_>, I>,
@@ -124,7 +123,7 @@ fn call_each<T: ExtendedBufRead, I: Interrupt>(
     Ok(())
 }
 
-/// What each call gives, the texts, and what stands in the line reader once the reader of bands is dropped.
+/// The result of each call, the messages, and the state of the line reader after the reader of bands is dropped.
 pub(crate) fn report_calls(
     alloc: Global,
     row: &Row<'_>,

@@ -1,6 +1,6 @@
 //! A shallow boundary: the ids of a text, or the text of ids.
 //!
-//! `call=read` reads the bytes, `call=write` makes the text of the ids that stand in the lines of the bytes.
+//! `call=read` parses the payload. `call=write` writes the text of the ids in the lines of the payload.
 use crate::report::Report;
 use crate::rows::{Row, Setting};
 use gixp_hash::ObjectId;
@@ -9,7 +9,6 @@ use std::alloc::{AllocError, Global};
 
 pub(crate) const SETTINGS: &[Setting] = &[("call", &["read", "write"], 0)];
 
-// The ids of a text, or why it has none.
 fn report_ids(alloc: Global, text: &[u8], report: &mut Report) {
     match shallow_ids(alloc, text) {
         Ok(ids) => {
@@ -28,7 +27,7 @@ fn report_ids(alloc: Global, text: &[u8], report: &mut Report) {
     }
 }
 
-// The ids that stand in lines.
+// The ids in lines.
 fn ids_of(alloc: Global, lines: &[u8], report: &mut Report) -> Result<Vec<ObjectId>, AllocError> {
     let mut ids = Vec::new(alloc);
     for line in lines.split(|b| *b == b'\n') {
@@ -43,7 +42,6 @@ fn ids_of(alloc: Global, lines: &[u8], report: &mut Report) -> Result<Vec<Object
     Ok(ids)
 }
 
-/// The ids or the text.
 pub(crate) fn report_boundary(
     alloc: Global,
     row: &Row<'_>,

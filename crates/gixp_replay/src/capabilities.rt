@@ -1,9 +1,8 @@
-//! A list of capabilities, look-ups in it, and what may be asked for by it.
+//! A list of capabilities, look-ups in it, and the features and arguments that it allows.
 //!
-//! The first line of the bytes has names with commas between them: each is looked up, and each is an argument that is
-//! validated. The second line has the features of the client, `NAME` or `NAME=VALUE` with blanks between them. The
-//! capabilities stand after it: `form=line` after the NUL of a line, `form=lines` one in each line, with a byte 1 between
-//! lines.
+//! The first line of the payload has names, separated by commas. Each is looked up, and validated as an argument. The second line
+//! has the features of the client, `NAME` or `NAME=VALUE`, separated by blanks. The capabilities follow: with `form=line` those
+//! after the NUL of a line, with `form=lines` one per line, where a byte 1 separates the lines.
 use crate::offers::report_offers;
 use crate::report::Report;
 use crate::requests::push_feature;
@@ -17,7 +16,7 @@ use std::alloc::{AllocError, Global};
 
 pub(crate) const SETTINGS: &[Setting] = &[("form", &["line", "lines"], 0)];
 
-// What a capability has of its own: value, words, and which of the names are among these.
+// The value and the words of a capability, and which of the names are words.
 fn report_capability(
     alloc: Global,
     found: &Capability<'_>,
@@ -67,7 +66,7 @@ fn report_look_ups(
     Ok(())
 }
 
-// The symbolic refs that they name.
+// The symrefs in the capabilities.
 fn report_symrefs(
     alloc: Global,
     found: &Capabilities,
@@ -93,7 +92,7 @@ fn report_symrefs(
     Ok(())
 }
 
-// The texts that such bytes part.
+// The texts between separators.
 fn texts(alloc: Global, bytes: &[u8], separator: u8) -> Result<Vec<BString>, AllocError> {
     let mut list = Vec::new(alloc);
     for text in bytes.split(|b| *b == separator) {
@@ -102,7 +101,7 @@ fn texts(alloc: Global, bytes: &[u8], separator: u8) -> Result<Vec<BString>, All
     Ok(list)
 }
 
-// The capabilities in some bytes, if there was no error.
+// Reads the capabilities. Returns them unless there was an error.
 fn read_list(
     alloc: Global,
     has_lines: bool,
@@ -130,7 +129,6 @@ fn read_list(
     }
 }
 
-// The list, each look-up, and the offers.
 fn report_found(
     alloc: Global,
     given: &[Feature],
@@ -144,7 +142,7 @@ fn report_found(
     report_offers(alloc, given, found, names, report)
 }
 
-/// A list that was read, each look-up in it, and the offers.
+/// The list, each look-up in it, and the offers.
 pub(crate) fn report_capabilities(
     alloc: Global,
     row: &Row<'_>,

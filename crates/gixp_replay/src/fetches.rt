@@ -1,9 +1,9 @@
 //! A whole fetch: a handshake, a ref map, the rounds, the pack and the shallow boundary.
 //!
-//! `over` says where the answers come from, `version` what the client of a connection asks for, `cut=each` that the fetch is
-//! made for each proper beginning of the bytes, with equal results together. The bytes are a script, as `scripts` says, and
-//! the bytes. The report has the error of the first call that is refused, or what the fetch returned; then the pack, how
-//! often the lock was had and released, the boundary, what stands in the transport, and the bytes that were sent.
+//! Settings: `over`, the kind of transport; `version`, which a client of a connection asks for; `cut=each` runs the fetch for each
+//! proper prefix of the server's bytes, and joins equal results. The payload is a script (module `scripts`), then the server's
+//! bytes. The report has the error of the first call that fails, or the result of the fetch. Then follow the pack, the number of
+//! times that the lock was taken and released, the boundary, the state of the transport, and the bytes sent.
 ghost use Rattle.std.specs.Prelude.{◌≡◌};
 ghost use Rattle.gixp_shallow.specs.Store.{IsStoreRefusal};
 
@@ -43,7 +43,7 @@ pub(crate) const SETTINGS: &[Setting] = &[
     ("cut", &["nowhere", "each"], 0),
 ];
 
-// A shallow boundary that counts calls, and refuses one of them.
+// A shallow boundary that counts its calls. One call fails.
 #[derive(Drop)]
 struct ScriptedStore {
     ids: Vec<ObjectId>,
@@ -55,7 +55,7 @@ struct ScriptedStore {
 }
 
 impl ScriptedStore {
-    // Whether this call is refused.
+    // Whether this call fails.
     fn refuses(&mut self) -> bool
         ensures { self.new.failures ≡ self.old.failures }
     {
@@ -67,7 +67,7 @@ impl ScriptedStore {
         false
     }
 
-    // Why it is refused.
+    // The error of that call.
     fn refusal(&mut self) -> ShallowError
         ensures { IsStoreRefusal self.old.failures self.new.failures result }
     {
@@ -131,7 +131,7 @@ impl ShallowStore for ScriptedStore {
     ghost counted = { λ call s e t h. h };
 }
 
-// The number of each round, and whether a commit was common.
+// The haves of each round, and whether a commit was common.
 fn report_rounds(rounds: &[Round], report: &mut Report) {
     for round in rounds {
         report.number(round.haves_sent as u64);
@@ -147,7 +147,7 @@ fn report_rounds(rounds: &[Round], report: &mut Report) {
     }
 }
 
-// What a fetch returned.
+// The result of a fetch.
 fn report_result(
     alloc: Global,
     fetched: Result<Option<Outcome>, Error<AllocError, CopyError>>,
@@ -168,7 +168,7 @@ fn report_result(
     Ok(())
 }
 
-// A fetch over this ref map, by this consumer.
+// Fetches over this ref map, with this consumer.
 fn fetch_by<T: Transport, C: ConsumePack<Discard, Error = CopyError>>(
     alloc: Global,
     script: &mut Script<'_>,
@@ -213,7 +213,7 @@ fn fetch_by<T: Transport, C: ConsumePack<Discard, Error = CopyError>>(
     ))
 }
 
-// The same, and the pack.
+// The same, with the pack.
 fn fetch_pack<T: Transport>(
     alloc: Global,
     script: &mut Script<'_>,
@@ -237,7 +237,7 @@ fn fetch_pack<T: Transport>(
     Ok(())
 }
 
-// The ref map, if there is one.
+// Obtains the ref map. Returns it unless there was an error.
 fn obtain_map<T: Transport>(
     alloc: Global,
     script: &mut Script<'_>,
@@ -269,7 +269,7 @@ fn obtain_map<T: Transport>(
     }
 }
 
-// A handshake, if it isn't refused.
+// Performs the handshake. Returns it unless there was an error.
 fn shake<T: Transport>(
     alloc: Global,
     transport: &mut T,
@@ -293,7 +293,7 @@ fn shake<T: Transport>(
     }
 }
 
-// The boundary, and how often its lock was had.
+// The boundary, and how often its lock was taken.
 fn report_store(store: &ScriptedStore, report: &mut Report) {
     report.word("locks ");
     report.number(store.locks);
@@ -335,7 +335,7 @@ fn report_over<T: Transport>(
     Ok(())
 }
 
-// A fetch over these bytes.
+// Runs the fetch once.
 fn report_once(
     alloc: Global,
     row: &Row<'_>,
@@ -361,7 +361,7 @@ fn report_once(
     Ok(())
 }
 
-/// A fetch over a connection or memory, or over each proper beginning of the bytes.
+/// Runs the fetch over a connection or memory, or for each proper prefix of the bytes.
 pub(crate) fn report_fetch(
     alloc: Global,
     row: &Row<'_>,

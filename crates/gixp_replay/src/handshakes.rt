@@ -1,7 +1,7 @@
-//! A handshake, and the refs of versions 0 and 1 after it.
+//! A handshake, and the refs of versions 0 and 1.
 //!
-//! `over` says whether the bytes are a body in memory or come over a connection, `version` which version the client of a
-//! connection asks for. What is left in the transport follows, and over a connection the bytes that were written.
+//! Settings: `over`, whether the bytes are a body in memory or come over a connection; `version`, which a client of a connection
+//! asks for. The rest of the transport is reported last, and over a connection the bytes written.
 use crate::lines::report_rest;
 use crate::refs::report_list;
 use crate::report::Report;
@@ -16,7 +16,7 @@ use std::alloc::{AllocError, Global};
 
 pub(crate) const SETTINGS: &[Setting] = &[("over", BODIES_CONNECTION, 0), ("version", &[], 2)];
 
-/// The version, whether refs come, and the capabilities.
+/// The version, whether refs follow, and the capabilities.
 pub(crate) fn report_response(
     alloc: Global,
     found: &SetServiceResponse,
@@ -30,7 +30,7 @@ pub(crate) fn report_response(
     Ok(())
 }
 
-/// The refs and shallow updates of versions 0 and 1. Whether there was no error.
+/// The refs and shallow updates of versions 0 and 1. Returns whether there was no error.
 pub(crate) fn report_early_refs<T: Transport>(
     alloc: Global,
     transport: &mut T,
@@ -58,7 +58,7 @@ pub(crate) fn report_early_refs<T: Transport>(
     }
 }
 
-/// A handshake. What it found, if there was no error.
+/// Performs the handshake. Returns its result unless there was an error.
 pub(crate) fn shake_hands<T: Transport>(
     alloc: Global,
     transport: &mut T,
@@ -92,20 +92,20 @@ fn report_over<T: Transport>(
     Ok(())
 }
 
-/// A transport over memory that has these answers.
+/// A transport in memory with these responses.
 pub(crate) fn bodies(alloc: Global, answers: Vec<Body>) -> Result<Bodies, AllocError> {
     let url = BString::new(Vec::new(alloc));
     Bodies::new(alloc, answers, url, Vec::new(alloc))
 }
 
-/// A transport over memory with one answer.
+/// A transport in memory with one response.
 pub(crate) fn one_body(alloc: Global, answer: &[u8]) -> Result<Bodies, AllocError> {
     let mut answers = Vec::new(alloc);
     answers.push(Body::Bytes(answer.to_vec(alloc)?))?;
     bodies(alloc, answers)
 }
 
-/// A writer beside a reader of such pieces: it takes at most 1,000 bytes a write where those are few.
+/// A writer for a connection that is read in such pieces. One write takes at most 1,000 bytes if the pieces are small.
 pub(crate) fn paper_of(alloc: Global, pieces: Pieces) -> Paper {
     match pieces {
         Pieces::UpTo(most) if most < 1000 => Paper::new(alloc, 1000),
@@ -152,7 +152,7 @@ fn report_over_connection(
     Ok(())
 }
 
-/// A handshake, the refs, and what comes after them.
+/// A handshake, the refs, and the rest of the transport.
 pub(crate) fn report_handshake(
     alloc: Global,
     row: &Row<'_>,

@@ -1,25 +1,25 @@
-//! A repository, what the server has, and what both say, as a text.
+//! A text that describes a repository, the server's commits, and the conversation.
 //!
-//! Each line is a word and what belongs to it. An id is a number, the last eight bytes of its 20. A name `-` is none.
+//! Each line is a word and its arguments. An id is a number: the last eight bytes of the 20. A name `-` means none.
 //!
 //!     commit ID TIME PARENT..    a commit
-//!     packed ID TIME PARENT..    one that the graph's objects alone have
-//!     object ID KIND             an object of the kind `blob`, `tree` or `tag`, or `-` where it can't be told
-//!     apart ID KIND              one that the graph's objects haven't, also of the kind `commit`
-//!     broken ID                  a commit of which a look fails
+//!     packed ID TIME PARENT..    a commit that only the graph's objects have
+//!     object ID KIND             an object of the kind `blob`, `tree` or `tag`, or `-` for an unknown kind
+//!     apart ID KIND              an object that the graph's objects don't have; also of the kind `commit`
+//!     broken ID                  a commit whose look-up fails
 //!     ref NAME ID                a ref
-//!     leads ID..                 what refs lead to
+//!     leads ID..                 the peeled ids of the refs
 //!     refs-fail ERROR            the refs can't be listed: `open`, `iter`, `peel`, or `io` for a read that failed
-//!     alternate ID..             an alternate, and what its refs lead to
-//!     alternate-fails ERROR      one of which the refs can't be listed
+//!     alternate ID..             an alternate, and the peeled ids of its refs
+//!     alternate-fails ERROR      an alternate whose refs can't be listed
 //!     no-alternates              the alternates can't be opened
 //!     extra SPEC                 an added refspec
-//!     mapping LOCAL PLACE SOURCE a mapping: its local name, the place of its refspec after `explicit-` or `extra-`, and its
+//!     mapping LOCAL PLACE SOURCE a mapping: its local name, the index of its refspec after `explicit-` or `extra-`, and its
 //!                                source: `id ID`, `direct NAME ID`, `peeled NAME TAG ID`, `symbolic NAME TAG ID` or
 //!                                `unborn NAME`
-//!     haves FROM COUNT           so many haves, from this id on
-//!     answer WORD..              an answer: a common id, `ready` or `NAK` each
-//!     answer-many FROM COUNT     an answer of so many common ids, from this one on
+//!     haves FROM COUNT           this number of haves, from this id on
+//!     answer WORD..              a response: a common id, `ready` or `NAK` each
+//!     answer-many FROM COUNT     a response with this number of common ids, from this one on
 use crate::rows::{cut_at_byte, meaning_of, number};
 use bstr::{BStr, BString};
 use gixp_doubles::{MemoryObjects, MemoryRefs};
@@ -33,7 +33,6 @@ use gixp_response::fetch::Response;
 use std::alloc::{AllocError, Global};
 use std::io::ErrorKind;
 
-// A line of the text.
 #[derive(Clone, Copy)]
 enum Line {
     Commit,
@@ -87,7 +86,7 @@ static ERRORS: [(&str, RefStoreError); 4] = [
     ("io", RefStoreError::Io(ErrorKind::TimedOut)),
 ];
 
-// Where a mapping comes from.
+// The source of a mapping.
 #[derive(Clone, Copy)]
 enum Form {
     Id,
@@ -105,27 +104,27 @@ static FORMS: [(&str, Form); 5] = [
     ("unborn", Form::Unborn),
 ];
 
-/// What a negotiation is about.
+/// The input of a negotiation.
 #[derive(Drop)]
 pub(crate) struct History {
     /// The ids of the graph's objects, in the order of their lines.
     pub(crate) ids: Vec<ObjectId>,
     /// The objects of the graph.
     pub(crate) objects: MemoryObjects,
-    /// Those that are asked whether they exist.
+    /// The objects that are checked for existence.
     pub(crate) existing: MemoryObjects,
     pub(crate) refs: MemoryRefs,
     pub(crate) alternates: Vec<MemoryRefs>,
     pub(crate) has_alternates: bool,
     pub(crate) map: RefMap,
     pub(crate) haves: Vec<ObjectId>,
-    /// What the server says, in turn.
+    /// The server's responses, in order.
     pub(crate) answers: Vec<Response>,
-    /// Whether a line has a word that isn't known.
+    /// Whether a line begins with an unknown word.
     pub(crate) is_unknown: bool,
 }
 
-/// The id of a number.
+/// The id with this number.
 pub(crate) fn id_of(number: u64) -> ObjectId {
     let [a, b, c, d, e, f, g, h] = number.to_be_bytes();
     ObjectId {
@@ -147,7 +146,7 @@ fn ids(alloc: Global, words: &[u8]) -> Result<Vec<ObjectId>, AllocError> {
     Ok(list)
 }
 
-// So many ids from one on.
+// Adds `count` ids from the first one on.
 fn push_ids(list: &mut Vec<ObjectId>, words: &[u8]) -> Result<(), AllocError> {
     let (from, count) = cut_at_byte(words, b' ');
     let from = number(from).unwrap_or(0);
@@ -172,7 +171,7 @@ fn text(alloc: Global, word: &[u8]) -> Result<BString, AllocError> {
     BString::from_slice(alloc, word)
 }
 
-// A text, where there is one.
+// A text, or none for `-`.
 fn option(word: &[u8]) -> Option<&[u8]> {
     match word {
         [b'-'] => None,
@@ -188,14 +187,14 @@ fn commit(alloc: Global, words: &[u8]) -> Result<CommitData, AllocError> {
     })
 }
 
-// A commit that can't be read.
+// Adds a commit that can't be read.
 fn add_broken(objects: &mut MemoryObjects, id: ObjectId) -> Result<(), AllocError> {
     objects.add(id, Some(ObjectKind::Commit))?;
     objects.corrupt.insert(id)?;
     Ok(())
 }
 
-// An object. False where the line has none.
+// Adds the object of a line. Returns false if the line has none.
 fn add_object(
     alloc: Global,
     history: &mut History,
@@ -235,7 +234,7 @@ fn alternate(alloc: Global, targets: Vec<ObjectId>, error: Option<RefStoreError>
     refs
 }
 
-// A ref, or where refs lead. False where the line has none.
+// Adds the ref of a line, or the peeled ids. Returns false if the line has none.
 fn add_refs(
     alloc: Global,
     history: &mut History,
@@ -312,7 +311,7 @@ fn mapping(alloc: Global, words: &[u8]) -> Result<Mapping, AllocError> {
     })
 }
 
-// A mapping or a refspec. False where the line has none.
+// Adds the mapping or refspec of a line. Returns false if the line has none.
 fn add_mapping(
     alloc: Global,
     history: &mut History,
@@ -337,7 +336,7 @@ fn push_common(lines: &mut Vec<u8>, id: &ObjectId) -> Result<(), AllocError> {
     Ok(())
 }
 
-// The packet lines of an answer.
+// The packet lines of a response.
 fn answer_lines(alloc: Global, line: Line, rest: &[u8]) -> Result<Vec<u8>, AllocError> {
     let mut lines = b"0014acknowledgments\n".to_vec(alloc)?;
     if let Line::AnswerMany = line {
@@ -399,7 +398,7 @@ fn add_line(alloc: Global, history: &mut History, text: &[u8]) -> Result<(), All
 }
 
 impl History {
-    /// That of a text. The look of this number fails as a row's read does.
+    /// Parses a text. The look-up with the number `fail` fails, as a read of a test vector does.
     pub(crate) fn of_text(alloc: Global, lines: &[u8], fail: u64) -> Result<History, AllocError> {
         let mut history = History {
             ids: Vec::new(alloc),

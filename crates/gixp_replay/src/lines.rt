@@ -1,8 +1,8 @@
 //! Calls of a line reader.
 //!
-//! The first line of the bytes has the calls, words with blanks between them, and after each how often where it is more
-//! than once (`readline*5`): the name of a function, or `reset-0`, `reset-1` and `reset-2`. The stream stands after it. A
-//! call whose read failed is made again. `version` is that of the reader.
+//! The first line of the payload has the calls, separated by blanks, and the stream follows. A call is the name of a function, or
+//! `reset-0`, `reset-1`, `reset-2`. A number after `*` repeats it (`readline*5`). A call whose read failed is repeated. The setting
+//! `version` is that of the reader.
 use crate::report::Report;
 use crate::rows::{Row, Setting, cut_at_byte, meaning_of, number};
 use crate::values::{read_error, stop, version_of};
@@ -12,7 +12,6 @@ use std::io::ErrorKind;
 
 pub(crate) const SETTINGS: &[Setting] = &[("version", &[], 2)];
 
-/// A call of a line reader.
 #[derive(Clone, Copy)]
 pub(crate) enum Call {
     Readline,
@@ -36,18 +35,18 @@ static CALLS: [(&str, Call); 9] = [
     ("reset-2", Call::Reset(Protocol::V2)),
 ];
 
-/// The call of a word, if there is one.
+/// The call of a word, if it has one.
 pub(crate) fn call_of(word: &[u8]) -> Option<Call> {
     meaning_of(&CALLS, word)
 }
 
-/// A word, and how often it stands.
+/// A word without its number of repetitions, and that number.
 pub(crate) fn times_of(word: &[u8]) -> (&[u8], u64) {
     let (name, digits) = cut_at_byte(word, b'*');
     (name, number(digits).unwrap_or(1))
 }
 
-/// Whether a read failed, and the stream didn't end.
+/// Whether a read failed for another reason than the end of the stream.
 pub(crate) fn is_failure(kind: ErrorKind) -> bool {
     match kind {
         ErrorKind::UnexpectedEof => false,
@@ -55,7 +54,7 @@ pub(crate) fn is_failure(kind: ErrorKind) -> bool {
     }
 }
 
-// An error; false, and nothing, where a read failed.
+// Reports an error. Returns false, and reports nothing, if a read failed.
 fn report_error(report: &mut Report, e: &read::Error) -> bool {
     if let read::Error::Io(kind) = e
         && is_failure(*kind)
@@ -67,7 +66,7 @@ fn report_error(report: &mut Report, e: &read::Error) -> bool {
     true
 }
 
-// A line, or a stop.
+// Reports a line or a stop.
 fn report_line(report: &mut Report, line: Option<&[u8]>) -> bool {
     match line {
         Some(line) => {
@@ -79,7 +78,7 @@ fn report_line(report: &mut Report, line: Option<&[u8]>) -> bool {
     true
 }
 
-/// The next line, a stop or an error. False where a read failed.
+/// Reports the next line, a stop or an error. Returns false if a read failed.
 pub(crate) fn take_line<R: ExtendedBufRead>(reader: &mut R, report: &mut Report) -> bool {
     match reader.readline() {
         Ok(line) => report_line(report, line),
@@ -110,7 +109,7 @@ fn peek_plain<R: ExtendedBufRead>(reader: &mut R, report: &mut Report) -> bool {
     }
 }
 
-// The next line after a text that has one letter.
+// Appends the next line to a text of one letter.
 fn take_text<R: ExtendedBufRead>(
     alloc: Global,
     reader: &mut R,
@@ -134,7 +133,7 @@ fn take_text<R: ExtendedBufRead>(
     }
 }
 
-/// Makes a call. False where a read failed.
+/// Makes a call. Returns false if a read failed.
 pub(crate) fn make_call<R: ExtendedBufRead>(
     alloc: Global,
     reader: &mut R,
@@ -153,7 +152,7 @@ pub(crate) fn make_call<R: ExtendedBufRead>(
     Ok(true)
 }
 
-// A call, until no read fails. How many did.
+// Makes a call until no read fails. Returns the number of failed reads.
 fn call_again<R: ExtendedBufRead>(
     alloc: Global,
     reader: &mut R,
@@ -168,7 +167,7 @@ fn call_again<R: ExtendedBufRead>(
     Ok(3)
 }
 
-// A word's call, as often as it says. How many reads failed.
+// Makes the call of a word, repeatedly if it says so. Returns the number of failed reads.
 fn call_word<R: ExtendedBufRead>(
     alloc: Global,
     reader: &mut R,
@@ -188,7 +187,7 @@ fn call_word<R: ExtendedBufRead>(
     Ok(told)
 }
 
-/// What is left in a reader: its stop, two lines, and three more after a reset.
+/// The rest of a reader: its stop, two lines, and three more after a reset.
 pub(crate) fn report_rest<R: ExtendedBufRead>(
     reader: &mut R,
     version: Protocol,
@@ -205,7 +204,7 @@ pub(crate) fn report_rest<R: ExtendedBufRead>(
     }
 }
 
-/// Nothing where each read that failed was told once.
+/// Reports nothing if each failed read led to one error.
 pub(crate) fn report_failures(report: &mut Report, told: u64, failed: u64) {
     if told != failed {
         report.word("!failed ");
@@ -215,7 +214,7 @@ pub(crate) fn report_failures(report: &mut Report, told: u64, failed: u64) {
     }
 }
 
-/// What each call gives.
+/// The result of each call.
 pub(crate) fn report_calls(
     alloc: Global,
     row: &Row<'_>,

@@ -1,11 +1,10 @@
-//! A ref map by a handshake, and by a list of refs where none came with it.
+//! A ref map: from a handshake, or from a list of refs if the handshake has none.
 //!
-//! `over` says where the answers come from, `version` what the client of a connection asks for. `by=obtain` is one call;
-//! else the list is prepared first: `prepare` with the prefixes of the refspecs, `prepare-all` without, `prepare-twice`
-//! twice with them. `without=unborn` and `without=ref-prefix` are tables of commands that don't know these,
-//! `without=agent` is a client that names itself by a feature that the server doesn't have. `letters` is how many letters
-//! come after the client's name. The bytes are a line of refspecs, a line of those that go with the fetch alone, a line of
-//! bodies as `bodies_of` reads them, and the bytes of the server.
+//! Settings: `over`, the kind of transport; `version`, which a client of a connection asks for. `by=obtain` makes one call.
+//! Otherwise the list is prepared first: by `prepare` with the prefixes of the refspecs, by `prepare-all` without them, by
+//! `prepare-twice` twice with them. `without=unborn` and `without=ref-prefix` are command tables without these. `without=agent` is
+//! a client whose agent feature the server doesn't have. `letters` is the number of letters after the agent. The payload is a line
+//! of refspecs, a line of those for this fetch only, a line of bodies as `bodies_of` reads them, and the server's bytes.
 use crate::lines::report_rest;
 use crate::map_values::{init_error, report_map};
 use crate::maps::context_of;
@@ -35,10 +34,9 @@ pub(crate) const SETTINGS: &[Setting] = &[
     ("letters", &[], 0),
 ];
 
-// How the client lists refs.
 #[derive(Clone, Copy)]
 struct Client {
-    // How the ref map is made.
+    // How to make the ref map.
     way: u64,
     table: CommandTable,
     name: &'static str,
@@ -63,7 +61,7 @@ impl Client {
         }
     }
 
-    // How the client names itself.
+    // The feature of the agent.
     fn agent(&self, alloc: Global) -> Result<Feature, AllocError> {
         let mut value = String::from_str(alloc, "git/replay")?;
         for _ in 0..self.letters {
@@ -73,7 +71,6 @@ impl Client {
     }
 }
 
-// What was prepared.
 fn prepared_word(prepared: &ObtainRefMap<'_>) -> &'static str {
     match prepared {
         ObtainRefMap::Existing(_) => "existing ",
@@ -81,7 +78,7 @@ fn prepared_word(prepared: &ObtainRefMap<'_>) -> &'static str {
     }
 }
 
-// Prepares a map that isn't fetched.
+// Prepares a map without fetching it.
 fn prepare_alone(
     alloc: Global,
     shaken: &mut Handshake,
@@ -101,7 +98,7 @@ fn prepare_alone(
     Ok(())
 }
 
-// Prepares a map and fetches it.
+// Prepares a map, and fetches it.
 fn prepare_and_fetch<T: Transport>(
     alloc: Global,
     shaken: &mut Handshake,
@@ -135,7 +132,7 @@ fn prepare_and_fetch<T: Transport>(
     }
 }
 
-// A map that is prepared first.
+// Makes a map that is prepared first.
 fn prepare<T: Transport>(
     alloc: Global,
     shaken: &mut Handshake,
@@ -151,7 +148,7 @@ fn prepare<T: Transport>(
     prepare_and_fetch(alloc, shaken, client, context, progress, transport, report)
 }
 
-// The ref map after a handshake.
+// Makes the ref map after a handshake.
 fn report_mapped<T: Transport>(
     alloc: Global,
     shaken: &mut Handshake,
@@ -196,7 +193,7 @@ fn report_mapped<T: Transport>(
     Ok(())
 }
 
-// A handshake, and the ref map after it.
+// Performs a handshake, and makes the ref map.
 fn report_over<T: Transport>(
     alloc: Global,
     transport: &mut T,
@@ -224,7 +221,7 @@ fn report_over<T: Transport>(
     Ok(())
 }
 
-// The lines and the other packets of what was sent.
+// The lines and the other packets that were sent.
 fn report_sent(sent: &[u8], report: &mut Report) {
     let mut rest = sent;
     report.word("sent ");
@@ -240,7 +237,7 @@ fn report_sent(sent: &[u8], report: &mut Report) {
     }
 }
 
-/// A ref map over a connection or memory, and what was sent.
+/// Makes a ref map over a connection or memory, and reports what was sent.
 pub(crate) fn report_listing(
     alloc: Global,
     row: &Row<'_>,

@@ -1,8 +1,8 @@
-//! Replays recorded bytes: reads rows from files, runs each through the public calls of the crates that read and
-//! write streams, and prints what they return, one line a row.
+//! Replays recorded bytes: reads test vectors from files, passes each to the public calls of the crates that read and write
+//! streams, and prints the results, one line per test vector.
 //!
-//! `gixp_replay FILE..` prints the line of each row, after its name. `gixp_replay --only NAME FILE..` prints those of the
-//! row or the group of that name alone. `rows` says what a row is.
+//! `gixp_replay FILE..` prints all lines, each after the name of its test vector. `gixp_replay --only NAME FILE..` prints those of
+//! the test vector or the group with this name. The module `rows` describes test vectors.
 #![tactic(auto)]
 
 mod answer_lines;
@@ -33,6 +33,7 @@ mod scripts;
 mod sessions;
 mod shakes;
 mod telling;
+mod urls;
 mod values;
 
 use crate::report::{Report, Runs};
@@ -45,17 +46,17 @@ use std::{env, fs, io};
 
 const USAGE: &str = "usage: gixp_replay [--only NAME] FILE..";
 
-// Why the program ends before the last row.
+// The errors of the program.
 #[derive(Drop)]
 enum Failure {
-    // The words aren't those of the usage, or no text.
+    // The command line is wrong, or isn't text.
     Usage,
     // A file can't be read, or a line can't be written.
     Io,
     Memory,
-    // The row of this number and name can't be read.
+    // The test vector with this number and name is malformed.
     Row(u64, String, RowError),
-    // No row has the name that is asked for.
+    // No test vector has the requested name.
     Name(String),
 }
 
@@ -66,7 +67,7 @@ fn failure_of(error: &io::Error) -> Failure {
     }
 }
 
-// Writes what a row gives, its bytes as they come.
+// Writes the result of a test vector whose bytes come as it says.
 fn replay_whole(alloc: Global, row: &Row<'_>, report: &mut Report) -> Result<(), AllocError> {
     match row.mode {
         Mode::Lines => lines::report_calls(alloc, row, report),
@@ -97,10 +98,11 @@ fn replay_whole(alloc: Global, row: &Row<'_>, report: &mut Report) -> Result<(),
         Mode::Fetch => fetches::report_fetch(alloc, row, report),
         Mode::Negotiation => negotiations::report_negotiation(alloc, row, report),
         Mode::Plan => plans::report_plan(alloc, row, report),
+        Mode::Url => urls::report_url(alloc, row, report),
     }
 }
 
-// Writes what a row gives, or what it gives for each place where its bytes are cut.
+// Writes the result of a test vector, or its result for each offset at which its bytes are split.
 fn replay_row(alloc: Global, row: &Row<'_>, report: &mut Report) -> Result<(), AllocError> {
     if !row.is_halved {
         return replay_whole(alloc, row, report);
@@ -119,7 +121,7 @@ fn replay_row(alloc: Global, row: &Row<'_>, report: &mut Report) -> Result<(), A
     Ok(())
 }
 
-// The failure of a row, with its number and its name.
+// The error of a test vector, with its number and its name.
 fn failure_at(alloc: Global, number: u64, row: &RowText<'_>, error: RowError) -> Failure {
     if let RowError::Memory = error {
         return Failure::Memory;
@@ -130,7 +132,7 @@ fn failure_at(alloc: Global, number: u64, row: &RowText<'_>, error: RowError) ->
     }
 }
 
-// What a row gives, in an empty report.
+// Writes the result of a test vector into an empty report.
 fn report_row(alloc: Global, text: &RowText<'_>, report: &mut Report) -> Result<(), RowError> {
     let head = text.head()?;
     let bytes = text.bytes(alloc, &head)?;
@@ -145,7 +147,7 @@ fn report_row(alloc: Global, text: &RowText<'_>, report: &mut Report) -> Result<
     Ok(())
 }
 
-// Writes the name of a row and its line.
+// Writes the name of a test vector and its line.
 fn write_line<W: Write>(name: &[u8], report: &Report, out: &mut W) -> Result<(), Failure> {
     let line = report.bytes().map_err(|_| Failure::Memory)?;
     for part in [name, b" ", line, b"\n"] {
@@ -154,7 +156,7 @@ fn write_line<W: Write>(name: &[u8], report: &Report, out: &mut W) -> Result<(),
     Ok(())
 }
 
-// Writes the line of each row, of those alone that have a name where one is asked for. Whether there was a row.
+// Writes the line of each test vector, or of those with the requested name. Returns whether there was one.
 fn replay<W: Write>(
     alloc: Global,
     bytes: &[u8],
@@ -194,7 +196,7 @@ fn replay_file<W: Write>(
     replay(rt.alloc(), &bytes, only, out)
 }
 
-// The name that is asked for, and the files.
+// The requested name, and the files.
 fn name_and_files(words: &[String]) -> Option<(Option<&str>, &[String])> {
     let [_program, words @ ..] = words else {
         return None;
@@ -231,7 +233,6 @@ fn run(rt: &HostRuntime) -> Result<(), Failure> {
     }
 }
 
-// No row has this name.
 fn no_row_of(alloc: Global, name: &str) -> Failure {
     match String::from_str(alloc, name) {
         Ok(name) => Failure::Name(name),

@@ -1,11 +1,11 @@
-//! Ref maps and why there are none, as text.
+//! Ref maps and their errors as text.
 use crate::refspecs::{report_fix, report_issue};
 use crate::report::Report;
 use crate::values::{client_error, parse_error, reference, validation_error};
 use gixp_refmap::refmap::{Mapping, Source, SpecIndex, init};
 use gixp_refmap::{RefMap, ls_refs};
 
-// The place of the refspec: `e` and a number among the explicit ones, `x` among the extra ones.
+// The index of a refspec: after `e` among the explicit ones, `x` for the extra ones.
 fn report_place(report: &mut Report, place: SpecIndex) {
     match place {
         SpecIndex::ExplicitInRemote(index) => {
@@ -53,7 +53,7 @@ pub(crate) fn report_map(report: &mut Report, map: &RefMap) {
     });
 }
 
-// Why refs aren't listed.
+// The error of `ls-refs`.
 fn list_error(report: &mut Report, e: &ls_refs::Error) {
     match e {
         ls_refs::Error::Io(_) => report.word("Io"),
@@ -76,7 +76,7 @@ fn list_error(report: &mut Report, e: &ls_refs::Error) {
     }
 }
 
-/// Why there is no ref map.
+/// The error of a ref map.
 pub(crate) fn init_error(report: &mut Report, e: &init::Error) {
     match e {
         init::Error::UnknownObjectFormat { format } => {

@@ -1,9 +1,8 @@
-//! A ref map, and the prefixes that a server is asked for.
+//! A ref map, and the prefixes in the request for refs.
 //!
-//! `prefixes=yes`: the words of the first line are prefixes and no refspecs. `tags=yes`: the refspec of all tags goes with
-//! the fetch. `filters=yes`: the server leaves out the refs that none of the prefixes begins. The bytes are a line of
-//! refspecs with blanks between them, a line of those that go with the fetch alone, a line of capabilities, and an
-//! `ls-refs` answer.
+//! With `prefixes=yes` the words of the first line are prefixes and not refspecs. With `tags=yes` the refspec of all tags is added
+//! for this fetch. With `filters=yes` the server leaves out the refs that begin with none of the prefixes. The payload is a line of
+//! refspecs, separated by blanks, a line of those for this fetch only, a line of capabilities, and an `ls-refs` response.
 use crate::map_values::{init_error, report_map};
 use crate::report::Report;
 use crate::rows::{NO_YES, Row, Setting, cut_at, cut_at_byte};
@@ -27,7 +26,7 @@ pub(crate) const SETTINGS: &[Setting] = &[
     ("filters", NO_YES, 0),
 ];
 
-// The refspecs of a line, or nothing where one is refused.
+// The refspecs of a line. Returns nothing if one is invalid.
 fn specs_of(
     alloc: Global,
     line: &[u8],
@@ -49,7 +48,7 @@ fn specs_of(
     Ok(Some(specs))
 }
 
-/// The refspecs of two lines, or nothing where one is refused.
+/// The refspecs of two lines. Returns nothing if one is invalid.
 pub(crate) fn context_of(
     alloc: Global,
     explicit: &[u8],
@@ -68,7 +67,7 @@ pub(crate) fn context_of(
     }))
 }
 
-// The argument lines that ask for the prefixes.
+// The argument lines with the prefixes.
 fn report_prefixes(report: &mut Report, lines: &[BString]) {
     report.word("prefixes ");
     for line in lines {
@@ -89,7 +88,7 @@ fn extend_prefixes(alloc: Global, line: &[u8], report: &mut Report) -> Result<()
     Ok(())
 }
 
-// Whether one of the argument lines asks for a name.
+// Whether one of the argument lines is a prefix of the name.
 fn is_asked_for(lines: &[BString], name: &[u8]) -> bool {
     let word = b"ref-prefix ".len() as u64;
     lines
@@ -97,7 +96,7 @@ fn is_asked_for(lines: &[BString], name: &[u8]) -> bool {
         .any(|line| name.starts_with(cut_at(line.as_bytes(), word).1))
 }
 
-// The refs that the argument lines ask for.
+// The refs that have a prefix in the argument lines.
 fn asked_for(alloc: Global, lines: &[BString], refs: Vec<Ref>) -> Result<Vec<Ref>, AllocError> {
     let mut kept = Vec::new(alloc);
     for found in refs {
@@ -108,7 +107,7 @@ fn asked_for(alloc: Global, lines: &[BString], refs: Vec<Ref>) -> Result<Vec<Ref
     Ok(kept)
 }
 
-// The refs of an answer, or nothing where it is refused.
+// The refs of a response. Returns nothing if it has an error.
 fn refs_of(
     alloc: Global,
     answer: &[u8],
@@ -125,7 +124,7 @@ fn refs_of(
     }
 }
 
-// The capabilities of a line, or nothing where it is refused.
+// The capabilities of a line. Returns nothing if it has an error.
 fn capabilities_of(
     alloc: Global,
     line: &[u8],
@@ -143,7 +142,7 @@ fn capabilities_of(
     }
 }
 
-// The ref map of an answer.
+// The ref map of a response.
 fn report_maps(
     alloc: Global,
     line: &[u8],
@@ -168,7 +167,6 @@ fn report_maps(
     Ok(())
 }
 
-/// The prefixes and the ref map.
 pub(crate) fn report_row(
     alloc: Global,
     row: &Row<'_>,

@@ -1,12 +1,11 @@
-//! A negotiation: what the refs call for, which commits are complete, what is asked for, and round by round which
-//! haves are told.
+//! A negotiation: the action, the complete commits, the wants, and the haves of each round.
 //!
-//! `shallow=no` lets the shallow boundary stay; `depth` is one of `by` from the refs, `deepen` is `by` more commits, `since`
-//! those since the time `by`, `exclude` those that no ref leads to. `tags` says which come. `over=bodies` is version 2 over
-//! bodies in memory, `bodies-1` version 1 over such, `connection` version 1 over a connection. `ref-in-want` says whether
-//! refs can be asked for by name. `offer-fails` is the number of the negotiator's call that fails, from 1 on, 0 for none;
-//! `fail-at` that of the look for a commit. `histories` says what the bytes are. A round that is refused is tried once
-//! more.
+//! Settings: `shallow=no` keeps the shallow boundary; `depth` is `by` commits from the refs, `deepen` is `by` more commits, `since`
+//! the commits since the time `by`, `exclude` the commits that a ref doesn't reach. `tags` is the tag mode. `over=bodies` is
+//! version 2 over bodies in memory, `bodies-1` version 1 over such bodies, `connection` version 1 over a connection. `ref-in-want`
+//! says whether the client can want refs by name. `offer-fails` is the number of the negotiator's call that fails, `fail-at` that
+//! of the look-up of a commit. Both count from 1; 0 means none. The module `histories` describes the payload. A round that fails is
+//! repeated once.
 use crate::handshakes::{bodies, connection};
 use crate::histories::History;
 use crate::report::Report;
@@ -38,11 +37,11 @@ pub(crate) const SETTINGS: &[Setting] = &[
     ("offer-fails", &[], 0),
 ];
 
-// Why lent repositories can't be opened.
+// The error of alternates that can't be opened.
 #[derive(Drop)]
 struct Closed {}
 
-// The number of an id.
+// The number in an id.
 fn number_of(id: &ObjectId) -> u64 {
     let [_, _, _, _, _, _, _, _, _, _, _, _, a, b, c, d, e, f, g, h] = id.bytes;
     u64::from_be_bytes([a, b, c, d, e, f, g, h])
@@ -80,7 +79,7 @@ fn report_error(report: &mut Report, e: &Error<Closed>) {
     report.word(" ");
 }
 
-// The known targets, where something is to be negotiated.
+// The known targets, if there is something to negotiate.
 fn report_action(
     report: &mut Report,
     action: Result<Action, Error<Closed>>,
@@ -105,7 +104,7 @@ fn report_action(
     Ok(None)
 }
 
-// A line of a request, with the number of the id that it ends in, if it has one.
+// A line of a request. The number of an id replaces the id at its end.
 fn report_line(report: &mut Report, line: &[u8]) {
     let line = line.strip_suffix(b"\n").unwrap_or(line);
     let (front, back) = line.split_at(line.len().saturating_sub(40));
@@ -148,7 +147,7 @@ fn report_round(report: &mut Report, round: Round, is_last: bool) {
     report.word(if is_last { " last " } else { " " });
 }
 
-// A request, where there is something to send.
+// Sends a request, if there is something to send.
 fn send<T: Transport>(report: &mut Report, asked: &mut Arguments, transport: &mut T, done: bool) {
     if !done && !asked.has_haves() {
         return;
@@ -158,7 +157,7 @@ fn send<T: Transport>(report: &mut Report, asked: &mut Arguments, transport: &mu
     }
 }
 
-// A round, and once more where it is refused. Whether another is to follow.
+// Runs a round, again if it fails. Returns whether another one follows.
 fn run_round<N: Negotiate<AlternatesError = Closed>, T: Transport>(
     report: &mut Report,
     negotiation: &mut N,
@@ -183,7 +182,7 @@ fn run_round<N: Negotiate<AlternatesError = Closed>, T: Transport>(
     false
 }
 
-// All rounds, as far as there are answers.
+// Runs all rounds for which there are responses.
 fn run_rounds<N: Negotiate<AlternatesError = Closed>, T: Transport>(
     report: &mut Report,
     negotiation: &mut N,
@@ -201,7 +200,7 @@ fn run_rounds<N: Negotiate<AlternatesError = Closed>, T: Transport>(
     }
 }
 
-// What is asked for, and then the rounds.
+// Adds the wants, and runs the rounds.
 fn run_over<N: Negotiate<AlternatesError = Closed>, T: Transport>(
     alloc: Global,
     row: &Row<'_>,
@@ -247,7 +246,7 @@ fn run_over<N: Negotiate<AlternatesError = Closed>, T: Transport>(
     Ok(())
 }
 
-// The same, and the requests after it.
+// The same, with the requests sent.
 fn negotiate<N: Negotiate<AlternatesError = Closed>>(
     alloc: Global,
     row: &Row<'_>,
@@ -322,7 +321,7 @@ fn tags_of(row: &Row<'_>) -> Tags {
     }
 }
 
-// The commits of the graph, and those that have the mark.
+// The commits of the graph, and those with the mark.
 fn report_marks<G: Objects>(graph: &Graph<G>, ids: &[ObjectId], report: &mut Report) {
     report.word("held ");
     for id in ids {
@@ -337,7 +336,7 @@ fn report_marks<G: Objects>(graph: &Graph<G>, ids: &[ObjectId], report: &mut Rep
     }
 }
 
-// The ids that were looked up, in order, those of commits that were read twice with a mark.
+// The ids that were looked up, in order. Commits that were read twice have a mark.
 fn report_looks(
     alloc: Global,
     objects: &mut MemoryObjects,
@@ -360,7 +359,7 @@ fn report_looks(
     Ok(())
 }
 
-// The refs of the repositories that lend objects, if they can be opened.
+// The refs of the alternates, if they can be opened.
 fn opened(alternates: &mut [MemoryRefs], can_be_opened: bool) -> Result<&mut [MemoryRefs], Closed> {
     if can_be_opened {
         Ok(alternates)
@@ -369,7 +368,7 @@ fn opened(alternates: &mut [MemoryRefs], can_be_opened: bool) -> Result<&mut [Me
     }
 }
 
-// The negotiation over its repository.
+// Runs the negotiation over its repository.
 fn run_graph<G: Objects>(
     alloc: Global,
     row: &Row<'_>,
@@ -391,7 +390,7 @@ fn run_graph<G: Objects>(
     negotiate(alloc, row, &mut negotiation, &history.answers, report)
 }
 
-// The same. What the graph holds comes after it.
+// The same, with the content of the graph.
 fn run_history(
     alloc: Global,
     row: &Row<'_>,
@@ -406,7 +405,7 @@ fn run_history(
     Ok(())
 }
 
-/// The decision, what is asked for and told, and what is known of the commits then.
+/// The action, the requests, and the state of the commits after them.
 pub(crate) fn report_negotiation(
     alloc: Global,
     row: &Row<'_>,

@@ -1,4 +1,4 @@
-//! Features and arguments: what a client asks for where a server has some capabilities, and what is validated.
+//! Features and arguments: those that a client requests if a server has some capabilities, and the validation of both.
 use crate::report::Report;
 use crate::values;
 use bstr::BString;
@@ -8,26 +8,6 @@ use gixp_requests::Command;
 use gixp_requests::command::{CommandTable, Feature, validate_argument_prefixes};
 use gixp_response::fetch::Response;
 use std::alloc::{AllocError, Global};
-
-// The features that a row may name.
-const NAMES: [&str; 16] = [
-    "agent",
-    "multi_ack_detailed",
-    "multi_ack",
-    "side-band",
-    "side-band-64k",
-    "thin-pack",
-    "ofs-delta",
-    "shallow",
-    "deepen-since",
-    "deepen-not",
-    "deepen-relative",
-    "include-tag",
-    "filter",
-    "ref-in-want",
-    "sideband-all",
-    "no-such",
-];
 
 fn report_features(features: &[Feature], report: &mut Report) {
     for (name, value) in features {
@@ -48,9 +28,20 @@ fn report_validation(outcome: Result<(), validate_argument_prefixes::Error>, rep
     report.word(" ");
 }
 
-/// The feature of this name, if it has one.
+/// The feature of this name: one of git's command table, `agent`, or `no-such`, which no table has.
 pub(crate) fn name_of(text: &[u8]) -> Option<&'static str> {
-    for name in NAMES {
+    let table = CommandTable::git();
+    for (name, _unless) in table.v1_fetch {
+        if name.as_bytes() == text {
+            return Some(*name);
+        }
+    }
+    for name in table.v2_fetch {
+        if name.as_bytes() == text {
+            return Some(*name);
+        }
+    }
+    for name in ["agent", "no-such"] {
         if name.as_bytes() == text {
             return Some(name);
         }
@@ -58,8 +49,7 @@ pub(crate) fn name_of(text: &[u8]) -> Option<&'static str> {
     None
 }
 
-// What the server has for one version: the features that are asked for by default, whether they are enough, and
-// whether the arguments are valid, and none.
+// The default features for one version, whether they are sufficient, and the validation of the arguments and of an empty list.
 fn report_version(
     alloc: Global,
     command: Command,
@@ -87,8 +77,7 @@ fn report_version(
     Ok(())
 }
 
-/// What is asked for and validated by each command under each version, and whether the features that are given are
-/// enough.
+/// The default features and the validation for each command and version, and whether the given features are sufficient.
 pub(crate) fn report_offers(
     alloc: Global,
     given: &[Feature],

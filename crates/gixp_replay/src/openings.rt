@@ -1,8 +1,8 @@
-//! What a client says first over a connection.
+//! The first packet line of a client over a connection.
 //!
-//! `version` is what it asks for, `service` which program, `host` whether it names one, `letters` how many letters stand
-//! after the path. The bytes are the path, a NUL, the host, a NUL, and parameters,
-//! each with a NUL after it. The server's answer is a flush packet.
+//! Settings: `version`, which the client asks for; `service`, the program; `host`, whether the line names one; `letters`, the
+//! number of letters after the path. The payload is the path, a NUL, the host, a NUL, and parameters, each followed by a NUL. The
+//! server's response is a flush packet.
 use crate::handshakes::{connection, report_response};
 use crate::report::Report;
 use crate::rows::{NO_YES, Row, Setting, cut_at_byte};
@@ -18,7 +18,7 @@ pub(crate) const SETTINGS: &[Setting] = &[
     ("letters", &[], 0),
 ];
 
-// The text of these bytes, or a question mark.
+// The text of these bytes, or a question mark if they aren't UTF-8.
 fn text_of(alloc: Global, bytes: &[u8]) -> Result<String, AllocError> {
     String::from_str(alloc, str::from_utf8(bytes).unwrap_or("?"))
 }
@@ -33,7 +33,7 @@ fn parameter_of(alloc: Global, word: &[u8]) -> Result<(String, Option<String>), 
     }
 }
 
-/// Names with such bytes between them, each with its value after an equals sign if it has one.
+/// The parameters between separators, each with its value if it has an equals sign.
 pub(crate) fn parameters_of(
     alloc: Global,
     text: &[u8],
@@ -49,7 +49,7 @@ pub(crate) fn parameters_of(
     Ok(parameters)
 }
 
-// An opening for a path with so many letters after it, and for a host.
+// An opening for a path with letters after it, and for a host.
 fn opening_of(
     alloc: Global,
     path: &[u8],
@@ -86,7 +86,7 @@ fn open<T: Transport>(
     }
 }
 
-/// What the handshake gives, and the bytes that were written.
+/// The result of the handshake, and the bytes written.
 pub(crate) fn report_opening(
     alloc: Global,
     row: &Row<'_>,

@@ -1,9 +1,9 @@
 //! A pack through its bands.
 //!
-//! `version`, `limit` (how many bytes are read at most), `reads` (a number from which sizes and kinds of reads follow, 0
-//! for large reads alone), `interrupt-at` (which question for an interrupt is answered with true) and `memory-at` (which
-//! text can't be allocated), both from 0 on. The report has how the reading ended, the bytes, the texts, and how many reads
-//! were interrupted and could not be allocated; where no read fails, what stands in the line reader follows.
+//! Settings: `version`; `limit`, the number of bytes to read at most; `reads`, the seed for sizes and kinds of reads, 0 for large
+//! reads only; `interrupt-at`, which check for an interrupt is true; `memory-at`, for which text an allocation fails. Both count
+//! from 0. The report has the end of the reading, the bytes, the messages, and the number of interrupted reads and of failed
+//! allocations. If no read fails, the state of the line reader follows.
 use crate::lines::{is_failure, report_failures, report_rest};
 use crate::report::Report;
 use crate::rows::{Row, Setting};
@@ -23,7 +23,7 @@ pub(crate) const SETTINGS: &[Setting] = &[
     ("memory-at", &[], u64::MAX),
 ];
 
-/// A listener that writes texts down. The text of number `fails` can't be allocated, once.
+/// A listener that records messages. The allocation for the message with the number `fails` fails, once.
 #[derive(Drop)]
 pub(crate) struct Notes<'a> {
     told: &'a mut Report,
@@ -31,7 +31,6 @@ pub(crate) struct Notes<'a> {
 }
 
 impl<'a> Notes<'a> {
-    /// A listener that adds to this report.
     pub(crate) fn new(told: &'a mut Report, fails: u64) -> Notes<'a> {
         Notes { told, fails }
     }
@@ -55,14 +54,14 @@ impl BandText for Notes<'_> {
     }
 }
 
-/// An interrupt that says true to the question of one number.
+/// An interrupt whose check with one number is true.
 #[derive(Drop)]
 pub(crate) struct Once {
     questions: u64,
 }
 
 impl Once {
-    /// True to the question of this number, from 0 on.
+    /// The number counts from 0.
     pub(crate) fn new(question: u64) -> Once {
         Once {
             questions: question,
@@ -83,7 +82,7 @@ impl Interrupt for Once {
     }
 }
 
-// How many bytes a read asks for.
+// The size of a read.
 fn size_of_read(random: u64) -> usize {
     match random % 12 {
         0 => 0,
@@ -101,14 +100,14 @@ fn size_of_read(random: u64) -> usize {
     }
 }
 
-// What a read did.
+// The result of a read.
 enum Step {
     Took,
     Ended,
     Refused,
 }
 
-// One read of at most so many bytes.
+// One read of at most `size` bytes.
 fn read_some<R: Read>(
     reader: &mut R,
     size: usize,
@@ -132,15 +131,15 @@ fn read_some<R: Read>(
     }
 }
 
-// What `fill_buf` lends.
+// The result of `fill_buf`.
 enum Lent {
-    // So many of its bytes were copied.
+    // The number of its bytes that were copied.
     Bytes(usize),
     Ended,
     Refused,
 }
 
-// Copies some of the bytes that are lent.
+// Copies some of the borrowed bytes.
 fn copy_lent(
     bytes: io::Result<&[u8]>,
     random: u64,
@@ -163,7 +162,7 @@ fn copy_lent(
     Ok(Lent::Bytes(amount))
 }
 
-// Lends bytes, copies some, and takes these.
+// Calls `fill_buf`, copies some bytes, and consumes them.
 fn lend_some<R: BufRead>(
     reader: &mut R,
     random: u64,
@@ -180,7 +179,7 @@ fn lend_some<R: BufRead>(
     }
 }
 
-/// The error that stands in a reader of bands, if there is one.
+/// The error that a reader of bands keeps, if there is one.
 pub(crate) fn report_fault(fault: Option<&read::Error>, report: &mut Report) {
     match fault {
         Some(e) => values::read_error(report, e),
@@ -189,7 +188,7 @@ pub(crate) fn report_fault(fault: Option<&read::Error>, report: &mut Report) {
     report.word(" ");
 }
 
-// How often a read was refused and the next one went on.
+// The number of reads that failed, where the next one continued.
 #[derive(Clone, Copy)]
 struct Counts {
     interrupted: u64,
@@ -206,7 +205,7 @@ impl Counts {
         }
     }
 
-    // Counts an error after which the next read goes on. Whether it is one.
+    // Counts an error after which the next read continues. Returns whether it is one.
     fn count(&mut self, fault: Option<&read::Error>) -> bool {
         match fault {
             Some(read::Error::Interrupted) => {
@@ -228,7 +227,7 @@ impl Counts {
     }
 }
 
-// The error after which each read fails, and what the next read says.
+// The error after which each read fails, and the result of the next read.
 fn report_last_error<T: ExtendedBufRead, I: Interrupt>(
     reader: &mut WithSidebands<'_, '_, T, Notes<'_>, I>,
     report: &mut Report,
@@ -242,7 +241,7 @@ fn report_last_error<T: ExtendedBufRead, I: Interrupt>(
     report.word(" ");
 }
 
-// One read of a kind and size that follow from a number, 0 for a large one.
+// One read, whose kind and size depend on a number. 0 means a large one.
 fn read_mixed<T: ExtendedBufRead, I: Interrupt>(
     reader: &mut WithSidebands<'_, '_, T, Notes<'_>, I>,
     random: u64,
@@ -257,7 +256,7 @@ fn read_mixed<T: ExtendedBufRead, I: Interrupt>(
     }
 }
 
-// Takes content up to a limit, in ways that follow from a number.
+// Reads content up to a limit, in ways that depend on the seed.
 fn drain<T: ExtendedBufRead, I: Interrupt>(
     alloc: Global,
     reader: &mut WithSidebands<'_, '_, T, Notes<'_>, I>,
@@ -299,20 +298,19 @@ fn drain<T: ExtendedBufRead, I: Interrupt>(
     Ok(counts)
 }
 
-/// How a pack is read.
 #[derive(Clone, Copy)]
 pub(crate) struct Settings {
-    /// The most bytes.
+    /// The number of bytes to read at most.
     pub(crate) limit: u64,
-    /// From what the sizes and kinds of reads follow.
+    /// The seed for sizes and kinds of reads.
     pub(crate) seed: u64,
-    /// Which question for an interrupt is answered with true.
+    /// Which check for an interrupt is true.
     pub(crate) interrupt: u64,
-    /// Which text can't be allocated.
+    /// For which message an allocation fails.
     pub(crate) memory: u64,
 }
 
-/// The content of a pack that comes before a reader, and its texts. How many reads failed.
+/// The content of the pack that follows in a reader, and its messages. Returns the number of failed reads.
 pub(crate) fn read_pack<T: ExtendedBufRead>(
     alloc: Global,
     reader: &mut T,
@@ -341,7 +339,7 @@ pub(crate) fn read_pack<T: ExtendedBufRead>(
     Ok(counts.failed)
 }
 
-/// A pack over a line reader.
+/// Reads a pack from a line reader.
 pub(crate) fn report_pack(
     alloc: Global,
     row: &Row<'_>,

@@ -1,8 +1,7 @@
-//! An advertisement that ends at each of its places, or whose bytes come so many a read, for each number up to its
-//! length.
+//! An advertisement that is cut at each offset, or read in pieces of each size up to its length.
 //!
-//! `each=beginning` is the first, over bodies in memory, `each=size` the second, over a connection; `version` is what the
-//! client asks for.
+//! `each=beginning` cuts it, over bodies in memory. `each=size` varies the size of pieces, over a connection. `version` is the one
+//! that the client asks for.
 use crate::handshakes::report_handshake;
 use crate::report::{Report, Runs};
 use crate::rows::{Row, Setting};
@@ -11,7 +10,7 @@ use std::alloc::{AllocError, Global};
 
 pub(crate) const SETTINGS: &[Setting] = &[("each", &["beginning", "size"], 0), ("version", &[], 2)];
 
-/// The handshakes, those with one result together.
+/// The handshakes. Equal results are joined.
 pub(crate) fn report_places(
     alloc: Global,
     row: &Row<'_>,

@@ -1,8 +1,8 @@
 //! A plan over recorded bodies.
 //!
-//! `refspecs` is the number of these, `room` how many bytes the writer takes before it fails, 0 for one that doesn't,
-//! `denied` the number of the body in whose place the server wants an account, from 1 on. The first line of the bytes has
-//! the lengths of the haves, of each refspec and of each body, which follow one after another.
+//! Settings: `refspecs`, their number; `room`, the number of bytes that the writer takes before it fails, 0 for no limit; `denied`,
+//! the number of the body in whose place the server wants an account, from 1 on. The first line of the payload has the lengths of
+//! the haves, of each refspec and of each body. These follow one after another.
 use crate::report::Report;
 use crate::rows::{Row, Setting, cut_at, cut_at_byte, number};
 use bstr::BString;
@@ -19,7 +19,7 @@ pub(crate) const SETTINGS: &[Setting] = &[
     ("denied", &[], 0),
 ];
 
-// Keeps what is written, up to so many bytes.
+// A writer with a limit.
 #[derive(Drop)]
 struct Page {
     text: Vec<u8>,
@@ -45,7 +45,7 @@ impl Write for Page {
     }
 }
 
-// The room of a page, by its setting.
+// The limit of a page.
 fn room_of(setting: u64) -> usize {
     if setting == 0 {
         return usize::MAX;
@@ -53,7 +53,7 @@ fn room_of(setting: u64) -> usize {
     usize::try_from(setting).unwrap_or(usize::MAX)
 }
 
-// What a plan needs.
+// The input of a plan.
 #[derive(Drop)]
 struct Parts<'a> {
     haves: &'a [u8],
@@ -61,7 +61,6 @@ struct Parts<'a> {
     bodies: Vec<Body>,
 }
 
-// The parts of a row.
 fn parts_of<'a>(alloc: Global, row: &Row<'a>) -> Result<Parts<'a>, AllocError> {
     let [count, _, denied, ..] = row.settings;
     let (lengths, mut rest) = cut_at_byte(row.payload, b'\n');
@@ -88,7 +87,6 @@ fn parts_of<'a>(alloc: Global, row: &Row<'a>) -> Result<Parts<'a>, AllocError> {
     Ok(parts)
 }
 
-// Plans over the parts.
 fn plan_parts(alloc: Global, parts: Parts<'_>, page: &mut Page) -> Result<(), PlanError> {
     let Parts {
         haves,
@@ -109,7 +107,7 @@ fn plan_parts(alloc: Global, parts: Parts<'_>, page: &mut Page) -> Result<(), Pl
     )
 }
 
-/// What is planned, and the step and the variant of its refusal.
+/// The plan, or the step and the variant of its error.
 pub(crate) fn report_plan(
     alloc: Global,
     row: &Row<'_>,

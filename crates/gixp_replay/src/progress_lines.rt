@@ -1,7 +1,7 @@
-//! A line of progress, and what it makes a progress reporter show.
+//! A line of progress, and the calls of a progress reporter for it.
 //!
-//! `error` says whether it is an error of the server. The bytes are a line with the name that is shown before, which may be empty
-//! for none, and the text.
+//! `error` says whether it is an error of the server. The payload is a line with the name shown before, which may be empty for
+//! none, and the text.
 use crate::report::Report;
 use crate::rows::{NO_YES, Row, Setting, cut_at_byte};
 use crate::telling::Telling;
@@ -26,7 +26,7 @@ fn report_parts(report: &mut Report, line: &RemoteProgress<'_>) {
     report_number(report, line.max.map(|number| number as u64));
 }
 
-/// The parts of the line, and what was told.
+/// The parts of the line, and the calls.
 pub(crate) fn report_line(
     alloc: Global,
     row: &Row<'_>,

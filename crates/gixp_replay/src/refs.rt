@@ -1,7 +1,7 @@
 //! Refs of version 2.
 //!
-//! `version` is that of the reader; `refs=all` reads all at once, `refs=each` one by one. Where no read fails, what stands
-//! in the reader follows.
+//! `version` is that of the reader. `refs=all` reads all refs at once, `refs=each` one by one. If no read fails, the rest of the
+//! reader is reported last.
 use crate::lines::{is_failure, report_failures, report_rest};
 use crate::report::Report;
 use crate::rows::{Row, Setting};
@@ -13,7 +13,6 @@ use std::alloc::{AllocError, Global};
 
 pub(crate) const SETTINGS: &[Setting] = &[("version", &[], 2), ("refs", &["all", "each"], 0)];
 
-/// A list of refs.
 pub(crate) fn report_list(report: &mut Report, refs: &[Ref]) {
     report.word("refs ");
     for found in refs {
@@ -21,13 +20,13 @@ pub(crate) fn report_list(report: &mut Report, refs: &[Ref]) {
     }
 }
 
-// What an error says of the calls after it.
+// The effect of an error on later calls.
 enum Outlook {
-    // A read failed: the call is made again.
+    // A read failed. The call is repeated.
     Again,
-    // The line was refused, and the next one may be a ref.
+    // The line was invalid. The next one may be a ref.
     Next,
-    // Each further call returns the same.
+    // Each later call returns the same error.
     Over,
 }
 
@@ -47,7 +46,7 @@ fn outlook_of(e: &parse::Error) -> Outlook {
     }
 }
 
-// Refs one by one, and a last error twice. How often a read failed.
+// Reads refs one by one, and the last error twice. Returns the number of failed reads.
 fn report_each<R: ExtendedBufRead>(alloc: Global, reader: &mut R, report: &mut Report) -> u64 {
     let mut failed = 0u64;
     let mut is_over = false;
@@ -85,7 +84,7 @@ fn report_error(report: &mut Report, e: &parse::Error) {
     report.word(" ");
 }
 
-/// All refs of version 2. Whether there was no error.
+/// Reads all refs of version 2. Returns whether there was no error.
 pub(crate) fn report_all<R: ExtendedBufRead>(
     alloc: Global,
     reader: &mut R,
@@ -103,7 +102,7 @@ pub(crate) fn report_all<R: ExtendedBufRead>(
     }
 }
 
-/// The refs of an `ls-refs` answer.
+/// The refs of an `ls-refs` response.
 pub(crate) fn report_refs(
     alloc: Global,
     row: &Row<'_>,

@@ -1,7 +1,7 @@
-//! Refspecs: what a text or a name is read as, and what refspecs make of refs.
+//! Refspecs: the parsing of texts and names, and the mappings of refs.
 //!
-//! The bytes of a `refspec` row are one, those of `ref-name` a name, those of `prefixes` refspecs with blanks between
-//! them, those of `matches` the same in a line, and the names of refs, one a line, after it.
+//! The payload of mode `refspec` is a refspec, of `ref-name` a name, of `prefixes` refspecs separated by blanks, of `matches` the
+//! same in a line, then the names of refs, one per line.
 use crate::report::Report;
 use crate::rows::{Row, cut_at_byte};
 use bstr::{BStr, BString};
@@ -12,7 +12,7 @@ use gixp_refspec::parse::{Operation, parse};
 use gixp_refspec::{PartialName, RefSpecRef};
 use std::alloc::{AllocError, Global};
 
-/// The text of a refspec, or why it is none.
+/// The text of a refspec, or the error.
 pub(crate) fn report_spec(
     alloc: Global,
     row: &Row<'_>,
@@ -25,7 +25,6 @@ pub(crate) fn report_spec(
     Ok(())
 }
 
-/// Whether a name is valid.
 pub(crate) fn report_name(
     alloc: Global,
     row: &Row<'_>,
@@ -40,7 +39,7 @@ pub(crate) fn report_name(
     Ok(())
 }
 
-// The refspecs of a line, but for those that are refused.
+// The refspecs of a line, without those that are invalid.
 fn specs_of<'a>(alloc: Global, line: &'a [u8]) -> Result<Vec<RefSpecRef<'a>>, AllocError> {
     let mut specs = Vec::new(alloc);
     for word in line.split(|b| *b == b' ') {
@@ -51,7 +50,7 @@ fn specs_of<'a>(alloc: Global, line: &'a [u8]) -> Result<Vec<RefSpecRef<'a>>, Al
     Ok(specs)
 }
 
-// The refs of these names, each of one id.
+// The refs with these names, all with one id.
 fn items_of<'a>(
     alloc: Global,
     names: &'a [u8],
@@ -84,7 +83,7 @@ fn report_mapping(report: &mut Report, mapping: &Mapping) {
     report.word(" ");
 }
 
-/// A local name that was taken from a mapping, and the refspec.
+/// A local name that was removed from a mapping, and the refspec.
 pub(crate) fn report_fix(report: &mut Report, fix: &Fix) {
     let Fix::MappingWithPartialDestinationRemoved { name, spec } = fix;
     report.word("fix ");
@@ -93,7 +92,7 @@ pub(crate) fn report_fix(report: &mut Report, fix: &Fix) {
     report.word(" ");
 }
 
-/// A local name with two sources: its name, and the refspec and the source of each mapping.
+/// A local name with two sources, and the refspec and the source of each mapping.
 pub(crate) fn report_issue(report: &mut Report, issue: &Issue) {
     let Issue::Conflict {
         destination_full_ref_name,
@@ -145,7 +144,7 @@ pub(crate) fn report_matches(
     Ok(())
 }
 
-/// What is asked for.
+/// The prefixes of the refspecs.
 pub(crate) fn report_prefixes(
     alloc: Global,
     row: &Row<'_>,

@@ -1,23 +1,23 @@
-//! The line of a row, in printable letters.
+//! The line of a test vector, in printable characters.
 use crate::rows::cut_at;
 use gixp_hash::ObjectId;
 use std::alloc::{AllocError, Global};
 use std::fmt::Debug;
 
-/// What a row gives, as text. An allocation failure is kept, so that those who write need not look at each word.
+/// The result of a test vector as text. It records an allocation failure, so that writers need not check each word.
 #[derive(Drop)]
 pub(crate) struct Report {
     alloc: Global,
     text: Vec<u8>,
     has_failed: bool,
-    /// Whether the row has a word that its mode doesn't know.
+    /// Whether the test vector has a word that its mode doesn't know.
     pub(crate) is_unknown: bool,
 }
 
-// Longer runs of a byte stand as the byte and their length.
+// A longer run of one byte is written as the byte and its length.
 const LONGEST_RUN: usize = 64;
 
-// How many bytes at the front are the same.
+// The length of the run at the start.
 fn run_at_front(bytes: &[u8]) -> usize {
     let mut count = 0usize;
     for byte in bytes {
@@ -39,7 +39,6 @@ fn digit(value: u8) -> u8 {
 }
 
 impl Report {
-    /// No text.
     pub(crate) fn new(alloc: Global) -> Report {
         Report {
             alloc,
@@ -49,14 +48,13 @@ impl Report {
         }
     }
 
-    /// Drops the text.
     pub(crate) fn clear(&mut self) {
         self.text.clear();
         self.has_failed = false;
         self.is_unknown = false;
     }
 
-    /// The text, where no allocation failed.
+    /// The text, unless an allocation failed.
     pub(crate) fn bytes(&self) -> Result<&[u8], AllocError> {
         if self.has_failed {
             return Err(AllocError);
@@ -70,12 +68,12 @@ impl Report {
         }
     }
 
-    /// A word as it is.
+    /// Adds a word as it is.
     pub(crate) fn word(&mut self, word: &str) {
         self.push(word.as_bytes());
     }
 
-    /// A number in decimal digits.
+    /// Adds a number in decimal digits.
     pub(crate) fn number(&mut self, value: u64) {
         match value.to_string(self.alloc) {
             Ok(text) => self.word(text.as_str()),
@@ -83,7 +81,7 @@ impl Report {
         }
     }
 
-    /// A value as its `Debug` shows it.
+    /// Adds a value as its `Debug` shows it.
     pub(crate) fn debug<T: Debug>(&mut self, value: &T) {
         match format!(in self.alloc; "{value:?}") {
             Ok(text) => self.word(text.as_str()),
@@ -91,25 +89,25 @@ impl Report {
         }
     }
 
-    /// An id in hexadecimal digits.
+    /// Adds an id in hexadecimal digits.
     pub(crate) fn id(&mut self, id: &ObjectId) {
         self.push(&id.to_hex());
     }
 
-    /// Bytes in quotes, as `letters` shows them.
+    /// Adds bytes in quotes, written by `letters`.
     pub(crate) fn quote(&mut self, bytes: &[u8]) {
         self.word("'");
         self.letters(bytes);
         self.word("'");
     }
 
-    /// The text of another report in quotes.
+    /// Adds the text of another report in quotes.
     pub(crate) fn quote_report(&mut self, other: &Report) {
         self.quote(&other.text);
         self.has_failed |= other.has_failed;
     }
 
-    // A byte, one that is no plain letter as two digits after a backslash.
+    // Adds a byte. A byte that isn't a plain character becomes two digits after a backslash.
     fn letter(&mut self, byte: u8) {
         let plain = byte > b' ' && byte < 127 && byte != b'\\' && byte != b'\'';
         if plain {
@@ -119,7 +117,7 @@ impl Report {
         }
     }
 
-    /// Bytes, a long run of one as `x\*N;`, where `N` is its length.
+    /// Adds bytes. A long run of one byte becomes `x\*N;`, where `N` is its length.
     pub(crate) fn letters(&mut self, bytes: &[u8]) {
         let mut rest = bytes;
         for _ in 0..bytes.len() {
@@ -142,7 +140,7 @@ impl Report {
     }
 }
 
-/// Results of one place after another. Those that are equal stand once, after the first place and the last.
+/// Results of consecutive offsets. Equal ones are written once, after the first and the last offset.
 #[derive(Drop)]
 pub(crate) struct Runs {
     first: u64,
@@ -151,7 +149,7 @@ pub(crate) struct Runs {
 }
 
 impl Runs {
-    /// None yet; the next one is that of this place.
+    /// No results yet. The next one is that of the offset `first`.
     pub(crate) fn new(alloc: Global, first: u64) -> Runs {
         Runs {
             first,
@@ -160,7 +158,7 @@ impl Runs {
         }
     }
 
-    /// Adds the result of the next place.
+    /// Adds the result of the next offset.
     pub(crate) fn add(&mut self, found: &Report, report: &mut Report) {
         if self.count == 0 || self.last.text.as_slice() != found.text.as_slice() {
             self.finish(report);
@@ -171,7 +169,7 @@ impl Runs {
         self.count = self.count.saturating_add(1);
     }
 
-    /// Writes the last results.
+    /// Writes the last result.
     pub(crate) fn finish(&mut self, report: &mut Report) {
         if self.count == 0 {
             return;

@@ -1,10 +1,9 @@
 //! Requests by a list of calls.
 //!
-//! `version` is that of the request, `over` says whether it goes over bodies in memory or a connection. Each line of the
-//! bytes is a call and what belongs to it: `want`, `have` and `shallow` an id, `deepen` and `deepen_since` a number,
-//! `deepen_not`, `filter`, `add_feature` and `want_ref` a text, `deepen_relative`, `use_include_tag`, `send` and
-//! `send-done` nothing. A line `feature NAME` or `feature NAME=VALUE` is a feature of the client. What may be called
-//! stands after each call as a row of bits, an `x` before it where the call may not be made.
+//! `version` is the request's version. `over` says whether the request goes over bodies in memory or a connection. Each
+//! line of the bytes is a word of `LINES` and the argument of its call: an id, a number, a text, or nothing. A line
+//! `feature NAME` or `feature NAME=VALUE` is a feature of the client. After each call the output has a bit for each
+//! condition: whether it holds now. An `x` before the bits says that the call may not be made.
 use crate::handshakes::{bodies, connection};
 use crate::offers::name_of;
 use crate::report::Report;
@@ -20,7 +19,6 @@ use std::alloc::{AllocError, Global};
 
 pub(crate) const SETTINGS: &[Setting] = &[("version", &[], 2), ("over", BODIES_CONNECTION, 0)];
 
-// A line of the bytes.
 #[derive(Clone, Copy)]
 enum Line {
     Feature,
@@ -38,7 +36,7 @@ enum Line {
     Send { done: bool },
 }
 
-static LINES: [(&str, Line); 14] = [
+const LINES: &[(&str, Line)] = &[
     ("feature", Line::Feature),
     ("want", Line::Want),
     ("have", Line::Have),
@@ -55,7 +53,7 @@ static LINES: [(&str, Line); 14] = [
     ("send-done", Line::Send { done: true }),
 ];
 
-/// Adds the feature that a text names, with its value after an equals sign if it has one.
+/// Adds the feature that a text names, with its value if it has an equals sign.
 pub(crate) fn push_feature(
     alloc: Global,
     text: &[u8],
@@ -79,14 +77,14 @@ pub(crate) fn push_feature(
 fn push_named(alloc: Global, script: &[u8], features: &mut Vec<Feature>) -> Result<(), AllocError> {
     for line in script.split(|b| *b == b'\n') {
         let (word, text) = cut_at_byte(line, b' ');
-        if let Some(Line::Feature) = meaning_of(&LINES, word) {
+        if let Some(Line::Feature) = meaning_of(LINES, word) {
             push_feature(alloc, text, features)?;
         }
     }
     Ok(())
 }
 
-/// How a client of this name calls itself.
+/// The feature for an agent.
 pub(crate) fn report_agent(
     alloc: Global,
     row: &Row<'_>,
@@ -97,7 +95,7 @@ pub(crate) fn report_agent(
     Ok(())
 }
 
-// What may be called now.
+// The calls that are allowed now, and the state of the arguments, as bits.
 fn report_state(asked: &Arguments, report: &mut Report) {
     for can in [
         asked.can_use_filter(),
@@ -119,7 +117,7 @@ fn report_state(asked: &Arguments, report: &mut Report) {
     report.word(" ");
 }
 
-// A call that may be made under a condition, beside those for depth. False where it may not be made.
+// Makes a call that needs a capability, except those for depth. Returns false if it isn't allowed.
 fn add(alloc: Global, asked: &mut Arguments, line: Line, rest: &[u8]) -> Result<bool, AllocError> {
     let text = str::from_utf8(rest).unwrap_or("?");
     let id = ObjectId::from_hex(rest).unwrap_or(ObjectId::null());
@@ -137,7 +135,7 @@ fn add(alloc: Global, asked: &mut Arguments, line: Line, rest: &[u8]) -> Result<
     Ok(true)
 }
 
-// A call for depth. False where it may not be made.
+// Makes a call for depth. Returns false if it isn't allowed.
 fn deepen(asked: &mut Arguments, line: Line, rest: &[u8]) -> Result<bool, AllocError> {
     let added = match line {
         Line::Deepen if asked.can_use_deepen() => {
@@ -156,7 +154,7 @@ fn deepen(asked: &mut Arguments, line: Line, rest: &[u8]) -> Result<bool, AllocE
     Ok(true)
 }
 
-// A request. False where there is nothing to send.
+// Sends a request. Returns false if there is nothing to send.
 fn send<T: Transport>(
     asked: &mut Arguments,
     transport: &mut T,
@@ -176,7 +174,6 @@ fn send<T: Transport>(
     Ok(true)
 }
 
-// All calls.
 fn report_calls<T: Transport>(
     alloc: Global,
     script: &[u8],
@@ -187,7 +184,7 @@ fn report_calls<T: Transport>(
     report_state(asked, report);
     for line in script.split(|b| *b == b'\n') {
         let (word, rest) = cut_at_byte(line, b' ');
-        let was_possible = match meaning_of(&LINES, word) {
+        let was_possible = match meaning_of(LINES, word) {
             Some(Line::Feature) => continue,
             Some(Line::Send { done }) => send(asked, transport, done, report)?,
             Some(line) => add(alloc, asked, line, rest)?,
@@ -204,7 +201,7 @@ fn report_calls<T: Transport>(
     Ok(())
 }
 
-// What is asked for at first, by the features that the row names.
+// The arguments at first, with the features that the test vector names.
 fn first_asked(alloc: Global, row: &Row<'_>) -> Result<Arguments, AllocError> {
     let [version, ..] = row.settings;
     let mut features: Vec<Feature> = Vec::new(alloc);
@@ -212,7 +209,7 @@ fn first_asked(alloc: Global, row: &Row<'_>) -> Result<Arguments, AllocError> {
     Arguments::new(alloc, &CommandTable::git(), version_of(version), features)
 }
 
-// What each call gives over bodies in memory, and the requests that were sent.
+// The result of each call over bodies in memory, and the requests sent.
 fn report_over_bodies(
     alloc: Global,
     row: &Row<'_>,
@@ -228,7 +225,7 @@ fn report_over_bodies(
     Ok(())
 }
 
-// What each call gives over a connection, and the bytes that were sent.
+// The result of each call over a connection, and the bytes sent.
 fn report_over_connection(
     alloc: Global,
     row: &Row<'_>,
@@ -243,7 +240,7 @@ fn report_over_connection(
     Ok(())
 }
 
-/// What each call gives, and the bytes that were sent.
+/// The result of each call, and the bytes sent.
 pub(crate) fn report_requests(
     alloc: Global,
     row: &Row<'_>,

@@ -1,20 +1,20 @@
-//! Rows: what is replayed, one after another. The README of this crate says what the bytes of each mode are.
+//! Test vectors: the recorded input. The README of this crate describes the payload of each mode.
 //!
-//! A row is a head and lines of bytes:
+//! A test vector is a head and lines of bytes:
 //!
-//!     NAME MODE SETTING=VALUE.. # what a reader may want to know
+//!     NAME MODE SETTING=VALUE.. # a remark for readers
 //!     |bytes
 //!     |more bytes\
 //!
-//! Each line after `|` ends in an LF, but for one that ends in `\`. `\HH` is a byte by two digits, `\*N;` makes the byte
-//! before it stand N times. Lines that are empty or begin with `#` say nothing. A value is a word or a number; the module
-//! of a mode has its settings. Each mode has seven more:
+//! Each line after `|` ends with an LF, unless it ends with `\`. `\HH` is a byte in two digits. `\*N;` repeats the byte before it,
+//! N times in all. Empty lines and lines that begin with `#` are ignored. A value is a word or a number. The module of a mode lists
+//! its settings. Each mode has seven more:
 //!
-//! - `pieces=N`: the bytes come in pieces of N; `random-pieces=N`: of sizes that follow from N, a million or more. They
-//!   come all at once where a row says neither.
-//! - `halves=each`: they come in two pieces, for each place where they can be cut, with equal results together.
-//! - `fail-at=N`: the read of that number fails, from 1 on, and `fail-as=`: how. None fails where a row doesn't say.
-//! - `again=N` and `from=N`: the bytes come N times more, from that one on.
+//! - `pieces=N`: reads return N bytes; `random-pieces=N`: the sizes of reads depend on N, a million or more. The default is all
+//!   bytes at once.
+//! - `halves=each`: the bytes come in two pieces, for each offset at which they can be split. Equal results are joined.
+//! - `fail-at=N`: the read with this number fails, from 1 on, with the error `fail-as=`. The default is none.
+//! - `again=N` and `from=N`: the bytes from offset `from` on are repeated N times more.
 use crate::{
     answers, bands, boundaries, capabilities, fetches, handshakes, lines, listings, maps,
     negotiations, openings, packs, places, plans, progress_lines, refs, requests, sessions, shakes,
@@ -24,7 +24,6 @@ use std::alloc::Global;
 use std::io::ErrorKind;
 use thiserror::Error as DeriveError;
 
-/// What a row asks for.
 #[derive(Clone, Copy)]
 pub(crate) enum Mode {
     /// Calls of a line reader.
@@ -35,51 +34,48 @@ pub(crate) enum Mode {
     Refs,
     /// A handshake, and the refs of versions 0 and 1.
     Handshake,
-    /// A handshake at each place of an advertisement.
+    /// A handshake at each offset of an advertisement.
     Places,
-    /// What a client says first.
+    /// The first packet line of a client.
     Opening,
-    /// An answer to a fetch.
+    /// A response to a fetch.
     Answer,
     /// A pack through its bands.
     Pack,
-    /// Capabilities and what may be asked for.
+    /// Capabilities, and the features that they allow.
     Capabilities,
-    /// A line of an answer.
+    /// A line of a response.
     AnswerLine,
     /// A shallow boundary as text.
     Boundary,
-    /// How a client names itself.
+    /// The agent of a client.
     Agent,
-    /// Requests.
     Requests,
     /// A session of several requests.
     Session,
-    /// A refspec.
     Refspec,
-    /// The name of a ref.
     RefName,
     /// The prefixes of refspecs.
     Prefixes,
-    /// What refspecs make of names.
+    /// The mappings of names by refspecs.
     Matches,
-    /// A ref map.
     RefMap,
     /// A handshake with an account.
     Account,
-    /// A ref map by a handshake.
+    /// A ref map after a handshake.
     Listing,
-    /// A line of progress.
+    /// A progress line.
     Progress,
     /// A whole fetch.
     Fetch,
-    /// A negotiation.
     Negotiation,
     /// A plan over recorded bodies.
     Plan,
+    /// A URL.
+    Url,
 }
 
-static MODES: [(&str, Mode); 25] = [
+static MODES: [(&str, Mode); 26] = [
     ("lines", Mode::Lines),
     ("bands", Mode::Bands),
     ("refs", Mode::Refs),
@@ -105,19 +101,19 @@ static MODES: [(&str, Mode); 25] = [
     ("fetch", Mode::Fetch),
     ("negotiation", Mode::Negotiation),
     ("plan", Mode::Plan),
+    ("url", Mode::Url),
 ];
 
-/// A setting of a mode: its name, the words for 0, 1 and so on where it isn't a number, and what it is where a row
-/// doesn't name it.
+/// A setting of a mode: its name, the words for 0, 1 and so on unless it is a number, and its default.
 pub(crate) type Setting = (&'static str, &'static [&'static str], u64);
 
-/// The values of a setting that holds or not.
+/// The values of a yes/no setting.
 pub(crate) const NO_YES: &[&str] = &["no", "yes"];
 
-/// The values of a setting that says where the bytes come from.
+/// The values of a setting for the kind of transport.
 pub(crate) const BODIES_CONNECTION: &[&str] = &["bodies", "connection"];
 
-// The settings of each mode.
+// The settings that each mode has.
 const EACH: &[Setting] = &[
     ("pieces", &[], 0),
     ("random-pieces", &[], 0),
@@ -155,47 +151,47 @@ impl Mode {
             | Mode::Refspec
             | Mode::RefName
             | Mode::Prefixes
-            | Mode::Matches => &[],
+            | Mode::Matches
+            | Mode::Url => &[],
         }
     }
 }
 
-// Bytes that come again.
+// Bytes to repeat.
 #[derive(Clone, Copy)]
 struct Repeat {
-    // How often they come again.
+    // The number of repetitions.
     times: u64,
-    // The place of the first of them.
+    // The offset of the first of these bytes.
     start: u64,
 }
 
-/// The values of a row's settings, in the order of its mode's.
+/// The values of a test vector's settings, in the order of its mode's settings.
 pub(crate) type Settings = [u64; 6];
 
-/// One row.
+/// A test vector.
 #[derive(Clone, Copy)]
 pub(crate) struct Row<'a> {
     pub(crate) mode: Mode,
     pub(crate) settings: Settings,
-    /// How the bytes come.
+    /// The sizes of reads.
     pub(crate) pieces: Pieces,
-    /// Whether they come in two pieces instead, cut at each place.
+    /// Whether the bytes come in two pieces instead, split at each offset.
     pub(crate) is_halved: bool,
     /// The number of the read that fails, from 1 on, or 0 for none.
     pub(crate) fail_at: u64,
-    /// How it fails.
+    /// The error of that read.
     pub(crate) fail_as: ErrorKind,
     pub(crate) payload: &'a [u8],
     repeat: Repeat,
 }
 
 impl<'a> Row<'a> {
-    /// The row with these bytes.
     pub(crate) fn with_bytes(self, payload: &'a [u8]) -> Row<'a> {
         Row { payload, ..self }
     }
 
-    /// A reader that gives these bytes as the row says.
+    /// A reader of these bytes with the settings of the test vector.
     pub(crate) fn device<'b>(&self, bytes: &'b [u8]) -> Device<'b> {
         let mut device = self.whole_device(bytes);
         if self.fail_at > 0 {
@@ -205,7 +201,7 @@ impl<'a> Row<'a> {
         device
     }
 
-    /// The same, of which no read fails.
+    /// The same without a failing read.
     pub(crate) fn whole_device<'b>(&self, bytes: &'b [u8]) -> Device<'b> {
         let mut device = Device::new(bytes, usize::MAX);
         device.pieces = self.pieces;
@@ -213,7 +209,7 @@ impl<'a> Row<'a> {
     }
 }
 
-/// Why a row can't be read.
+/// The error of a malformed test vector.
 #[derive(Clone, Copy, Debug, Drop, DeriveError)]
 pub(crate) enum RowError {
     #[error("no mode of that name")]
@@ -232,7 +228,7 @@ pub(crate) enum RowError {
     Memory,
 }
 
-/// The text before the first such byte and that after it.
+/// The text before the first such byte, and the text after it.
 pub(crate) fn cut_at_byte(text: &[u8], byte: u8) -> (&[u8], &[u8]) {
     match text.iter().position(|b| *b == byte) {
         Some(place) => {
@@ -249,7 +245,7 @@ pub(crate) fn cut_at_byte(text: &[u8], byte: u8) -> (&[u8], &[u8]) {
     }
 }
 
-/// The first bytes, as many as are asked for and there, and the others.
+/// The first `place` bytes, or all if there are fewer, and the rest.
 pub(crate) fn cut_at(text: &[u8], place: u64) -> (&[u8], &[u8]) {
     let place = match usize::try_from(place) {
         Ok(place) => place.min(text.len()),
@@ -269,7 +265,7 @@ pub(crate) fn number(text: &[u8]) -> Option<u64> {
     }
 }
 
-/// What a word stands for, if the table has it.
+/// The value of a word in a table.
 pub(crate) fn meaning_of<T: Copy>(table: &[(&'static str, T)], word: &[u8]) -> Option<T> {
     for (name, meaning) in table {
         if name.as_bytes() == word {
@@ -279,7 +275,7 @@ pub(crate) fn meaning_of<T: Copy>(table: &[(&'static str, T)], word: &[u8]) -> O
     None
 }
 
-// The place of a word.
+// The index of a word.
 fn place_of(words: &[&str], word: &[u8]) -> Option<u64> {
     let mut place = 0u64;
     for name in words {
@@ -297,7 +293,7 @@ fn set_defaults(settings: &[Setting], values: &mut [u64]) {
     }
 }
 
-// Sets what a name stands for. False where there is no such setting.
+// Sets a setting. Returns false if it doesn't exist.
 fn set(
     settings: &[Setting],
     name: &[u8],
@@ -324,7 +320,7 @@ fn set(
     Ok(false)
 }
 
-// How the bytes of a row come.
+// The sizes of reads.
 fn pieces_of(most: u64, random: u64) -> Pieces {
     if random > 0 {
         return Pieces::Random(random);
@@ -335,7 +331,7 @@ fn pieces_of(most: u64, random: u64) -> Pieces {
     }
 }
 
-// How a read fails, by the place of its word.
+// The error of a read, by the index of its word.
 fn kind_of(word: u64) -> ErrorKind {
     match word {
         0 => ErrorKind::Interrupted,
@@ -344,7 +340,7 @@ fn kind_of(word: u64) -> ErrorKind {
     }
 }
 
-// A row of this mode and these words, without its bytes.
+// Parses a head, without the payload.
 fn row_of(mode: Mode, words: &[u8]) -> Result<Row<'static>, RowError> {
     let mut settings: Settings = [0; 6];
     set_defaults(mode.settings(), &mut settings);
@@ -382,16 +378,16 @@ fn row_of(mode: Mode, words: &[u8]) -> Result<Row<'static>, RowError> {
     })
 }
 
-/// A row as text.
+/// A test vector as text.
 #[derive(Clone, Copy)]
 pub(crate) struct RowText<'a> {
-    /// Its name: that of a group, and a number after `/` where it is one of many.
+    /// Its name: the name of its group, and a number after `/` if the group has several.
     pub(crate) name: &'a [u8],
     head: &'a [u8],
     body: &'a [u8],
 }
 
-// Without lines that say nothing.
+// The text without empty lines and remarks at its start.
 fn without_remarks(text: &[u8]) -> &[u8] {
     let mut rest = text;
     for _ in 0..text.len() {
@@ -403,7 +399,7 @@ fn without_remarks(text: &[u8]) -> &[u8] {
     rest
 }
 
-/// The first row, and what stands after it; nothing at the end.
+/// The first test vector, and the rest of the text. Returns nothing at the end.
 pub(crate) fn next_row(text: &[u8]) -> Option<(RowText<'_>, &[u8])> {
     let text = without_remarks(text);
     if text.is_empty() {
@@ -446,7 +442,7 @@ fn push(bytes: &mut Vec<u8>, byte: u8) -> Result<(), RowError> {
     }
 }
 
-// Repeats the last byte so many times, by a number with a `;` after it. What comes after that.
+// Repeats the last byte. The number ends with a `;`. Returns the rest of the text.
 fn repeat_last<'a>(text: &'a [u8], bytes: &mut Vec<u8>) -> Result<&'a [u8], RowError> {
     let (digits, rest) = cut_at_byte(text, b';');
     let (Some(times), Some(byte)) = (number(digits), bytes.last()) else {
@@ -481,7 +477,7 @@ fn read_line(line: &[u8], bytes: &mut Vec<u8>) -> Result<(), RowError> {
     push(bytes, b'\n')
 }
 
-// Adds the bytes from a place on so many times more.
+// Repeats the bytes from an offset on.
 fn add_again(bytes: &mut Vec<u8>, alloc: Global, repeat: Repeat) -> Result<(), RowError> {
     let (_, chunk) = cut_at(bytes, repeat.start);
     let Ok(chunk) = chunk.to_vec(alloc) else {
@@ -496,7 +492,7 @@ fn add_again(bytes: &mut Vec<u8>, alloc: Global, repeat: Repeat) -> Result<(), R
 }
 
 impl RowText<'_> {
-    // The bytes as they stand.
+    // The bytes as written.
     fn written_bytes(&self, alloc: Global) -> Result<Vec<u8>, RowError> {
         let mut bytes = Vec::new(alloc);
         let mut rest = self.body;
@@ -511,7 +507,7 @@ impl RowText<'_> {
         Ok(bytes)
     }
 
-    /// The bytes of the row, with those that come again.
+    /// The bytes of the test vector, with repetitions.
     pub(crate) fn bytes(&self, alloc: Global, row: &Row<'_>) -> Result<Vec<u8>, RowError> {
         let mut bytes = self.written_bytes(alloc)?;
         if row.repeat.times > 0 {
@@ -520,7 +516,7 @@ impl RowText<'_> {
         Ok(bytes)
     }
 
-    /// The row without its bytes.
+    /// The test vector without its bytes.
     pub(crate) fn head(&self) -> Result<Row<'static>, RowError> {
         if self.name.starts_with(b"|") {
             return Err(RowError::Head);

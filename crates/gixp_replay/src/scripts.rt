@@ -1,12 +1,12 @@
-//! What a whole fetch is asked to do: lines of a word and a text, up to an empty line.
+//! The script of a whole fetch: lines of a word and a text, up to an empty line.
 //!
-//! `bodies` has the lengths of the bodies. `refspec` is one, `have` the id of a have, `more-haves` how many others come
-//! after these, `boundary` an id of the shallow boundary. `depth`, `deepen` and `since` are a depth from the refs, one
-//! from the boundary, and a time; `exclude` is a ref that is left out, also with a time. `tags all` asks for all tags,
-//! `tags included` for those that come with others. `reject-shallow` refuses shallow servers. `without` is a table that
-//! lacks `sideband-all`, `ref-in-want` or `both`, or that of `recorded` requests. `no-pack` passes over the pack.
-//! `interrupt-at` is the question for an interrupt that is answered with true, `store-fails` the call of the store that is
-//! refused, each from 0 on, and why: `device`, `locked`, `line` (it is no id) or `memory`.
+//! `bodies` has the lengths of the bodies. `refspec` is a refspec, `have` the id of a have, `more-haves` the number of further
+//! haves after these, `boundary` an id of the shallow boundary. `depth`, `deepen` and `since` are a depth from the refs, a depth
+//! from the boundary, and a time; `exclude` is a ref to exclude, also in addition to a time. `tags all` fetches all tags, `tags
+//! included` those that point into the fetched history. `reject-shallow` rejects shallow servers. `without` is a command table
+//! without `sideband-all`, `ref-in-want` or `both`, or that of `recorded` requests. `no-pack` skips the pack. `interrupt-at` is the
+//! check for an interrupt that is true, `store-fails` the call of the store that fails, and its error: `device`, `locked`, `line`
+//! (not an id) or `memory`. Both count from 0.
 use crate::rows::{cut_at_byte, meaning_of, number};
 use bstr::{BStr, BString};
 use gixp_hash::ObjectId;
@@ -18,7 +18,7 @@ use gixp_shallow::Shallow;
 use std::alloc::{AllocError, Global};
 use std::num::NonZeroU32;
 
-/// Why a call of a store is refused.
+/// The error of a store's call.
 #[derive(Clone, Copy)]
 pub(crate) enum Fault {
     Device,
@@ -34,7 +34,6 @@ static FAULTS: [(&str, Fault); 4] = [
     ("memory", Fault::Memory),
 ];
 
-// A line of a script.
 #[derive(Clone, Copy)]
 enum Line {
     Bodies,
@@ -74,13 +73,13 @@ static LINES: [(&str, Line); 15] = [
 
 static TAGS: [(&str, Tags); 2] = [("all", Tags::All), ("included", Tags::Included)];
 
-// What a table of commands lacks.
+// The features that a command table lacks.
 #[derive(Clone, Copy)]
 enum Lack {
     SidebandAll,
     RefInWant,
     Both,
-    // All that recorded requests don't have.
+    // Everything that recorded requests don't have.
     Recorded,
 }
 
@@ -91,38 +90,35 @@ static LACKS: [(&str, Lack); 4] = [
     ("recorded", Lack::Recorded),
 ];
 
-/// What a fetch is asked to do.
+/// The input of a fetch.
 #[derive(Drop)]
 pub(crate) struct Script<'a> {
     /// The lengths of the bodies.
     pub(crate) lengths: &'a [u8],
-    /// The refspecs.
     pub(crate) specs: Vec<RefSpec>,
-    /// What is offered.
+    /// The ids of the haves.
     pub(crate) haves: Vec<ObjectId>,
-    /// The shallow boundary.
     pub(crate) boundary: Vec<ObjectId>,
-    /// The depth.
     pub(crate) shallow: Shallow,
-    /// The refs that are left out.
+    /// The refs to exclude.
     pub(crate) excluded: Vec<PartialName>,
-    /// The time after which commits are asked for.
+    /// The time of the oldest commits to fetch.
     pub(crate) cutoff: Option<i64>,
-    /// Which tags come.
+    /// Which tags to fetch.
     pub(crate) tags: Tags,
-    /// What the client asks for by default.
+    /// The commands and features that the client uses.
     pub(crate) table: CommandTable,
-    /// Whether shallow servers are refused.
+    /// Whether shallow servers are rejected.
     pub(crate) rejects: bool,
-    /// Whether the pack is kept.
+    /// Whether the pack is copied.
     pub(crate) copies: bool,
-    /// Which question for an interrupt is answered with true.
+    /// Which check for an interrupt is true.
     pub(crate) interrupt: u64,
-    /// Which call of the store is refused.
+    /// Which call of the store fails.
     pub(crate) call: u64,
-    /// Why it is refused.
+    /// The error of that call.
     pub(crate) fault: Fault,
-    /// Whether a line has a word that isn't known.
+    /// Whether a line begins with an unknown word.
     pub(crate) is_unknown: bool,
 }
 
@@ -133,7 +129,7 @@ static RECORDED: [(&str, Option<&str>); 4] = [
     ("ofs-delta", None),
 ];
 
-// A table that lacks something.
+// A table without these features.
 fn table_of(lack: Lack) -> CommandTable {
     let mut table = CommandTable::git();
     match lack {
@@ -145,7 +141,7 @@ fn table_of(lack: Lack) -> CommandTable {
     table
 }
 
-// A number of 32 bits.
+// A number, at most 32 bits.
 fn small(text: &[u8]) -> u32 {
     match u32::try_from(number(text).unwrap_or(0)) {
         Ok(number) => number,
@@ -202,7 +198,7 @@ fn push_name(alloc: Global, names: &mut Vec<PartialName>, text: &[u8]) -> Result
     }
 }
 
-// So many ids, each of which begins with its number.
+// Adds ids that begin with consecutive numbers.
 fn push_many(ids: &mut Vec<ObjectId>, count: u32) -> Result<(), AllocError> {
     for number in 0..count {
         let [a, b, c, d] = number.to_be_bytes();
@@ -217,7 +213,7 @@ fn push_many(ids: &mut Vec<ObjectId>, count: u32) -> Result<(), AllocError> {
 }
 
 impl<'a> Script<'a> {
-    // A clone without haves.
+    // The script of a clone.
     fn new(alloc: Global) -> Script<'a> {
         Script {
             lengths: &[],
@@ -238,7 +234,7 @@ impl<'a> Script<'a> {
         }
     }
 
-    // Which call of the store is refused, and why.
+    // Sets the failing call of the store, and its error.
     fn refuse(&mut self, text: &[u8]) {
         let (call, why) = cut_at_byte(text, b' ');
         self.call = number(call).unwrap_or(u64::MAX);
@@ -262,7 +258,6 @@ impl<'a> Script<'a> {
         }
     }
 
-    // Settings of a depth.
     fn read_depth(&mut self, alloc: Global, line: Line, text: &[u8]) -> Result<(), AllocError> {
         match line {
             Line::Depth => self.shallow = depth_of(text),
@@ -275,7 +270,6 @@ impl<'a> Script<'a> {
         Ok(())
     }
 
-    // One line.
     fn read_line(&mut self, alloc: Global, line: Line, text: &'a [u8]) -> Result<(), AllocError> {
         match line {
             Line::Bodies => self.lengths = text,
@@ -293,7 +287,7 @@ impl<'a> Script<'a> {
         Ok(())
     }
 
-    /// What these lines ask for, and what comes after the empty line.
+    /// Parses the lines up to the empty one. Returns the rest of the payload, too.
     pub(crate) fn read(
         alloc: Global,
         payload: &'a [u8],

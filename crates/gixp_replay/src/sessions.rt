@@ -1,8 +1,8 @@
-//! A session: a handshake, refs, up to five requests with a have each, and a pack.
+//! A session: a handshake, refs, up to five requests with one have each, and a pack.
 //!
-//! `over=bodies` is over bodies in memory, whose lengths stand in the first line of the bytes, `over=connection` over a
-//! connection for what is after that line. `version` is what the client of a connection asks for, `done-at` the number of
-//! the request that says `done`, `reads` the number from which the reads of a pack follow. What was sent stands at the end.
+//! `over=bodies` uses bodies in memory, whose lengths are in the first line of the payload; `over=connection` uses a connection
+//! with the bytes after that line. Settings: `version`, which the client of a connection asks for; `done-at`, the number of the
+//! request with `done`; `reads`, the seed for the reads of the pack. The bytes sent are reported last.
 use crate::answers::{Reading, read_response};
 use crate::handshakes::{bodies, connection, report_early_refs, shake_hands};
 use crate::lines::report_rest;
@@ -30,7 +30,7 @@ pub(crate) const SETTINGS: &[Setting] = &[
     ("reads", &[], 0),
 ];
 
-// The arguments that ask for the refs below `refs/`.
+// The arguments that list the refs below `refs/`.
 fn arguments_of_refs(alloc: Global, features: &[Feature]) -> Result<Vec<BString>, AllocError> {
     let table = CommandTable::git();
     let mut arguments = table.initial_v2_arguments(alloc, Command::LsRefs, features)?;
@@ -38,7 +38,7 @@ fn arguments_of_refs(alloc: Global, features: &[Feature]) -> Result<Vec<BString>
     Ok(arguments)
 }
 
-// The refs of version 2. Whether there was no error.
+// The refs of version 2. Returns whether there was no error.
 fn list_refs<T: Transport>(
     alloc: Global,
     transport: &mut T,
@@ -53,7 +53,7 @@ fn list_refs<T: Transport>(
     Ok(report_all(alloc, transport, report))
 }
 
-// The answer to a request, in bands where the settings say so.
+// The response to a request, in bands if the settings say so.
 fn read_answer<T: Transport>(
     alloc: Global,
     transport: &mut T,
@@ -70,7 +70,7 @@ fn read_answer<T: Transport>(
     read_response(alloc, &mut reader, reading, report)
 }
 
-// A request with one more have, and its answer. Whether the next request may follow.
+// Sends a request with one more have, and reads the response. Returns whether another request may follow.
 fn run_round<T: Transport>(
     alloc: Global,
     round: u8,
@@ -109,7 +109,7 @@ fn run_round<T: Transport>(
     Ok(!done)
 }
 
-// What is asked for at first, by these features.
+// The first arguments, with these features.
 fn first_asked(
     alloc: Global,
     version: Protocol,
@@ -120,7 +120,7 @@ fn first_asked(
     Ok(asked)
 }
 
-// The requests of a fetch, over these features.
+// The requests of a fetch.
 fn fetch<T: Transport>(
     alloc: Global,
     row: &Row<'_>,
@@ -147,7 +147,7 @@ fn fetch<T: Transport>(
     Ok(())
 }
 
-// The features that a client names where a server has these capabilities.
+// The features of the client if a server has these capabilities.
 fn features_of_fetch(
     alloc: Global,
     version: Protocol,
@@ -182,7 +182,7 @@ fn report_over<T: Transport>(
     Ok(())
 }
 
-/// Bodies of these lengths.
+/// The bodies with these lengths.
 pub(crate) fn cut_bodies(
     alloc: Global,
     lengths: &[u8],
@@ -229,7 +229,7 @@ fn report_over_bodies(
     Ok(())
 }
 
-/// A session over a connection or memory.
+/// Runs a session over a connection or memory.
 pub(crate) fn report_session(
     alloc: Global,
     row: &Row<'_>,

@@ -1,9 +1,8 @@
-//! A handshake, with an account where the server wants one.
+//! A handshake, with an account if the server wants one.
 //!
-//! `over` says where the answers come from, `version` what the client of a connection asks for, `accepts` which versions it
-//! accepts. The bytes are three lines and those of the server: what the credential helper does at each call (`account`,
-//! `none` or `fails`, with blanks between them), the bodies as `bodies_of` reads them, and parameters with blanks between
-//! them.
+//! Settings: `over`, the kind of transport; `version`, which a client of a connection asks for; `accepts`, the versions that it
+//! accepts. The payload is three lines and the server's bytes. The lines are the results of the credential helper's calls
+//! (`account`, `none` or `fails`), the bodies as `bodies_of` reads them, and parameters. Blanks separate the words.
 use crate::handshakes::paper_of;
 use crate::lines::report_rest;
 use crate::openings::parameters_of;
@@ -32,7 +31,7 @@ pub(crate) const SETTINGS: &[Setting] = &[
     ),
 ];
 
-/// A credential helper that follows a script, and writes down what it is asked for.
+/// A credential helper that follows a script, and records its calls.
 #[derive(Drop)]
 pub(crate) struct Helper<'a> {
     alloc: Global,
@@ -41,7 +40,7 @@ pub(crate) struct Helper<'a> {
 }
 
 impl<'a> Helper<'a> {
-    /// A helper that wasn't asked yet.
+    /// A helper without calls.
     pub(crate) fn new(alloc: Global, script: &'a [u8]) -> Helper<'a> {
         Helper {
             alloc,
@@ -81,7 +80,7 @@ impl<'a> Helper<'a> {
         credentials::Error { message }
     }
 
-    /// What it says to an action.
+    /// The result of an action.
     pub(crate) fn answer(&mut self, action: Action) -> Result<Option<Outcome>, credentials::Error> {
         self.write_down(&action);
         let (word, rest) = cut_at_byte(self.script, b' ');
@@ -96,7 +95,7 @@ impl<'a> Helper<'a> {
         }
     }
 
-    /// Writes what it was asked for.
+    /// Writes the calls.
     pub(crate) fn report(&self, report: &mut Report) {
         report.word("asked ");
         report.quote_report(&self.asked);
@@ -104,7 +103,7 @@ impl<'a> Helper<'a> {
     }
 }
 
-// The body of a word, and the bytes after it.
+// The body of a word, and the rest of the bytes.
 fn body_of<'a>(
     alloc: Global,
     word: &[u8],
@@ -121,7 +120,8 @@ fn body_of<'a>(
     }
 }
 
-/// The bodies of words: the length of each, or `denied`, `timed-out` or `broken-pipe` where getting it fails so.
+/// The bodies of words: the length of each, or `denied`, `timed-out` or `broken-pipe` for a body whose request fails with this
+/// error.
 pub(crate) fn bodies_of(
     alloc: Global,
     words: &[u8],
@@ -141,7 +141,7 @@ fn url(alloc: Global) -> Result<BString, AllocError> {
     BString::from_slice(alloc, "git://h/p.git")
 }
 
-// The versions of a mask.
+// The versions of a bit mask.
 fn accepted_of(alloc: Global, mask: u64) -> Result<Vec<Protocol>, AllocError> {
     let mut accepted = Vec::new(alloc);
     let mut mask = mask;
@@ -154,12 +154,12 @@ fn accepted_of(alloc: Global, mask: u64) -> Result<Vec<Protocol>, AllocError> {
     Ok(accepted)
 }
 
-/// A transport over these bodies that accepts the versions of a mask.
+/// A transport over these bodies that accepts the versions of a bit mask.
 pub(crate) fn memory(alloc: Global, bodies: Vec<Body>, mask: u64) -> Result<Bodies, AllocError> {
     Bodies::new(alloc, bodies, url(alloc)?, accepted_of(alloc, mask)?)
 }
 
-/// A connection over a device, for a client that asks for a version and accepts those of a mask.
+/// A connection over a device, for a client that asks for a version and accepts those of a bit mask.
 pub(crate) fn connection<'a>(
     alloc: Global,
     device: Device<'a>,
@@ -182,7 +182,7 @@ pub(crate) fn connection<'a>(
     )
 }
 
-/// Why a handshake is refused.
+/// The error of a handshake.
 pub(crate) fn shake_error(report: &mut Report, e: &Error) {
     match e {
         Error::Credentials(e) => {
@@ -216,7 +216,7 @@ pub(crate) fn shake_error(report: &mut Report, e: &Error) {
     report.word(" ");
 }
 
-// The version, the capabilities, and the refs and shallow updates if they came.
+// The version, the capabilities, and the refs and shallow updates if the server sent them.
 fn report_shaken(alloc: Global, found: &Handshake, report: &mut Report) -> Result<(), AllocError> {
     report.debug(&found.server_protocol_version);
     report.word(" ");
@@ -238,7 +238,7 @@ fn report_shaken(alloc: Global, found: &Handshake, report: &mut Report) -> Resul
     Ok(())
 }
 
-// The version that a handshake found, if it came so far.
+// The version that a handshake found, if it did.
 fn version_found(outcome: &Result<Handshake, Error>) -> Option<Protocol> {
     match outcome {
         Ok(found) => Some(found.server_protocol_version),
@@ -247,7 +247,7 @@ fn version_found(outcome: &Result<Handshake, Error>) -> Option<Protocol> {
     }
 }
 
-// What came of a handshake, what the helper was asked for, what was told, and what stands in the transport.
+// The result of a handshake, the calls of the helper and of the progress reporter, and the rest of the transport.
 fn report_over<T: Transport>(
     alloc: Global,
     transport: &mut T,
@@ -278,7 +278,7 @@ fn report_over<T: Transport>(
     Ok(())
 }
 
-/// A handshake over a connection or memory, and the bytes or the account that the transport was given.
+/// Performs a handshake over a connection or memory, and reports the bytes or the account that the transport received.
 pub(crate) fn report_shake(
     alloc: Global,
     row: &Row<'_>,

@@ -1,4 +1,4 @@
-//! Progress as words.
+//! Records progress as text.
 ghost use Rattle.std.specs.Prelude.{⊤, string_bytes};
 ghost use Rattle.std.specs.Option.{option_map};
 
@@ -6,7 +6,7 @@ use crate::report::Report;
 use gixp_progress::Progress;
 use std::alloc::Global;
 
-/// Writes each call down.
+/// A progress reporter that records each call.
 #[derive(Drop)]
 pub(crate) struct Telling {
     words: Report,
@@ -14,7 +14,7 @@ pub(crate) struct Telling {
 }
 
 impl Telling {
-    /// Nothing was told yet.
+    /// A reporter without calls.
     pub(crate) fn new(alloc: Global) -> Telling {
         Telling {
             words: Report::new(alloc),
@@ -22,7 +22,7 @@ impl Telling {
         }
     }
 
-    /// Writes what was told.
+    /// Writes the calls.
     pub(crate) fn report(&self, report: &mut Report) {
         report.word("told ");
         report.quote_report(&self.words);

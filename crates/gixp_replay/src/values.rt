@@ -1,4 +1,4 @@
-//! Values and refusals as text.
+//! Values and errors as text.
 use crate::report::Report;
 use gixp_capabilities::{Capabilities, client};
 use gixp_packetline::{MessageKind, Protocol, read};
@@ -10,7 +10,7 @@ use gixp_response::fetch::{Response, response};
 use gixp_shallow::ShallowUpdate;
 use std::alloc::{AllocError, Global};
 
-/// The version of this number, 2 for all above.
+/// The version with this number, 2 for all greater ones.
 pub(crate) fn version_of(number: u64) -> Protocol {
     match number {
         0 => Protocol::V0,
@@ -34,7 +34,7 @@ pub(crate) fn read_error(report: &mut Report, e: &read::Error) {
     }
 }
 
-// An error of a reader inside that of another layer.
+// The error of a reader within an error of another layer.
 fn wrapped(report: &mut Report, name: &str, e: &read::Error) {
     report.word(name);
     report.word("(");
@@ -80,7 +80,7 @@ pub(crate) fn parse_error(report: &mut Report, e: &parse::Error) {
     }
 }
 
-/// The error of an answer to a fetch.
+/// The error of a fetch response.
 pub(crate) fn response_error(report: &mut Report, e: &response::Error) {
     match e {
         response::Error::UploadPack { message } => {
@@ -109,7 +109,7 @@ pub(crate) fn response_error(report: &mut Report, e: &response::Error) {
     }
 }
 
-/// Why what a client asks for isn't valid.
+/// The error of an argument's validation.
 pub(crate) fn validation_error(report: &mut Report, e: &validate_argument_prefixes::Error) {
     match e {
         validate_argument_prefixes::Error::UnsupportedArgument { command, argument } => {
@@ -162,7 +162,7 @@ fn reference_parts(report: &mut Report, found: &Ref) {
     }
 }
 
-/// A ref, and how many ids `unpack` gives of it.
+/// A ref, and the number of ids that `unpack` returns for it.
 pub(crate) fn reference(report: &mut Report, found: &Ref) {
     reference_parts(report, found);
     let (_name, target, peeled) = found.unpack();
@@ -175,7 +175,6 @@ pub(crate) fn reference(report: &mut Report, found: &Ref) {
     report.word(" ");
 }
 
-/// An acknowledgement.
 pub(crate) fn acknowledgement(report: &mut Report, found: Acknowledgement) {
     match found {
         Acknowledgement::Common(id) => {
@@ -188,7 +187,6 @@ pub(crate) fn acknowledgement(report: &mut Report, found: Acknowledgement) {
     report.word(" ");
 }
 
-/// A shallow update.
 pub(crate) fn update(report: &mut Report, found: ShallowUpdate) {
     match found {
         ShallowUpdate::Shallow(id) => {
@@ -203,7 +201,7 @@ pub(crate) fn update(report: &mut Report, found: ShallowUpdate) {
     report.word(" ");
 }
 
-/// An answer to a fetch.
+/// A response to a fetch.
 pub(crate) fn answer(report: &mut Report, found: &Response) {
     report.word("acks ");
     for one in found.acknowledgements() {
@@ -222,7 +220,7 @@ pub(crate) fn answer(report: &mut Report, found: &Response) {
     report.word(if found.has_pack() { "pack " } else { "nopack " });
 }
 
-/// Where a reader stands.
+/// The stop of a reader.
 pub(crate) fn stop(report: &mut Report, kind: Option<MessageKind>) {
     report.word("@");
     match kind {
@@ -232,7 +230,7 @@ pub(crate) fn stop(report: &mut Report, kind: Option<MessageKind>) {
     report.word(" ");
 }
 
-/// Capabilities, each with its value and how many words that has.
+/// Capabilities, each with its value and the number of its words.
 pub(crate) fn capability_list(
     alloc: Global,
     report: &mut Report,

@@ -1,4 +1,4 @@
--- Steps of loops that append what a function makes of each element.
+-- Loops that append the results of a function for each element.
 use Rattle.std.proofs.Common.{◌≡◌, ℕ, ◌+◌, ◌<◌, Bool, true, false, cond, Option, Some, List, [], ◌∷◌, ◌++◌, length, take, map, get_or, ap, sym, ◌∙◌, refl, append_assoc}
 use Rattle.std.specs.Prelude.{filter, find}
 use Rattle.std.specs.Option.{option_map}
@@ -6,7 +6,7 @@ use Rattle.std.proofs.lemmas.List.{map-append}
 use Rattle.std.proofs.lemmas.List.Elements.{filter-append}
 use Rattle.gixp_packetline.proofs.ListLemmas.{take-map_more}
 
--- a step of a loop that appends what it makes of each element that passes
+-- one step of a loop that appends the results of the elements that pass a test
 pub filtered_more : {A B C : Type 0} (h : A → B) (p : B → Bool) (g : B → C) (now new : List C) (xs : List A) (i : ℕ) (d : A) → i < length xs
     → now ≡ map g (filter p (take i (map h xs))) → new ≡ now ++ map g (filter p (h (get_or xs i d) ∷ []))
     → new ≡ map g (filter p (take (i + 1) (map h xs)))
@@ -16,7 +16,7 @@ filtered_more h p g now new xs i d l kept step =
     step ∙ ap (λ z. z ++ map g (filter p last)) kept ∙ sym (map-append g (filter p front) (filter p last))
     ∙ ap (map g) (sym (filter-append p front last)) ∙ ap (λ z. map g (filter p z)) (sym (take-map_more h xs i d l))
 
--- a step of a loop that appends what each element gives, where lists give what their parts do
+-- one step of a loop that appends a list for each element
 pub joined_more : {A B C : Type 0} (F : List B → List C) → ((xs ys : List B) → F (xs ++ ys) ≡ F xs ++ F ys)
     → (h : A → B) (old now new : List C) (xs : List A) (i : ℕ) (d : A) → i < length xs
     → now ≡ old ++ F (take i (map h xs)) → new ≡ now ++ F (h (get_or xs i d) ∷ []) → new ≡ old ++ F (take (i + 1) (map h xs))
@@ -38,7 +38,7 @@ some_map : {A B : Type 0} (b : Bool) (h : A → B) (x : A) (r : Option A) → co
 some_map true h x r = refl
 some_map false h x r = refl
 
--- the first that passes, of what a function makes
+-- the first result of a function that passes a test
 pub find-map : {A B : Type 0} (p : B → Bool) (h : A → B) (xs : List A) → find p (map h xs) ≡ option_map h (find (λ x. p (h x)) xs)
 find-map p h [] = refl
 find-map p h (x ∷ xs) = ap (λ r. cond (p (h x)) (Some (h x)) r) (find-map p h xs) ∙ some_map (p (h x)) h x (find (λ y. p (h y)) xs)

@@ -1,4 +1,4 @@
--- The texts of features, each after a blank or joined by blanks.
+-- The texts of features, each after a blank, or joined by blanks.
 use Rattle.std.proofs.Common.{◌≡◌, ℕ, ◌+◌, Bool, true, false, List, [], ◌∷◌, ◌++◌, length, map, refl, sym, ap, ◌∙◌, append_assoc, arith}
 use Rattle.std.specs.Prelude.{◌==◌, filter}
 use Rattle.std.proofs.lemmas.Bool.Decides.{nat_tests}
@@ -11,7 +11,7 @@ pub spaced-append : (xs ys : List (List ℕ)) → spaced (xs ++ ys) ≡ spaced x
 spaced-append [] ys = refl
 spaced-append (x ∷ xs) ys = ap (λ z. 32 ∷ x ++ z) (spaced-append xs ys) ∙ ap (λ z. 32 ∷ z) (sym (append_assoc x (spaced xs) (spaced ys)))
 
--- the features that are on, each after a blank
+-- the features of the first want, each after a blank
 abbrev pub spaced_on : Bool → Bool → List FeatureValue → List ℕ
 spaced_on include_tag deepen_relative features = spaced (texts_on include_tag deepen_relative features)
 
@@ -23,12 +23,12 @@ spaced_on-append i d xs ys =
     ∙ ap spaced (map-append feature_text (filter (is_on i d) xs) (filter (is_on i d) ys))
     ∙ spaced-append (texts_on i d xs) (texts_on i d ys)
 
--- joined by blanks after a blank is each after a blank, where there is any
+-- for at least one text, a blank and the texts joined by blanks are the texts each after a blank
 pub spaced_joined : (x : List ℕ) (xs : List (List ℕ)) → spaced (x ∷ xs) ≡ behind_blank (x ∷ xs)
 spaced_joined x [] = ap (λ z. 32 ∷ z) (append-nil x)
 spaced_joined x (y ∷ ys) = ap (λ z. 32 ∷ x ++ z) (spaced_joined y ys)
 
--- a blank alone, where no text is there
+-- a blank alone, where there is no text
 pub blank_alone : (xs : List (List ℕ)) (text : List ℕ) (n : ℕ) → n ≡ length text → true ≡ (n == 0) → text ≡ spaced xs
     → 32 ∷ [] ≡ behind_blank xs
 blank_alone [] text n len h e = refl
@@ -36,7 +36,7 @@ blank_alone (x ∷ xs) text n len h e =
     let more : n ≡ length (x ++ spaced xs) + 1 = len ∙ ap length e ∙ omega arith in
     grind (arith, nat_tests)
 
--- else each text comes after its blank
+-- otherwise each text follows its blank
 pub blanks_joined : (xs : List (List ℕ)) (text : List ℕ) (n : ℕ) → n ≡ length text → false ≡ (n == 0) → text ≡ spaced xs
     → text ≡ behind_blank xs
 blanks_joined [] text n len h e =

@@ -8,7 +8,7 @@ use Rattle.gixp_requests.specs.Command.{WordEntry}
 use Rattle.gixp_requests.specs.Feature.{FeatureValue}
 use Rattle.gixp_requests.specs.Offers.{is_offered, plain_feature}
 
--- what these entries ask for
+-- the features of these entries
 abbrev pub offered_features : List CapabilityValue → List WordEntry → List FeatureValue
 offered_features capabilities entries = map plain_feature (map (λ (e : WordEntry). e.word) (filter (is_offered capabilities) entries))
 

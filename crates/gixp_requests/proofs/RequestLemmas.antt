@@ -1,4 +1,4 @@
--- How the messages of a request make up its frames.
+-- The messages of a request, and its packet lines.
 use Rattle.std.proofs.Common.{◌≡◌, ℕ, ◌+◌, ◌<◌, Bool, true, false, cond, List, [], ◌∷◌, ◌++◌, length, map, zero, suc, get_or, Option, Some, None, IfSome, refl, sym, ap, ◌∙◌, append_assoc, length-append, arith}
 use Rattle.std.specs.Prelude.{not, nat_lt, filter, position, codes}
 use Rattle.std.specs.List.{swap, position_or_len, prefix_len, slice_set, slice_index_or}
@@ -9,7 +9,7 @@ use Rattle.gixp_wire.specs.Message.{MessageValue, text, flush, delimiter, argume
 use Rattle.gixp_requests.specs.Feature.{FeatureValue, feature_text}
 use Rattle.gixp_requests.specs.Request.{has_value, sent_features, done_line, done_lines, done_value, fetch_arguments, exchanged, want_first, flush_behind, upload_values}
 
--- the place in what a function makes is the place of the test of that
+-- an offset by a test of the results of a function
 prefix_len-map : {A B : Type 0} (p : B → Bool) (h : A → B) (xs : List A) → prefix_len p (map h xs) ≡ prefix_len (λ x. p (h x)) xs
 prefix_len-map p h [] = refl
 prefix_len-map p h (x ∷ xs) = ap (λ n. cond (p (h x)) (1 + n) 0) (prefix_len-map p h xs)
@@ -21,7 +21,7 @@ position-map p h xs =
     ap (λ i. cond (nat_lt i (length (map h xs))) (Some i) None) same
     ∙ ap (λ l. cond (nat_lt (position_or_len (λ x. p (h x)) xs) l) (Some (position_or_len (λ x. p (h x)) xs)) None) n
 
--- an exchange of two elements, and what a function makes of them
+-- two elements are exchanged before or after a function is applied
 map-swap : {A B : Type 0} (f : A → B) (xs : List A) (i j : ℕ) → map f (swap xs i j) ≡ swap (map f xs) i j
 map-swap f [] i j = refl
 map-swap f (d ∷ ys) i j =
@@ -30,7 +30,7 @@ map-swap f (d ∷ ys) i j =
     (map-set f (d ∷ ys) i (slice_index_or (d ∷ ys) j d) ∙ ap (λ z. slice_set (map f (d ∷ ys)) i z) (sym (get_or-map f (d ∷ ys) j d)))
     ∙ ap (λ z. slice_set (slice_set (map f (d ∷ ys)) i (slice_index_or (map f (d ∷ ys)) j (f d))) j z) (sym (get_or-map f (d ∷ ys) i d))
 
--- an exchange with the first element, made again, is undone
+-- two elements are exchanged and exchanged back
 swap_twice : {A : Type 0} (xs : List A) (i : ℕ) → i < length xs → swap (swap xs 0 i) 0 i ≡ xs
 swap_twice [] i l = refl
 swap_twice (d ∷ ys) zero l = refl
@@ -53,27 +53,25 @@ pub upload_joined : (first lines haves : List (List ℕ)) (between behind : List
     → map text first ++ (between ++ (map text haves ++ (behind ++ []))) ≡ upload_values lines haves done
 upload_joined first lines haves between behind done e1 e2 e3 = rw (e1, e2, e3) refl
 
--- the features that are sent
 pub sent_features-append : (xs ys : List FeatureValue) → sent_features (xs ++ ys) ≡ sent_features xs ++ sent_features ys
 sent_features-append xs ys = ap (map feature_text) (filter-append has_value xs ys)
     ∙ map-append feature_text (filter has_value xs) (filter has_value ys)
 
--- the texts of lines
 pub texts-append : (xs ys : List (List ℕ)) → map text (xs ++ ys) ≡ map text xs ++ map text ys
 texts-append xs ys = map-append text xs ys
 
--- a delimiter comes before arguments that are there
+-- a delimiter packet precedes the arguments, if there are any
 pub some_arguments : (arguments : List (List ℕ)) → 0 < length arguments → delimiter ∷ map text arguments ≡ argument_values arguments
 some_arguments [] h = absurd (omega arith)
 some_arguments (a ∷ more) h = refl
 
--- a have, or `done`, is an argument
+-- a have and `done` are arguments
 pub any_argument : (lines haves : List (List ℕ)) (done : Bool) → (done ≡ false → 0 < length haves)
     → 0 < length (fetch_arguments lines haves done)
 any_argument lines haves true h = omega (arith, length-append lines (haves ++ done_line ∷ []), length-append haves (done_line ∷ []))
 any_argument lines haves false h = omega (arith, length-append lines (haves ++ []), length-append haves [], h refl)
 
--- six parts, joined in another order
+-- six lists, grouped in another way
 regroup : {A : Type 0} (f d x y z e : List A) → f ++ d ++ (x ++ (y ++ (z ++ e))) ≡ f ++ (d ++ (x ++ (y ++ z))) ++ e
 regroup f d x y z e = simp append_assoc
 

@@ -1,4 +1,4 @@
--- What a fetch asks for, as plain data (gitprotocol-v2, "fetch"; gitprotocol-pack, "Packfile Negotiation").
+-- The arguments of a fetch request, as plain data (gitprotocol-v2, "fetch"; gitprotocol-pack, "Packfile Negotiation").
 use Rattle.std.specs.Prelude.{ℕ, Bool, true, false, not, ◌||◌, ◌&&◌, if◌then◌else◌, ◌==◌, List, [], ◌∷◌, ◌++◌, length, ℤ, map, filter, nat_eq, codes, Result, Ok, Err, ◌≡◌}
 use Rattle.std.specs.Fmt.{decimal, signed_decimal}
 use Rattle.std.specs.List.{list_any, starts_with, join_with_byte}
@@ -12,36 +12,34 @@ use Rattle.gixp_requests.specs.declared.command.Command.TheVariants.{Fetch}
 use Rattle.gixp_requests.specs.Feature.{FeatureValue, feature_text, has_feature}
 use Rattle.gixp_requests.specs.Command.{TableValue, initial_arguments}
 
--- what is asked for so far
+-- the arguments of the next request
 pub record ArgumentsValue : Type 0 where
   pub version : Protocol
-  -- the features that were handed in
+  -- the features that the caller passed
   pub features : List FeatureValue
-  -- whether these two of them were turned on
+  -- whether these two features were turned on
   pub include_tag : Bool
   pub deepen_relative : Bool
   -- the features that were added for the first want
   pub added : List (List ℕ)
-  -- whether an object was asked for already
+  -- whether there was a `want` line already
   pub wanted : Bool
-  -- the argument lines
   pub lines : List (List ℕ)
-  -- the lines of the haves, which the next request alone has
+  -- the `have` lines, which only the next request has
   pub haves : List (List ℕ)
 
 abbrev pub is_v2 : Protocol → Bool
 is_v2 V2 = true
 is_v2 _ = false
 
--- the text of an id
 abbrev pub id_text : ObjectId → List ℕ
 id_text id = encode_lower id.bytes
 
--- the argument lines that stand there at first
+-- the argument lines of a new request
 abbrev pub first_lines : TableValue → Protocol → List FeatureValue → List (List ℕ)
 first_lines table version features = if is_v2 version then initial_arguments table Fetch features else []
 
--- nothing but these is asked for
+-- a new request: it asks only for the lines of the table
 abbrev pub asks_nothing : TableValue → Protocol → List FeatureValue → ArgumentsValue
 asks_nothing table version features = record {
   version = version;
@@ -54,42 +52,41 @@ asks_nothing table version features = record {
   haves = [];
 }
 
--- one more argument line
+-- the arguments with one more line
 abbrev pub with_line : List ℕ → ArgumentsValue → ArgumentsValue
 with_line line a = record a { lines = a.lines ++ line ∷ [] }
 
--- whether a feature goes into the first want: two of them only where they were turned on
+-- whether the first want has a feature: `include-tag` and `deepen-relative` only if they were turned on
 abbrev pub is_on : Bool → Bool → FeatureValue → Bool
 is_on include_tag deepen_relative f =
     if bytes_eq f.name (codes "include-tag") then include_tag
     else if bytes_eq f.name (codes "deepen-relative") then deepen_relative
     else true
 
--- each text after a blank
 abbrev pub spaced : List (List ℕ) → List ℕ
 spaced [] = []
 spaced (text ∷ texts) = 32 ∷ text ++ spaced texts
 
--- the texts of the features that are on
+-- the texts of the features of the first want
 abbrev pub texts_on : Bool → Bool → List FeatureValue → List (List ℕ)
 texts_on include_tag deepen_relative features = map feature_text (filter (is_on include_tag deepen_relative) features)
 
--- the features of the first want: those that are on, in their order, and those that were added
+-- the features of the first want in their order, and then those that were added
 abbrev pub first_features : ArgumentsValue → List (List ℕ)
 first_features a = texts_on a.include_tag a.deepen_relative a.features ++ a.added
 
--- a blank and some texts, joined by blanks
+-- a blank, and these texts joined by blanks
 abbrev pub behind_blank : List (List ℕ) → List ℕ
 behind_blank texts = 32 ∷ join_with_byte 32 texts
 
--- under versions 0 and 1 a blank and the features, joined by blanks, come after the first want
+-- the text after the id of the first want: under versions 0 and 1 a blank and the features, joined by blanks
 abbrev pub behind_want : ArgumentsValue → List ℕ
 behind_want a = if is_v2 a.version || a.wanted then [] else behind_blank (first_features a)
 
 abbrev pub want_line : List ℕ → ArgumentsValue → List ℕ
 want_line id a = codes "want " ++ (id ++ behind_want a)
 
--- what each call makes of it
+-- the arguments after each call
 abbrev pub asks_want : List ℕ → ArgumentsValue → ArgumentsValue
 asks_want id a = record a { lines = a.lines ++ want_line id a ∷ []; wanted = true }
 
@@ -114,23 +111,23 @@ asks_deepen_not path = with_line (codes "deepen-not " ++ path)
 abbrev pub asks_filter : List ℕ → ArgumentsValue → ArgumentsValue
 asks_filter spec = with_line (codes "filter " ++ spec)
 
--- a line under version 2, else a feature of the first want that is turned on
+-- under version 2 a line, otherwise a feature of the first want that is turned on
 abbrev pub asks_deepen_relative : ArgumentsValue → ArgumentsValue
 asks_deepen_relative a = if is_v2 a.version then with_line (codes "deepen-relative") a else record a { deepen_relative = true }
 
 abbrev pub asks_include_tag : ArgumentsValue → ArgumentsValue
 asks_include_tag a = if is_v2 a.version then with_line (codes "include-tag") a else record a { include_tag = true }
 
--- a line under version 2, else one more feature of the first want
+-- under version 2 a line, otherwise one more feature of the first want
 abbrev pub asks_feature : List ℕ → ArgumentsValue → ArgumentsValue
 asks_feature feature a = if is_v2 a.version then with_line feature a else record a { added = a.added ++ feature ∷ [] }
 
--- a refused call leaves all as it was
+-- a failed call leaves the arguments as they were
 abbrev pub Becomes : Result Unit AllocError → ArgumentsValue → ArgumentsValue → ArgumentsValue → Type 0
 Becomes (Ok t) old next new = new ≡ next
 Becomes (Err e) old next new = new ≡ old
 
--- what may be asked for
+-- whether the features include this name
 abbrev pub can_use : List ℕ → ArgumentsValue → Bool
 can_use name a = has_feature name a.features
 
@@ -140,14 +137,14 @@ can_use_deepening name a = if is_v2 a.version then can_use (codes "shallow") a e
 abbrev pub can_use_include_tag : ArgumentsValue → Bool
 can_use_include_tag a = is_v2 a.version || can_use (codes "include-tag") a
 
--- a feature can be added until the first want, and under version 2 at any time
+-- a feature can be added before the first want, under version 2 at any time
 abbrev pub may_add_feature : ArgumentsValue → Bool
 may_add_feature a = is_v2 a.version || not a.wanted
 
--- whether a line asks for an object
+-- whether a line is a `want` line
 abbrev pub is_want : List ℕ → Bool
 is_want line = starts_with nat_eq line (codes "want ")
 
--- neither a have nor a want
+-- whether there is neither a `have` nor a `want` line
 abbrev pub is_empty : ArgumentsValue → Bool
 is_empty a = (length a.haves == 0) && not (list_any is_want a.lines)

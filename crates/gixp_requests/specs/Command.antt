@@ -1,5 +1,5 @@
--- The commands of version 2, and what a client asks for of a server by itself (gitprotocol-v2, "Command Request", "ls-refs", "fetch";
--- gitprotocol-capabilities).
+-- The commands of version 2, and the features and arguments that a client requests by default (gitprotocol-v2, "Command
+-- Request", "ls-refs", "fetch"; gitprotocol-capabilities).
 use Rattle.std.specs.Prelude.{ℕ, Bool, true, if◌then◌else◌, List, [], ◌∷◌, ◌++◌, Option, Some, None, Vec, map, filter, nat_eq, codes}
 use Rattle.std.specs.Option.{option_copied}
 use Rattle.std.specs.Borrow.{Bor}
@@ -16,11 +16,10 @@ abbrev pub command_name : Command → List ℕ
 command_name LsRefs = codes "ls-refs"
 command_name Fetch = codes "fetch"
 
--- the bytes of a list of lines
 abbrev pub texts : Vec BString Global → List (List ℕ)
 texts v = map bstring_bytes v.items
 
--- a word, and the name of what decides whether it is taken, if there is one
+-- a word of a table, and the name of a feature or capability on which it depends, if there is one
 pub record WordEntry : Type 0 where
   pub word : List ℕ
   pub other : Option (List ℕ)
@@ -34,7 +33,6 @@ entries_of = map entry_of
 abbrev pub words_of : List (Bor (List ℕ)) → List (List ℕ)
 words_of = map (λ w. w.now)
 
--- a command table as plain data
 pub record TableValue : Type 0 where
   pub v1_fetch : List WordEntry
   pub v2_fetch : List (List ℕ)
@@ -61,7 +59,7 @@ always word = record { word = word; other = None }
 abbrev pub by : List ℕ → List ℕ → WordEntry
 by other word = record { word = word; other = Some other }
 
--- what git's own client asks for, as far as this one does
+-- the features and arguments of git's own client, as far as this one uses them
 abbrev pub git_table : TableValue
 git_table = record {
   v1_fetch =
@@ -89,24 +87,24 @@ git_table = record {
   ls_refs_prefixes = codes "symrefs" ∷ codes "peel" ∷ codes "ref-prefix " ∷ codes "unborn" ∷ [];
 }
 
--- whether a line goes with these features
+-- whether a line is sent with these features
 abbrev pub goes_with : List FeatureValue → Option (List ℕ) → Bool
 goes_with features None = true
 goes_with features (Some name) = has_feature name features
 
--- the words of the entries that go with these features, in their order
+-- the lines of the entries that are sent with these features, in order
 abbrev pub lines_with : List FeatureValue → List WordEntry → List (List ℕ)
 lines_with features entries = map (λ (e : WordEntry). e.word) (filter (λ e. goes_with features e.other) entries)
 
--- the arguments that a request of version 2 begins with
+-- the first arguments of a request of version 2
 abbrev pub initial_arguments : TableValue → Command → List FeatureValue → List (List ℕ)
 initial_arguments table LsRefs features = table.ls_refs_arguments
 initial_arguments table Fetch features = lines_with features table.fetch_arguments
 
--- `git/` comes before a name that doesn't begin with it
+-- the name of an agent, with `git/` before it unless it begins with that
 abbrev pub agent_of : List ℕ → List ℕ
 agent_of name = if starts_with nat_eq name (codes "git/") then name else codes "git/" ++ name
 
--- the feature by which a client of this name introduces itself
+-- the feature `agent` of a client
 abbrev pub agent_feature : List ℕ → FeatureValue
 agent_feature name = record { name = codes "agent"; value = Some (agent_of name) }

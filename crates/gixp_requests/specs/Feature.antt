@@ -1,5 +1,4 @@
--- A feature that a request asks for, as plain data and as text (gitprotocol-v2, "Command Request"; gitprotocol-pack, "Packfile
--- Negotiation").
+-- A feature of a request, as plain data and as text (gitprotocol-v2, "Command Request"; gitprotocol-pack, "Packfile Negotiation").
 use Rattle.std.specs.Prelude.{ℕ, Bool, List, Option, String, map}
 use Rattle.std.specs.Option.{option_map}
 use Rattle.std.specs.List.{list_any}
@@ -9,19 +8,18 @@ use Rattle.std.specs.Borrow.{Bor}
 use Rattle.std.specs.declared.alloc.Global.{Global}
 use Rattle.gixp_wire.specs.Message.{feature_line}
 
--- its name, and perhaps a value
+-- a feature: its name, and its value if it has one
 pub record FeatureValue : Type 0 where
   pub name : List ℕ
   pub value : Option (List ℕ)
 
--- a feature as plain data
 abbrev pub feature_value : Bor (List ℕ) × Option (String Global) → FeatureValue
 feature_value f = record { name = f.0.now; value = option_map string_bytes f.1 }
 
 abbrev pub feature_values : List (Bor (List ℕ) × Option (String Global)) → List FeatureValue
 feature_values = map feature_value
 
--- the name, and after a sign of equality the value
+-- the name, with `=` and the value if there is one
 abbrev pub feature_text : FeatureValue → List ℕ
 feature_text f = feature_line f.name f.value
 

@@ -1,4 +1,4 @@
--- Argument lines as they are kept, and the parts of a request (gitprotocol-v2, "fetch"; gitprotocol-pack, "Packfile Negotiation").
+-- Stored argument lines, and the parts of a request (gitprotocol-v2, "fetch"; gitprotocol-pack, "Packfile Negotiation").
 use Rattle.std.specs.Prelude.{ℕ, Bool, List, ◌++◌, Vec, map, codes}
 use Rattle.std.specs.List.{list_all, flat_map}
 use Rattle.std.specs.declared.alloc.Global.{Global}
@@ -12,30 +12,28 @@ use Rattle.gixp_requests.specs.declared.fetch.arguments.part.Part.{Part}
 use Rattle.gixp_requests.specs.declared.fetch.arguments.part.Part.TheVariants.{Messages, Lines, Haves}
 use Rattle.gixp_requests.specs.Arguments.{id_text}
 
--- the text of an argument line
 abbrev pub line_text : Line → List ℕ
 line_text (Want id) = codes "want " ++ id_text id
 line_text (Text line) = bstring_bytes line
 
--- the text of a have
+-- the `have` line of an id
 abbrev pub have_text : ObjectId → List ℕ
 have_text id = codes "have " ++ id_text id
 
--- the texts of a list of argument lines, and of one of haves
 abbrev pub line_texts : Vec Line Global → List (List ℕ)
 line_texts v = map line_text v.items
 
 abbrev pub have_texts : Vec ObjectId Global → List (List ℕ)
 have_texts v = map have_text v.items
 
--- whether each argument line fits into a frame, and their frames
+-- whether each argument line fits into a packet line
 abbrev pub all_lines_fit : List Line → Bool
 all_lines_fit lines = list_all (λ line. fits (line_text line)) lines
 
 abbrev pub all_line_frames : List Line → List Frame
 all_line_frames lines = map (λ line. line_frame (line_text line)) lines
 
--- the same of haves
+-- whether each `have` line fits into a packet line
 abbrev pub all_haves_fit : List ObjectId → Bool
 all_haves_fit ids = list_all (λ id. fits (have_text id)) ids
 

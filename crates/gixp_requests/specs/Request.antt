@@ -1,4 +1,4 @@
--- The frames of a request for a pack (gitprotocol-v2, "Command Request", "fetch"; gitprotocol-pack, "Packfile Negotiation").
+-- The packet lines of a fetch request (gitprotocol-v2, "Command Request", "fetch"; gitprotocol-pack, "Packfile Negotiation").
 use Rattle.std.specs.Prelude.{ℕ, Bool, if◌then◌else◌, List, [], ◌∷◌, ◌++◌, map, filter, position, Option, Some, None, Result, is_some, codes}
 use Rattle.std.specs.List.{list_all, swap}
 use Rattle.gixp_capabilities.specs.declared.client.Error.{Error}
@@ -10,7 +10,7 @@ use Rattle.gixp_wire.specs.Transport.{Sends}
 use Rattle.gixp_requests.specs.Feature.{FeatureValue, feature_text}
 use Rattle.gixp_requests.specs.Arguments.{ArgumentsValue, is_want, is_v2}
 
--- under version 2 only features with a value are sent
+-- whether a feature has a value; under version 2 only such features are sent
 abbrev pub has_value : FeatureValue → Bool
 has_value f = is_some f.value
 
@@ -23,11 +23,11 @@ done_line = codes "done"
 abbrev pub done_lines : Bool → List (List ℕ)
 done_lines done = if done then done_line ∷ [] else []
 
--- the arguments of a fetch of version 2
+-- the arguments of a `fetch` of version 2
 abbrev pub fetch_arguments : List (List ℕ) → List (List ℕ) → Bool → List (List ℕ)
 fetch_arguments lines haves done = lines ++ (haves ++ done_lines done)
 
--- under versions 0 and 1 the first want changes places with the first line
+-- the lines with the first want and the first line exchanged, as versions 0 and 1 require
 abbrev pub exchanged : {A : Type 0} → List A → Option ℕ → List A
 exchanged lines None = lines
 exchanged lines (Some i) = swap lines 0 i
@@ -35,20 +35,20 @@ exchanged lines (Some i) = swap lines 0 i
 abbrev pub want_first : List (List ℕ) → List (List ℕ)
 want_first lines = exchanged lines (position is_want lines)
 
--- a flush comes after the lines, if there are any
+-- a flush packet after the lines, if there are any
 abbrev pub flush_behind : List (List ℕ) → List MessageValue
 flush_behind [] = []
 flush_behind (line ∷ lines) = flush ∷ []
 
--- the end of what is asked for, or of a part of it
+-- the last message of a request of version 0 or 1: `done` or a flush packet
 abbrev pub done_value : Bool → MessageValue
 done_value done = if done then text done_line else flush
 
--- the lines, a flush after any, the haves, and `done` or a flush
+-- the lines, a flush packet after them, the haves, and `done` or a flush packet
 abbrev pub upload_values : List (List ℕ) → List (List ℕ) → Bool → List MessageValue
 upload_values lines haves done = map text (want_first lines) ++ (flush_behind lines ++ (map text haves ++ done_value done ∷ []))
 
--- the messages of a request for a pack
+-- the messages of a fetch request
 abbrev pub request_values : ArgumentsValue → Bool → List MessageValue
 request_values a done =
     if is_v2 a.version then command_values (codes "fetch") (sent_features a.features) (fetch_arguments a.lines a.haves done)
@@ -58,14 +58,14 @@ request_values a done =
 abbrev pub SendsValues : Reading → Reading → List MessageValue → Result (Unit {0}) Error → Type 0
 SendsValues old new values r = Sends old new (list_all value_fits values) (texts_of (map value_frame values)) r
 
--- its frames
+-- the packet lines of a fetch request
 abbrev pub request : ArgumentsValue → Bool → List Frame
 request a done = map value_frame (request_values a done)
 
--- whether each of its lines fits into a frame
+-- whether each line of a fetch request fits into a packet line
 abbrev pub request_fits : ArgumentsValue → Bool → Bool
 request_fits a done = list_all value_fits (request_values a done)
 
--- what is left to ask for after a request: no have, and the lines where they are to be said again
+-- the arguments after a request: without its haves, and without the lines that the server remembers
 abbrev pub sent_off : Bool → ArgumentsValue → ArgumentsValue
 sent_off persists a = record a { lines = (if is_v2 a.version then a.lines else if persists then [] else a.lines); haves = [] }

@@ -1,5 +1,4 @@
-//! The commands of version 2, and what a client asks for of each by itself (gitprotocol-v2,
-//! "Command Request").
+//! The commands of version 2, and what a client requests of each by default (gitprotocol-v2, "Command Request").
 ghost use Rattle.std.specs.Prelude.{◌≡◌};
 
 mod features;
@@ -14,7 +13,7 @@ pub use table::CommandTable;
 pub enum Command {
     /// Lists refs.
     LsRefs,
-    /// Asks for a pack.
+    /// Fetches a pack.
     Fetch,
 }
 

@@ -1,4 +1,4 @@
-//! Asking for a pack (gitprotocol-v2, "fetch"; gitprotocol-pack, "Packfile Negotiation").
+//! Fetch requests (gitprotocol-v2, "fetch"; gitprotocol-pack, "Packfile Negotiation").
 pub mod arguments;
 
 pub use arguments::Arguments;

@@ -1,4 +1,4 @@
-//! The requests of git's fetch protocol: what a client can ask for, and its lines.
+//! The requests of git's fetch protocol: their features, arguments and lines.
 #![tactic(auto)]
 
 pub mod command;

@@ -6,7 +6,6 @@ ghost use Rattle.gixp_requests.specs.Order.{command_place};
 use crate::command::Command;
 use std::cmp::Ordering;
 
-// Two commands are equal exactly where they are one value.
 fn is_same_command(one: &Command, other: &Command) -> bool
     ensures { IsTrue result ↔ (one.now ≡ other.now) }
 {

@@ -1,4 +1,4 @@
-//! How a client names itself.
+//! The agent string of a client.
 ghost use Rattle.std.specs.Prelude.{◌≡◌, IfOk};
 ghost use Rattle.std.specs.String.{string_bytes};
 ghost use Rattle.gixp_requests.specs.Command.{agent_feature, agent_of};
@@ -7,12 +7,12 @@ ghost use Rattle.gixp_requests.specs.Feature.{feature_value};
 use gixp_wire::Feature;
 use std::alloc::{AllocError, Global};
 
-/// The name of a client as servers know it: `git/` comes before a name that doesn't begin with it
+/// The agent string of a client, as servers know it: its name, with `git/` before it unless the name begins with that
 /// (gitprotocol-capabilities, "agent").
 ///
 /// # Errors
 ///
-/// Only when an allocation fails.
+/// Only an allocation failure.
 pub fn agent(alloc: Global, name: &str) -> Result<String, AllocError>
     ensures { IfOk result (λ text. string_bytes text ≡ agent_of name.now) }
 {
@@ -22,11 +22,11 @@ pub fn agent(alloc: Global, name: &str) -> Result<String, AllocError>
     format!(in alloc; "git/{name}")
 }
 
-/// The feature by which a client of this name introduces itself (gitprotocol-v2, "Capabilities", `agent`).
+/// The feature `agent` of a client with this name (gitprotocol-v2, "Capabilities", `agent`).
 ///
 /// # Errors
 ///
-/// Only when an allocation fails.
+/// Only an allocation failure.
 pub fn agent_feature(alloc: Global, name: &str) -> Result<Feature, AllocError>
     ensures { IfOk result (λ feature. feature_value feature ≡ agent_feature name.now) }
 {

@@ -1,4 +1,4 @@
--- How the calls of a reader make up the reading of an answer.
+-- The calls of a reader that read a response.
 use Rattle.std.proofs.Common.{◌≡◌, ℕ, Bool, true, false, cond, List, [], ◌∷◌, ◌++◌, Option, Some, None, IfSome, IsSome, refl, sym, ap, ◌∙◌, append_assoc, inl, inr}
 use Rattle.gixp_packetline.specs.declared.protocol.Protocol.{Protocol}
 use Rattle.gixp_packetline.specs.declared.protocol.MessageKind.{MessageKind}
@@ -15,13 +15,13 @@ use Rattle.gixp_response.specs.Answer.{AnswerValue, Found, whole, refused, front
 use Rattle.gixp_response.specs.AnswerReading.{stop_of, last_stop, stop_behind, Going, IsRunning, EndsAt, ReadsAnswer, AnswerFails}
 use Rattle.gixp_packetline.proofs.ReadingLemmas.{Known, known_steps}
 
--- a mark is no line
+-- a special packet is not a line
 mark_gives : (b : Bool) (kind : MessageKind) (p q : Pieces) (e : Refusal) (text : List ℕ)
     → cond b (stops kind p) (refuses e) ≡ gives text q → ⊥
 mark_gives true kind p q e text h = cc
 mark_gives false kind p q e text h = cc
 
--- pieces of which a line comes next
+-- packet lines that begin with this line
 pub line_is : (v : Protocol) (list : List Piece) (end : Refusal) (text : List ℕ) (q : Pieces) → next_from v list end ≡ gives text q
     → (list ≡ line text ∷ q.list) × (end ≡ q.end)
 line_is v [] end text q h = cc
@@ -43,14 +43,14 @@ mark_stops true kind k ps end q e h =
     rw (← e1, ← e2) (refl, refl, refl)
 mark_stops false kind k ps end q e h = cc
 
--- pieces of which a stop comes next
+-- packet lines that begin with this stop
 pub stop_is : (v : Protocol) (list : List Piece) (end : Refusal) (kind : MessageKind) (q : Pieces) → next_from v list end ≡ stops kind q
     → (list ≡ mark kind ∷ q.list) × (end ≡ q.end)
 stop_is v [] end kind q h = cc
 stop_is v (line t ∷ ps) end kind q h = cc
 stop_is v (mark k ∷ ps) end kind q h = let all = mark_stops (is_stop v k) k kind ps end q unexpected_frame h in (all.0, all.1)
 
--- one more piece after those that were taken
+-- one more packet line after those that were taken
 snoc_is : (taken : List Piece) (x : Piece) (q : Pieces) → front (taken ++ x ∷ []) q ≡ front taken (with_piece x q)
 snoc_is taken x q = rw append_assoc refl
 
@@ -58,7 +58,6 @@ start_took : (o : Option Pieces) → Known o o (λ p q. p ≡ front [] q)
 start_took None = tt
 start_took (Some p) = (p, refl, refl)
 
--- nothing was read
 pub going-start : (found : Pieces → Found) (v : Protocol) (old now : Reading) → now ≡ reset_to v old → Going found found [] old now
     × IsRunning v now
 going-start found v old now h =
@@ -67,12 +66,11 @@ going-start found v old now h =
       record { stopped = refl; version = refl },
     )
 
--- the same, said otherwise
+-- the same, with an equal continuation
 pub going-turn : (found k l : Pieces → Found) (taken : List Piece) (old now : Reading) → Going found k taken old now
     → ((q : Pieces) → k q ≡ l q) → Going found l taken old now
 going-turn found k l taken old now h f = record { took = h.took; same = λ q. h.same q ∙ f q; failures = h.failures; held = h.held }
 
--- one more piece
 took_piece : (found k : Pieces → Found) (taken : List Piece) (old mid new : Reading) (x : Piece) → Going found k taken old mid
     → Known mid.to_come new.to_come (λ q r. q ≡ with_piece x r) → new.failures ≡ mid.failures → new.held ≡ mid.held
     → Going found (λ q. k (with_piece x q)) (taken ++ x ∷ []) old new
@@ -99,7 +97,6 @@ known_stop v (Some p) b kind h =
     let parts = stop_is v p.list p.end kind h.0 h.2 in
     (h.0, h.1, rw (parts.0, parts.1) refl)
 
--- one more line
 pub going-line : (found k : Pieces → Found) (v : Protocol) (taken : List Piece) (old mid new : Reading) → Going found k taken old mid
     → IsRunning v mid → TakesLine mid new
     → Going found (λ q. k (with_piece (line new.line) q)) (taken ++ line new.line ∷ []) old new × IsRunning v new
@@ -108,21 +105,19 @@ going-line found k v taken old mid new h r t = (
   record { stopped = t.stopped; version = t.version ∙ r.version },
 )
 
--- one more stop
 pub going-stop : (found k : Pieces → Found) (v : Protocol) (taken : List Piece) (old mid new : Reading) (kind : MessageKind)
     → Going found k taken old mid → IsRunning v mid → TakesStop mid new kind
     → Going found (λ q. k (with_piece (mark kind) q)) (taken ++ mark kind ∷ []) old new
 going-stop found k v taken old mid new kind h r t =
     took_piece found k taken old mid new (mark kind) h (known_stop mid.version mid.to_come new.to_come kind t.next) t.failures t.held
 
--- after the stop
 pub going-reset : (found k : Pieces → Found) (v : Protocol) (taken : List Piece) (old mid new : Reading) → Going found k taken old mid
     → new ≡ reset_to v mid
     → Going found k taken old new × IsRunning v new
 going-reset found k v taken old mid new h e =
     rw e (record { took = h.took; same = h.same; failures = h.failures; held = h.held }, record { stopped = refl; version = refl })
 
--- a reader that isn't at a stop takes the one that comes next
+-- a reader that was not at a stop took the next one
 pub stop_taken : (v : Protocol) (mid new : Reading) → IsRunning v mid → AtStop mid new → (kind : MessageKind) × TakesStop mid new kind
 stop_taken v mid new r (inl k) = absurd (let s : IsSome mid.stopped = k.was in let e = r.stopped in cc)
 stop_taken v mid new r (inr k) = k
@@ -133,27 +128,27 @@ known_found : (found k : Pieces → Found) (taken : List Piece) (a b : Option Pi
 known_found found k taken None b value s w h = tt
 known_found found k taken (Some p) b value s w h = (h.0, h.1, ap found h.2 ∙ s h.0 ∙ w h.0)
 
--- in front of a pack the reader is at no stop
+-- before a pack the reader is at no stop
 pub ends_running : (v : Protocol) (pack : Bool) (at : Option MessageKind) → EndsAt v pack at → pack ≡ true → at ≡ None
 ends_running v true at h e = h
 ends_running v false at h e = cc
 
--- what stands last was taken last
+-- the last packet line was taken last
 pub stands_last : (taken : List Piece) (x : Piece) → last_stop (taken ++ x ∷ []) ≡ stop_of x
 stands_last [] x = refl
 stands_last (p ∷ []) x = refl
 stands_last (p ∷ q ∷ ps) x = stands_last (q ∷ ps) x
 
--- a reader that took a line is at no stop, as the line tells
+-- a reader that took a line is at no stop
 pub last_line : (taken : List Piece) (text : List ℕ) (at : Option MessageKind) → at ≡ None → at ≡ last_stop (taken ++ line text ∷ [])
 last_line taken text at h = h ∙ sym (stands_last taken (line text))
 
--- and one that took a stop is at that
+-- a reader that took a stop is at it
 pub last_mark : (taken : List Piece) (kind : MessageKind) (at : Option MessageKind) → at ≡ Some kind
     → at ≡ last_stop (taken ++ mark kind ∷ [])
 last_mark taken kind at h = h ∙ sym (stands_last taken (mark kind))
 
--- what was taken is an answer
+-- the packet lines taken are a response
 pub going-whole : (found k : Pieces → Found) (v : Protocol) (taken : List Piece) (old new : Reading) (value : AnswerValue)
     → Going found k taken old new → new.version ≡ v
     → EndsAt v value.pack new.stopped → new.stopped ≡ stop_behind value.pack taken → ((q : Pieces) → k q ≡ whole value q)
@@ -177,7 +172,7 @@ known_refused : (found k : Pieces → Found) (taken : List Piece) (a b : Option 
 known_refused found k taken None b r s w h = tt
 known_refused found k taken (Some p) b r s w h = ap found h.2 ∙ s h.0 ∙ w h.0
 
--- what was taken ends in what is refused
+-- the packet lines taken end in an error
 pub going-refused : (plain : Bool) (found k : Pieces → Found) (taken : List Piece) (old new : Reading) (r : AnswerRefusal) (e : Error)
     → Going found k taken old new
     → new.stopped ≡ last_stop taken → ((q : Pieces) → k q ≡ refused r) → is_of_line r ≡ true → IsAnswerRefusal e r
@@ -191,7 +186,7 @@ going-refused plain found k taken old new r e h at w l is = inl (record {
   error = is;
 })
 
--- memory ran out after what was taken
+-- an allocation failed after the packet lines taken
 pub going-memory : (plain : Bool) (found k : Pieces → Found) (taken : List Piece) (old new : Reading) → Going found k taken old new
     → new.stopped ≡ None → AnswerFails found plain old new Memory
 going-memory plain found k taken old new h at =
@@ -207,7 +202,7 @@ refused_next found k v w taken (Some p) (Some q) c e i s n h r =
     let same : q ≡ h.0 = let e = h.1 in cc in
     ap found h.2 ∙ ap (λ x. found (front taken x)) (sym same) ∙ s q ∙ n q (ap (λ x. next_of x q) (sym i) ∙ r.1)
 
--- the reader's refusal is the first, or something came from outside
+-- an error of the reader comes next, or an I/O error, an interrupt or an allocation failure
 pub going-fails : (plain : Bool) (found k : Pieces → Found) (v : Protocol) (taken : List Piece) (old mid new : Reading) (r : ReadError)
     (e : Error) → Going found k taken old mid → IsRunning v mid
     → ((q : Pieces) → next_of v q ≡ refuses (refusal_of r) → k q ≡ refused (from_reader (refusal_of r)))

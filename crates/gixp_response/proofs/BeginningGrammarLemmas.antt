@@ -1,4 +1,4 @@
--- An answer under versions 0 and 1 is the shortest beginning that ends one.
+-- A response of version 0 or 1 is the shortest beginning of the stream that ends one.
 use Rattle.std.proofs.Common.{◌≡◌, Bool, true, false, cond, List, [], ◌∷◌, ◌++◌, Option, Some, None, refl, sym, ap, subst, ◌∙◌}
 use Rattle.gixp_packetline.specs.declared.protocol.Protocol.{Protocol}
 use Rattle.gixp_packetline.specs.declared.protocol.MessageKind.{MessageKind}
@@ -10,7 +10,7 @@ use Rattle.gixp_response.specs.Answer.{AnswerValue, Found, whole, refused, front
 use Rattle.gixp_response.specs.Beginnings.{AnswerItem, line_item, stopped, Expected, ends, said_in, unless_ends, beginnings_from, v1_answer}
 use Rattle.gixp_response.specs.BeginningGrammar.{items_behind, AreStops, IsShortest}
 
--- the same after items that were read before
+-- the same, after items that were read before
 record Shortest (v : Protocol) (a : Expected) (before : List AnswerItem) (p : Pieces) (value : AnswerValue) (rest : Pieces) : Type 0 where
   taken : List Piece
   pack : Bool
@@ -28,7 +28,6 @@ not_empty (x ∷ xs) next more h = cc
 whole_parts : (v w : AnswerValue) (p q : Pieces) → whole v p ≡ whole w q → (v ≡ w) × (p ≡ q)
 whole_parts v w p q h = (cc, cc)
 
--- it ends here
 here : (v : Protocol) (a : Expected) (before : List AnswerItem) (p : Pieces) (value : AnswerValue) (rest : Pieces) (pack : Bool)
     → ends a before (next_of v p) ≡ Some pack
     → whole (said_in before pack) p ≡ whole value rest → Shortest v a before p value rest
@@ -44,7 +43,7 @@ here v a before p value rest pack e h =
       shortest = λ shorter next more k. absurd (not_empty shorter next more k);
     }
 
--- it ends after one more piece
+-- it ends after one more packet line
 further : (v : Protocol) (a : Expected) (before : List AnswerItem) (x : Piece) (p : Pieces) (value : AnswerValue) (rest : Pieces)
     → ends a before (next_of v (with_piece x p)) ≡ None
     → Shortest v a (items_behind (x ∷ []) before) p value rest
@@ -82,7 +81,7 @@ step : (v : Protocol) (a : Expected) (before : List AnswerItem) (p : Pieces) (lo
 step v a before p longer value rest (Some pack) e h f = here v a before p value rest pack e h
 step v a before p longer value rest None e h f = f e h
 
--- a mark that stops, or one that is refused
+-- a special packet is a stop, or an error
 mark_step : (v : Protocol) (a : Expected) (before : List AnswerItem) (kind : MessageKind) (p : Pieces) (longer : Found)
     (value : AnswerValue) (rest : Pieces) (b : Bool) → is_stop v kind ≡ b
     → next_of v (with_piece (mark kind) p) ≡ cond b (stops kind p) (refuses unexpected_frame)
@@ -115,7 +114,7 @@ found_from v a (mark kind ∷ ps) end before value rest h =
     (λ i e k. further v a before (mark kind) p value rest e (found_from v a ps end (stopped ∷ before) value rest k) (λ _. refl)
     (λ _ s. (i, s)))
 
--- an answer that is found is the shortest beginning that ends one
+-- a response that is read is the shortest beginning that ends one
 pub shortest_found : (v : Protocol) (a : Expected) (p : Pieces) (value : AnswerValue) (rest : Pieces)
     → v1_answer v a p ≡ whole value rest → IsShortest v a p value rest
 shortest_found v a p value rest h =
@@ -132,7 +131,7 @@ mark_ended : (a : Expected) (before : List AnswerItem) (kind : MessageKind) (p :
 mark_ended a before kind p longer pack true h = rw h refl
 mark_ended a before kind p longer pack false h = rw h refl
 
--- where an answer ends, it is found
+-- where a response ends, it is read
 ended_here : (v : Protocol) (a : Expected) (list : List Piece) (end : Refusal) (before : List AnswerItem) (pack : Bool)
     → ends a before (next_from v list end) ≡ Some pack
     → beginnings_from v a list end before ≡ whole (said_in before pack) (record { list = list; end = end })
@@ -147,7 +146,7 @@ mark_passed : (a : Expected) (before : List AnswerItem) (kind : MessageKind) (p 
 mark_passed a before kind p x longer other all true i n h = rw n h
 mark_passed a before kind p x longer other all false i n h = cc
 
--- where none of its beginnings ends one, a beginning that does is found
+-- a beginning that ends a response is read if no shorter one does
 found_shortest : (v : Protocol) (a : Expected) (taken : List Piece) (rest : Pieces) (before : List AnswerItem) (pack : Bool)
     → AreStops v taken
     → ends a (items_behind taken before) (next_of v rest) ≡ Some pack
@@ -165,7 +164,7 @@ found_shortest v a (mark kind ∷ ts) rest before pack s e f =
     (found_shortest v a ts rest (stopped ∷ before) pack s.1 e
     (λ shorter next more k. f (mark kind ∷ shorter) next more (ap (λ l. mark kind ∷ l) k)))
 
--- the shortest beginning that ends an answer is found
+-- the shortest beginning that ends a response is read
 pub shortest_read : (v : Protocol) (a : Expected) (p : Pieces) (value : AnswerValue) (rest : Pieces) → IsShortest v a p value rest
     → v1_answer v a p ≡ whole value rest
 shortest_read v a p value rest h =

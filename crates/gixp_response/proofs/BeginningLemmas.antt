@@ -1,4 +1,4 @@
--- How an answer under versions 0 and 1 is read piece by piece.
+-- How a response of version 0 or 1 is read, one packet line after the other.
 use Rattle.std.proofs.Common.{◌≡◌, ℕ, Bool, true, false, cond, List, [], ◌∷◌, ◌++◌, Option, Some, None, IfSome, Result, Ok, Err, refl, sym, ap, subst, ◌∙◌, append-nil, inl, inr}
 use Rattle.std.specs.Prelude.{not, ◌&&◌, ◌||◌, ◌⊎◌}
 use Rattle.std.specs.List.{list_any}
@@ -23,22 +23,22 @@ use Rattle.gixp_response.specs.Beginnings.{AnswerItem, acknowledged, updated, ot
 use Rattle.gixp_response.specs.AnswerReading.{last_stop, Going, IsRunning, EndsBare, ReadsAnswer, Answered, AnswerFails}
 use Rattle.gixp_response.proofs.AnswerRunLemmas.{line_is, going-start, going-turn, going-line, going-stop, going-reset, going-whole, going-memory, going-fails, stop_taken, stands_last, last_mark}
 
--- what is left behind a beginning
+-- the response that ends after this beginning
 abbrev pub longer_of : Protocol → Expected → List AnswerItem → Pieces → Found
 longer_of v a before q = beginnings_from v a q.list q.end before
 
--- whether the last of some pieces is a stop, as the last of their items is
+-- if the last item is not a stop, neither is the last packet line
 abbrev pub SameLast : List Piece → List AnswerItem → Type 0
 SameLast taken before = last_is is_stopped before ≡ false → last_stop taken ≡ None
 
--- a beginning was read
+-- this beginning was read
 pub record Read (v : Protocol) (a : Expected) (before : List AnswerItem) (old now : Reading) : Type 0 where
   pub taken : List Piece
   pub going : Going (v1_answer v a) (longer_of v a before) taken old now
   pub running : IsRunning v now
   pub last : SameLast taken before
 
--- a beginning was read that ends no answer, with what is known of it
+-- this beginning was read; it ends no response
 pub record Amid (v : Protocol) (a : Expected) (answer : AnswerValue) (came_ready behind_stop : Bool) (old now : Reading) : Type 0 where
   pub before : List AnswerItem
   pub read : Read v a before old now
@@ -62,7 +62,7 @@ amid-start v a old now e =
       no_stops = refl;
     }
 
--- where nothing else ends it, only what comes next may
+-- if nothing else ends the response, only the next packet line may
 goes_on : (a : Expected) (before : List AnswerItem) (next : Next) → ends_by_nak a before ≡ false
     → last_two_are is_stopped before ≡ false → ends a before next ≡ ends_before before next
 goes_on a before next n s = rw (n, s) refl
@@ -71,7 +71,7 @@ either_whole : (b : Bool) (f g h : Found) → f ≡ h → g ≡ h → cond b f g
 either_whole true f g h p q = p
 either_whole false f g h p q = q
 
--- a beginning that ends an answer, whatever comes next
+-- a beginning that ends a response, whatever follows
 ended_is : (v : Protocol) (a : Expected) (list : List Piece) (end : Refusal) (before : List AnswerItem) (pack : Bool)
     → ((next : Next) → ends a before next ≡ Some pack)
     → beginnings_from v a list end before ≡ whole (said_in before pack) (record { list = list; end = end })
@@ -81,7 +81,6 @@ ended_is v a (mark kind ∷ ps) end before pack h =
     either_whole (is_stop v kind) _ _ _ (rw (h (stops kind (record { list = ps; end = end }))) refl)
     (rw (h (refuses unexpected_frame)) refl)
 
--- one more stop
 after_stop : (v : Protocol) (a : Expected) (before : List AnswerItem) (kind : MessageKind) (q : Pieces) → is_stop v kind ≡ true
     → ends_by_nak a before ≡ false → last_two_are is_stopped before ≡ false
     → longer_of v a before (with_piece (mark kind) q) ≡ longer_of v a (stopped ∷ before) q
@@ -97,7 +96,7 @@ read_stop v a before old mid new h n t k =
     (going-stop (v1_answer v a) (longer_of v a before) v h.taken old mid new k.0 h.going h.running k.1)
     (λ q. after_stop v a before k.0 q stop n t)
 
--- a stop is passed over
+-- a stop is skipped
 pub amid-stop : (v : Protocol) (a : Expected) (answer : AnswerValue) (came_ready : Bool) (old mid new last : Reading)
     → Amid v a answer came_ready false old mid → AtStop mid new → last ≡ reset_to v new
     → Amid v a answer came_ready true old last
@@ -119,11 +118,10 @@ ends_by_stops : (a : Expected) (before : List AnswerItem) → true ≡ last_is i
     → ends a (stopped ∷ before) next ≡ Some false
 ends_by_stops a before e next = rw (← e) refl
 
--- the versions that answer by beginnings
 abbrev pub IsEarlier : Protocol → Type 0
 IsEarlier v = (v ≡ V1) ⊎ (v ≡ V0)
 
--- which know one stop
+-- under these versions only a flush packet is a stop
 flush_in_v1 : (kind : MessageKind) → is_stop V1 kind ≡ true → kind ≡ Flush
 flush_in_v1 Flush h = refl
 flush_in_v1 _ h = cc
@@ -140,7 +138,7 @@ ends_bare : (v : Protocol) → IsEarlier v → (at : Option MessageKind) → (at
 ends_bare v (inl e) at h = subst (λ x. EndsBare x at) (sym e) h
 ends_bare v (inr e) at h = subst (λ x. EndsBare x at) (sym e) h
 
--- a second one ends the answer
+-- a second stop ends the response
 pub amid-stops : (v : Protocol) (earlier : IsEarlier v) (a : Expected) (answer : AnswerValue) (came_ready : Bool)
     (old mid new : Reading) → Amid v a answer came_ready true old mid → AtStop mid new
     → Answered (v1_answer v a) v old new answer
@@ -155,12 +153,12 @@ amid-stops v earlier a answer came_ready old mid new h k =
     (last_mark h.read.taken t.0 new.stopped t.1.stopped)
     (λ q. ended_is v a q.list q.end (stopped ∷ h.before) false (ends_by_stops a h.before h.stop_is))))
 
--- the kind of the stream's end
+-- the end of the stream, by its I/O error
 end_kind : (kind : ErrorKind) → is_at_end (io kind) ≡ true → io kind ≡ io UnexpectedEof
 end_kind UnexpectedEof h = refl
 end_kind _ h = cc
 
--- the stream's end is that refusal alone
+-- the end of the stream is this error only
 end_is : (r : Refusal) → is_at_end r ≡ true → r ≡ io UnexpectedEof
 end_is (io kind) h = end_kind kind h
 end_is _ h = cc
@@ -175,7 +173,7 @@ mark_at_end : (b : Bool) (kind : MessageKind) (p : Pieces) → cond b (stops kin
 mark_at_end true kind p h = cc
 mark_at_end false kind p h = cc
 
--- the end of the pieces, not right after a stop
+-- the stream ends, not right after a stop
 at_end_is : (v : Protocol) (a : Expected) (before : List AnswerItem) (list : List Piece) (end : Refusal)
     → ends a before (refuses (io UnexpectedEof)) ≡ Some false
     → next_from v list end ≡ refuses (io UnexpectedEof) → beginnings_from v a list end before
@@ -184,7 +182,7 @@ at_end_is v a before [] end e h = let s : end ≡ io UnexpectedEof = cc in rw (s
 at_end_is v a before (line t ∷ ps) end e h = cc
 at_end_is v a before (mark kind ∷ ps) end e h = absurd (mark_at_end (is_stop v kind) kind (record { list = ps; end = end }) h)
 
--- after pieces of which the stream's end comes next nothing stands
+-- no packet line is left at the end of the stream
 nothing_left : (v : Protocol) (list : List Piece) (end : Refusal) → next_from v list end ≡ refuses (io UnexpectedEof)
     → record { list = list; end = end } ≡ no_pieces (io UnexpectedEof)
 nothing_left v [] end h = let s : end ≡ io UnexpectedEof = cc in rw s refl
@@ -255,7 +253,7 @@ end_answers v earlier a before old mid new h e l (inr (inr t)) =
       failures = subst (λ n. Rose n new.failures) h.going.failures t.failures;
     })
 
--- the stream's end, not right after a stop
+-- the end of the stream, not right after a stop
 pub amid-end : (v : Protocol) (earlier : IsEarlier v) (a : Expected) (answer : AnswerValue) (came_ready behind_stop : Bool)
     (old mid new : Reading) (r : ReadError) → Amid v a answer came_ready behind_stop old mid
     → Fails mid new (refusal_of r) → true ≡ (is_at_end (refusal_of r) && not behind_stop) → Answered (v1_answer v a) v old new answer
@@ -278,7 +276,7 @@ mark_refused : (v : Protocol) (a : Expected) (before : List AnswerItem) (b : Boo
 mark_refused v a before true kind p f r e h = cc
 mark_refused v a before false kind p f r e h = let s : unexpected_frame ≡ r = cc in rw (e, ← s) refl
 
--- what the reader refuses next is refused where it doesn't end the answer
+-- an error of the reader is one of the response, unless it ends the response
 refused_is : (v : Protocol) (a : Expected) (before : List AnswerItem) (list : List Piece) (end r : Refusal)
     → ends_by_nak a before ≡ false → last_two_are is_stopped before ≡ false
     → ends_before before (refuses r) ≡ None → next_from v list end ≡ refuses r → beginnings_from v a list end before
@@ -291,7 +289,7 @@ refused_is v a before (line text ∷ ps) end r n t e h = cc
 refused_is v a before (mark kind ∷ ps) end r n t e h =
     mark_refused v a before (is_stop v kind) kind (record { list = ps; end = end }) _ r (goes_on a before (refuses unexpected_frame) n t) h
 
--- the reader's refusal, or what came from outside
+-- an error of the reader, or an I/O error, an interrupt or an allocation failure
 pub amid-fails : (plain : Bool) (v : Protocol) (a : Expected) (answer : AnswerValue) (came_ready behind_stop : Bool)
     (old mid new : Reading) (r : ReadError) (e : Error)
     → Amid v a answer came_ready behind_stop old mid → Fails mid new (refusal_of r) → false ≡ (is_at_end (refusal_of r) && not behind_stop)
@@ -331,7 +329,7 @@ read_shown v a before old mid new h s = record {
   last = h.last;
 }
 
--- a peeked line is taken by the next call
+-- the next call takes a line that was peeked at
 pub peeked_taken : (mid new : Reading) (r : Result Bool ReadError) → mid.peeked ≡ true → Reads mid new r → TakesLine mid new
 peeked_taken mid new (Ok true) p h = h
 peeked_taken mid new (Ok false) p (inl h) = absurd (let x = h.stays.unpeeked in cc)
@@ -361,7 +359,7 @@ known_pack v w found k taken (Some p) (Some q) n value text i s e h t =
     let same : q ≡ h.0 = let x = h.1 in cc in
     (q, t.1, ap found h.2 ∙ ap (λ x. found (front taken x)) (sym same) ∙ s q ∙ e q t.0 (ap (λ x. next_of x q) (sym i) ∙ t.2))
 
--- in front of another line the pack begins
+-- the pack begins before another line
 pub amid-pack : (v : Protocol) (a : Expected) (answer : AnswerValue) (came_ready behind_stop : Bool) (old mid new : Reading)
     → Amid v a answer came_ready behind_stop old mid → ShowsLine mid new
     → line_item new.line ≡ other → Answered (v1_answer v a) v old new (record answer { pack = true })
@@ -399,7 +397,6 @@ after_line : (v : Protocol) (a : Expected) (before : List AnswerItem) (text : Li
     → is_other i ≡ false → longer_of v a before (with_piece (line text) q) ≡ longer_of v a (i ∷ before) q
 after_line v a before text i q n t e o = rw (n, t, e, o) refl
 
--- one more line
 read_line : (v : Protocol) (a : Expected) (before : List AnswerItem) (s : Said) (old mid new : Reading) → Read v a before old mid
     → ends_by_nak a before ≡ false → last_two_are is_stopped before ≡ false
     → TakesLine mid new → line_item new.line ≡ item_said (Some s) → Read v a (item_said (Some s) ∷ before) old new
@@ -413,7 +410,7 @@ read_line v a before s old mid new h n t k e =
       last = λ _. stands_last h.taken (line new.line);
     }
 
--- a line that was peeked at and taken
+-- a line was peeked at and taken
 pub record Taken (v : Protocol) (a : Expected) (s : Said) (before : List AnswerItem) (old new : Reading) : Type 0 where
   pub read : Read v a (item_said (Some s) ∷ before) old new
 
@@ -433,7 +430,7 @@ said_more before (updated x) = refl
 said_more before other = refl
 said_more before stopped = refl
 
--- the answer goes on after it
+-- the response goes on after it
 pub amid-said : (v : Protocol) (a : Expected) (answer more : AnswerValue) (came_ready behind_stop ready : Bool) (s : Said)
     (old mid new : Reading) (h : Amid v a answer came_ready behind_stop old mid)
     → Taken v a s h.before old new → more ≡ said_with answer (item_said (Some s)) → ready ≡ (is_ready (item_said (Some s)) || came_ready)
@@ -454,7 +451,7 @@ amid-said v a answer more came_ready behind_stop ready s old mid new h t m r n =
 ends_nak : (a : Expected) (before : List AnswerItem) → ends_by_nak a before ≡ true → (next : Next) → ends a before next ≡ Some false
 ends_nak a before e next = rw e refl
 
--- or it ends there
+-- the response ends there
 pub amid-nak : (v : Protocol) (earlier : IsEarlier v) (a : Expected) (answer more : AnswerValue) (came_ready behind_stop ready : Bool)
     (s : Said) (old mid new : Reading) (h : Amid v a answer came_ready behind_stop old mid)
     → Taken v a s h.before old new → more ≡ said_with answer (item_said (Some s)) → ready ≡ (is_ready (item_said (Some s)) || came_ready)
@@ -471,7 +468,7 @@ amid-nak v earlier a answer more came_ready behind_stop ready s old mid new h t 
     (t.read.running.stopped ∙ sym (t.read.last (said_is_stop s)))
     (λ q. ended_is v a q.list q.end (i ∷ h.before) false (ends_nak a (i ∷ h.before) nak))))
 
--- memory ran out for what it says
+-- an allocation failed for its item
 pub amid-memory : (plain : Bool) (v : Protocol) (a : Expected) (s : Said) (before : List AnswerItem) (old new : Reading)
     → Taken v a s before old new → AnswerFails (v1_answer v a) plain old new Memory
 amid-memory plain v a s before old new t =

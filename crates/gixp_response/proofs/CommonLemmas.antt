@@ -1,4 +1,4 @@
--- The commits that an answer names as common, as a set.
+-- The commits that a response names as common, each once.
 use Rattle.std.proofs.Common.{◌≡◌, ℕ, ◌+◌, ◌<◌, ◌≤◌, Bool, true, false, List, [], ◌∷◌, ◌++◌, length, take, drop, get_or, zero, suc, refl, sym, ap, subst, ◌∙◌, inl, inr, arith}
 use Rattle.std.specs.Prelude.{◌&&◌, ◌||◌, ◌==◌, nat_lt, not, Result, Ok, Err, OnOk}
 use Rattle.std.specs.List.{AllByRecursion, IsDistinct, fold, list_any, slice_set}
@@ -21,14 +21,12 @@ use Rattle.gixp_response.specs.RepeatedCommons.{flagged, named_from, AreNoted, w
 use Rattle.gixp_repeats.specs.Repeats.{is_before, is_repeat, tested_from}
 use Rattle.gixp_response.specs.declared.fetch.response.repeats.Repeats.{Repeats}
 
--- `ready` names no commit
 not_ready : (had : List Acknowledgement) → list_any (λ x. is_same_common x Ready) had ≡ false
 not_ready [] = refl
 not_ready (Common a ∷ had) = not_ready had
 not_ready (Ready ∷ had) = not_ready had
 not_ready (Nak ∷ had) = not_ready had
 
--- nor does `NAK`
 not_nak : (had : List Acknowledgement) → list_any (λ x. is_same_common x Nak) had ≡ false
 not_nak [] = refl
 not_nak (Common a ∷ had) = not_nak had
@@ -38,12 +36,12 @@ not_nak (Nak ∷ had) = not_nak had
 same_id : (a b : ObjectId) → is_eq (id_cmp a b) ≡ is_text a.bytes b.bytes
 same_id a b = sym (texts_ties a.bytes b.bytes)
 
--- what holds where a call succeeds brings what follows
+-- a consequence for a call that succeeds
 pub on_ok : {A E : Type 0} (r : Result A E) {P Q : Type 0} → OnOk r P → (P → Q) → OnOk r Q
 on_ok (Ok x) h f = f h
 on_ok (Err e) h f = tt
 
--- ---- acknowledgements with repeats
+-- ---- recorded acknowledgements, with repeats
 
 pub length_tested : {A : Type 0} (t : ℕ → Bool) (n : ℕ) (xs : List A) → length (tested_from t n xs) ≡ length xs
 length_tested t n [] = refl
@@ -68,7 +66,7 @@ named_append n (Nak ∷ xs) ys =
     let same : n + 1 + length xs ≡ n + suc (length xs) = omega arith in
     named_append (n + 1) xs ys ∙ ap (λ m. named_from (n + 1) xs ++ named_from m ys) same
 
--- one more acknowledgement was noted
+-- one more acknowledgement was recorded
 pub noted_more : (had : List Acknowledgement) (found : Acknowledgement) (old new : Repeats) → AreNoted had old
     → new.rows.items ≡ old.rows.items ++ named_from (length old.flags.items) (found ∷ [])
     → new.flags.items ≡ old.flags.items ++ true ∷ []
@@ -112,7 +110,7 @@ places_differ row n (Common id ∷ had) l = ((grind arith), places_differ row (n
 places_differ row n (Ready ∷ had) l = places_differ row (n + 1) had (omega arith)
 places_differ row n (Nak ∷ had) l = places_differ row (n + 1) had (omega arith)
 
--- no two stand at one place
+-- no two rows have the same position
 pub named_apart : (n : ℕ) (had : List Acknowledgement) → IsDistinct (λ a b. a.1 == b.1) (named_from n had)
 unfolding IsDistinct
 named_apart n [] = tt
@@ -122,7 +120,7 @@ named_apart n (Nak ∷ had) = named_apart (n + 1) had
 
 -- ---- the repeats among them
 
--- what a row of this place passes
+-- the test of a row, for an acknowledgement
 abbrev passes : (ObjectId → Bool) → Acknowledgement → Bool
 passes test (Common id) = test id
 passes test Ready = false
@@ -140,7 +138,7 @@ or_none : (b : Bool) → (b || false) ≡ b
 or_none true = refl
 or_none false = refl
 
--- a place has the row of its acknowledgement
+-- a position has the row of its acknowledgement
 one_here : (test : ObjectId → Bool) (p n : ℕ) (done : List Acknowledgement) (a : Acknowledgement) (more : List Acknowledgement)
     → p ≡ n + length done → list_any (λ row. (row.1 == p) && test row.0) (named_from n (done ++ a ∷ more)) ≡ passes test a
 one_here test p n [] (Common id) more e =
@@ -161,7 +159,7 @@ none_before id p n (Common q ∷ had) l =
 none_before id p n (Ready ∷ had) l = none_before id p (n + 1) had (omega arith)
 none_before id p n (Nak ∷ had) l = none_before id p (n + 1) had (omega arith)
 
--- a commit stands before a place where an earlier acknowledgement names it
+-- a commit occurs before a position if an earlier acknowledgement names it
 before_is : (id : ObjectId) (p n : ℕ) (done more : List Acknowledgement) → p ≡ n + length done
     → is_before id_cmp (named_from n (done ++ more)) id p ≡ list_any (λ x. is_same_common x (Common id)) done
 before_is id p n [] more e = none_before id p n more (omega arith)
@@ -182,7 +180,7 @@ passes_alike t s (Common id) h = h id
 passes_alike t s Ready h = refl
 passes_alike t s Nak h = refl
 
--- a place repeats where an earlier acknowledgement names its commit
+-- a position is a repeat if an earlier acknowledgement names its commit
 repeat_is : (all done : List Acknowledgement) (a : Acknowledgement) (more : List Acknowledgement) → all ≡ done ++ a ∷ more
     → is_repeat id_cmp (named_from 0 all) (length done) ≡ list_any (λ x. is_same_common x a) done
 repeat_is all done a more e =
@@ -192,7 +190,7 @@ repeat_is all done a more e =
     ∙ passes_alike _ _ a (λ id. before_is id (length done) 0 done (a ∷ more) place)
     ∙ passes_same done a
 
--- what names a commit that was named adds nothing
+-- an acknowledgement that names a commit again adds nothing
 same_again : (a b : Acknowledgement) (had : List Acknowledgement) → list_any (λ x. is_same_common x a) had ≡ true
     → is_same_common a b ≡ true → list_any (λ x. is_same_common x b) had ≡ true
 same_again a b [] h e = h
@@ -201,7 +199,7 @@ same_again a b (x ∷ had) h e = elim (or_cases (is_same_common x a) (list_any (
   | inr later ↦ or_right _ _ (same_again a b had later e)
 ]
 
--- all that have a flag after those that were kept
+-- the elements whose flag is true, after those that are kept
 kept_from : (all done more had : List Acknowledgement) → all ≡ done ++ more
     → ((a : Acknowledgement) → list_any (λ x. is_same_common x a) had ≡ list_any (λ x. is_same_common x a) done)
     → had ++ flagged more (tested_from (λ q. not (is_repeat id_cmp (named_from 0 all) q)) (length done) more)
@@ -230,19 +228,19 @@ kept_from all done (a ∷ more) had e h =
           ∙ ap (λ y. y || (is_same_common a b || false)) (h b) ∙ sym (list_any-append (λ x. is_same_common x b) done (a ∷ [])))))
     ]
 
--- those that have a flag name each commit once
+-- the elements whose flag is true name each commit once
 pub flagged_once : (all : List Acknowledgement)
     → flagged all (tested_from (λ q. not (is_repeat id_cmp (named_from 0 all) q)) 0 all) ≡ fold with_acknowledgement [] all
 flagged_once all = kept_from all [] all [] refl (λ a. refl)
 
--- one more acknowledgement, with repeats and without them
+-- one more acknowledgement, with and without repeats
 pub said_more : (answer : AnswerValue) (found : Acknowledgement)
     → without_repeats (record answer { acknowledgements = answer.acknowledgements ++ found ∷ [] })
     ≡ said_with (without_repeats answer) (acknowledged found)
 said_more answer found =
     ap (λ acks. record answer { acknowledgements = acks }) (fold-append with_acknowledgement [] answer.acknowledgements (found ∷ []))
 
--- ---- what is moved down
+-- ---- elements that are moved to the front
 
 pub one_passed : {X : Type 0} (xs : List X) (at : ℕ) (flags : List Bool) → at < length xs
     → flagged (drop (at + 1) xs) flags ≡ flagged (drop at xs) (false ∷ flags)

@@ -1,4 +1,4 @@
--- Ids in the order that their first bytes mostly decide.
+-- The order of ids that mostly compares their first bytes.
 use Rattle.std.proofs.Common.{◌≡◌, true, Ordering, Less, Equal, Greater, refl, sym, ap, ◌∙◌}
 use Rattle.std.specs.Cmp.{IsTotalOrder}
 use Rattle.std.specs.Ordering.{is_eq, eq_by_cmp, nat_cmp, ordering_then}
@@ -27,7 +27,7 @@ then_equal Greater Less h = refl
 then_equal Greater Equal h = absurd (false≢true (h refl))
 then_equal Greater Greater h = refl
 
--- ids that are one begin alike
+-- equal ids have equal first bytes
 pub fronts_tie : (a b : ObjectId) → eq_by_cmp front_cmp a b ≡ eq_by_cmp id_cmp a b
 fronts_tie a b = then_equal _ (id_cmp a b) (λ e.
     let same = (bytes_eq-Decides a.bytes b.bytes).0 (sym (is_eq-slice_cmp a.bytes b.bytes) ∙ e) in

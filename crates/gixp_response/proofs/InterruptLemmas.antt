@@ -1,4 +1,4 @@
--- Whom a reader asked by the time that it gave an answer.
+-- The calls of the reader's interrupt while a response is read.
 use Rattle.std.proofs.Common.{◌≡◌, Bool, true, false, cond, sym, ap, subst, ◌∙◌, refl, List, ℕ, Option, Some, None, Result, Ok, Err, inl, inr}
 use Rattle.std.specs.Prelude.{◌&&◌, not}
 use Rattle.std.specs.Str.{is_utf8}
@@ -16,7 +16,7 @@ use Rattle.gixp_response.specs.Sections.{header_of, item_of, or_refused, read_he
 use Rattle.gixp_response.specs.AnswerLine.{trimmed}
 use Rattle.gixp_response.specs.ResponseError.{AnswerRefusal, io_failed, upload_pack, by_transport, missing_capability, unknown_line, unknown_header, by_reader, no_memory, answer_refusal, from_reader, is_no_memory, is_interruption, is_interrupted_answer, AnswersResponse}
 
--- no interrupt ends the call that takes a line that was peeked at
+-- a call that takes a line that was peeked at isn't interrupted
 pub peeked_asks : (A : Bool → Type 0) (old new : Reading) (r : Result Bool ReadError) → old.peeked ≡ true → Reads old new r
     → A (is_interrupted r) → A false
 peeked_asks A old new (Ok b) p h k = k
@@ -24,7 +24,7 @@ peeked_asks A old new (Err x) p (inl h) k = absurd (let e = h.unpeeked in cc)
 peeked_asks A old new (Err x) p (inr (inl h)) k = absurd (let e = h.stays.unpeeked in cc)
 peeked_asks A old new (Err x) p (inr (inr h)) k = absurd (let e = h.unpeeked in cc)
 
--- a call that met the stream's end wasn't interrupted
+-- a call that found the end of the stream wasn't interrupted
 pub ended_asks : (A : Bool → Type 0) (e : ReadError) (behind : Bool) → (is_at_end (refusal_of e) && not behind) ≡ true
     → A (is_interrupted {X = Bool} (Err e)) → A false
 ended_asks A (ReadIo kind) behind h k = k
@@ -36,7 +36,7 @@ ended_asks A (BadBand b) behind h k = k
 ended_asks A Interrupted behind h k = absurd (let x = h in cc)
 ended_asks A ReadMemory behind h k = k
 
--- an interrupt of the reader is one of the answer, and nothing else is
+-- only an interrupt of the reader is an interrupt of the response
 by_refusal : (e : ReadError) → is_interrupted {X = Bool} (Err e) ≡ is_interruption (from_reader (refusal_of e))
 by_refusal (ReadIo kind) = refl
 by_refusal (Decode x) = refl
@@ -47,12 +47,12 @@ by_refusal (BadBand b) = refl
 by_refusal Interrupted = refl
 by_refusal ReadMemory = refl
 
--- a reader that was refused
+-- the reader returned an error
 pub reader_refused : (Y : Type 0) (A : Bool → Type 0) (e : ReadError) (error : Error) → answer_refusal error ≡ from_reader (refusal_of e)
     → A (is_interrupted {X = Bool} (Err e)) → A (is_interrupted_answer {X = Y} (Err error))
 reader_refused Y A e error s k = subst A (by_refusal e ∙ ap is_interruption (sym s)) k
 
--- a line's refusal is no interrupt
+-- an error of a line is not an interrupt
 of_line : (x r : AnswerRefusal) → (is_no_memory x ≡ false → x ≡ r) → is_of_line r ≡ true → is_interruption x ≡ false
 of_line (by_reader interrupted) r h l = absurd (let e = subst (λ y. is_of_line y ≡ true) (sym (h refl)) l in cc)
 of_line (by_reader (io kind)) r h l = refl
@@ -70,7 +70,7 @@ of_line (unknown_line t) r h l = refl
 of_line (unknown_header t) r h l = refl
 of_line no_memory r h l = refl
 
--- nor is that of a header, or of an item
+-- an error of a header or an item is not an interrupt
 pub header_asks : (Y : Type 0) (A : Bool → Type 0) (text : List ℕ) (e : Error)
     → AnswersResponse (λ (h : Header). h) (read_header text) (Err e)
     → A false → A (is_interrupted_answer {X = Y} (Err e))

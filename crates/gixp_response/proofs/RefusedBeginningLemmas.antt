@@ -1,4 +1,4 @@
--- An answer under versions 0 and 1 is refused exactly where no beginning ends one.
+-- Reading a response of version 0 or 1 fails exactly if no beginning of the stream ends one.
 use Rattle.std.proofs.Common.{◌≡◌, Bool, true, false, cond, List, [], ◌∷◌, ◌++◌, Option, Some, None, refl, sym, ap, subst, ◌∙◌}
 use Rattle.gixp_packetline.specs.declared.protocol.Protocol.{Protocol}
 use Rattle.gixp_packetline.specs.declared.protocol.MessageKind.{MessageKind}
@@ -10,7 +10,7 @@ use Rattle.gixp_response.specs.Answer.{Found, refused, front}
 use Rattle.gixp_response.specs.Beginnings.{AnswerItem, line_item, stopped, Expected, ends, unless_ends, beginnings_from, v1_answer}
 use Rattle.gixp_response.specs.BeginningGrammar.{items_behind, AreStops, BeginningIsRefused}
 
--- the same after items that were read before
+-- the same, after items that were read before
 record Refusing (v : Protocol) (a : Expected) (before : List AnswerItem) (p : Pieces) (e : AnswerRefusal) : Type 0 where
   taken : List Piece
   rest : Pieces
@@ -25,7 +25,6 @@ record Refusing (v : Protocol) (a : Expected) (before : List AnswerItem) (p : Pi
 refused_parts : (e f : AnswerRefusal) → refused e ≡ refused f → e ≡ f
 refused_parts e f h = cc
 
--- it is refused here
 refused_here : (v : Protocol) (a : Expected) (before : List AnswerItem) (p : Pieces) (e : AnswerRefusal) (refusal : Refusal)
     → next_of v p ≡ refuses refusal → ends a before (next_of v p) ≡ None
     → refused (from_reader refusal) ≡ refused e → Refusing v a before p e
@@ -44,7 +43,7 @@ refused_here v a before p e refusal n none h = record {
     no_shorter [] more k = subst (λ m. ends a before (next_of v (front m p)) ≡ None) k none
     no_shorter (x ∷ xs) more k = cc
 
--- it is refused after one more piece
+-- it fails after one more packet line
 refused_further : (v : Protocol) (a : Expected) (before : List AnswerItem) (x : Piece) (p : Pieces) (e : AnswerRefusal)
     → ends a before (next_of v (with_piece x p)) ≡ None
     → Refusing v a (items_behind (x ∷ []) before) p e
@@ -81,7 +80,7 @@ refused_step : (v : Protocol) (a : Expected) (before : List AnswerItem) (p : Pie
 refused_step v a before p longer e (Some pack) i h f = cc
 refused_step v a before p longer e None i h f = f i h
 
--- a mark that stops, or one that is refused
+-- a special packet is a stop, or an error
 refused_mark : (v : Protocol) (a : Expected) (before : List AnswerItem) (kind : MessageKind) (p : Pieces) (longer : Found)
     (e : AnswerRefusal) (b : Bool) → is_stop v kind ≡ b
     → next_of v (with_piece (mark kind) p) ≡ cond b (stops kind p) (refuses unexpected_frame)
@@ -116,7 +115,7 @@ refused_from v a (mark kind ∷ ps) end before e h =
     (λ i none k. refused_further v a before (mark kind) p e none (refused_from v a ps end (stopped ∷ before) e k) (λ _. refl)
     (λ _ s. (i, s)))
 
--- where an answer is refused, no beginning ends one
+-- if reading fails, no beginning ends a response
 pub refusal_found : (v : Protocol) (a : Expected) (p : Pieces) (e : AnswerRefusal) → v1_answer v a p ≡ refused e
     → BeginningIsRefused v a p e
 refusal_found v a p e h =
@@ -145,7 +144,7 @@ mark_refused a before kind p x longer refusal false n none =
     let same : unexpected_frame ≡ refusal = cc in
     rw none (ap (λ r. refused (from_reader r)) same)
 
--- where the reader is refused and nothing ends, the answer is refused
+-- if the reader fails and nothing ends the response, reading fails
 read_here : (v : Protocol) (a : Expected) (list : List Piece) (end : Refusal) (before : List AnswerItem) (refusal : Refusal)
     → next_from v list end ≡ refuses refusal → ends a before (next_from v list end) ≡ None
     → beginnings_from v a list end before ≡ refused (from_reader refusal)
@@ -163,7 +162,7 @@ mark_passed : (a : Expected) (before : List AnswerItem) (kind : MessageKind) (p 
 mark_passed a before kind p x longer other all true i n h = rw n h
 mark_passed a before kind p x longer other all false i n h = cc
 
--- after pieces none of whose beginnings ends an answer
+-- after packet lines none of whose beginnings ends a response
 read_behind : (v : Protocol) (a : Expected) (taken : List Piece) (rest : Pieces) (before : List AnswerItem) (refusal : Refusal)
     → AreStops v taken → next_of v rest ≡ refuses refusal
     → ((shorter more : List Piece) → taken ≡ shorter ++ more → ends a (items_behind shorter before) (next_of v (front more rest)) ≡ None)
@@ -178,7 +177,7 @@ read_behind v a (mark kind ∷ ts) rest before refusal s n f =
     (beginnings_from v a (ts ++ rest.list) rest.end (stopped ∷ before)) _ _ (is_stop v kind) s.0 (f [] (mark kind ∷ ts) refl)
     (read_behind v a ts rest (stopped ∷ before) refusal s.1 n (λ shorter more k. f (mark kind ∷ shorter) more (ap (λ l. mark kind ∷ l) k)))
 
--- where no beginning ends an answer, it is refused
+-- if no beginning ends a response, reading fails
 pub refusal_read : (v : Protocol) (a : Expected) (p : Pieces) (e : AnswerRefusal) → BeginningIsRefused v a p e → v1_answer v a p ≡ refused e
 refusal_read v a p e h = ap (v1_answer v a) h.split ∙ read_behind v a h.taken h.rest [] h.refusal h.stops h.next h.unended
     ∙ ap refused (sym h.error)

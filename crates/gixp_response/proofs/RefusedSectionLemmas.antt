@@ -1,4 +1,4 @@
--- A version 2 answer is refused exactly where, after some sections, a header or an item is refused.
+-- Reading a response of version 2 fails exactly if, after some sections, an error comes in place of a header or an item.
 use Rattle.std.proofs.Common.{◌≡◌, ℕ, List, [], ◌∷◌, ◌++◌, map, Option, Some, None, Result, Ok, Err, refl, sym, ap, ◌∙◌, inl, inr}
 use Rattle.std.specs.Prelude.{◌⊎◌}
 use Rattle.gixp_packetline.specs.declared.protocol.MessageKind.{MessageKind}
@@ -13,7 +13,7 @@ use Rattle.gixp_response.specs.Sections.{read_header, read_item, opened, added, 
 use Rattle.gixp_response.specs.SectionGrammar.{SectionText, AreItems, lines_to_stop, HeaderRefused, ItemRefused, IsCut, AreRefused}
 use Rattle.gixp_response.proofs.SectionGrammarLemmas.{items_before, section_read}
 
--- ---- what is refused is read as refused
+-- ---- such an error makes reading fail
 
 header_read : (ps : List Piece) (end : Refusal) (e : AnswerRefusal) → HeaderRefused ps end e → sections_from ps end None ≡ refused e
 header_read [] end e h = ap refused (sym h)
@@ -33,7 +33,6 @@ item_read section [] end e h = ap refused (sym h)
 item_read section (line text ∷ ps) end e h = rw h refl
 item_read section (mark kind ∷ ps) end e h = stop_read kind section ps end e h
 
--- after items
 cut_items : (section : Section) (ts : List (List ℕ)) (vs : List AnswerValue) (more : List Piece) (end : Refusal) (e : AnswerRefusal)
     → AreItems section ts vs → ItemRefused section more end e
     → sections_from (map line ts ++ more) end (Some section) ≡ refused e
@@ -49,16 +48,15 @@ cut_read ps end e h =
     let head : read_header h.begun.header ≡ Ok (Of h.begun.kind) = h.is_section.0 in
     rw h.pieces (rw head (cut_items h.begun.kind h.begun.lines h.begun.items h.more end e h.is_section.1 h.cut))
 
--- after sections
 pub refused_read : (ps : List Piece) (end : Refusal) (ss : List SectionText) (e : AnswerRefusal) → AreRefused ps end ss e
     → sections_from ps end None ≡ refused e
 refused_read ps end [] e (inl h) = header_read ps end e h
 refused_read ps end [] e (inr h) = cut_read ps end e h
 refused_read ps end (s ∷ ss) e h = rw h.2 (section_read s Delimiter h.1 end h.0 ∙ ap (items_before s.items) (refused_read h.1 end ss e h.3))
 
--- ---- what is read as refused is refused
+-- ---- reading fails only by such an error
 
--- in a section: items, and then a refusal, or a delimiter and further sections
+-- in a section: items, and then an error, or a delimiter packet and further sections
 record InsideRefused (section : Section) (ps : List Piece) (end : Refusal) (e : AnswerRefusal) : Type 0 where
   lines : List (List ℕ)
   items : List AnswerValue
@@ -77,7 +75,6 @@ front_refused : (item : AnswerValue) (f : Found) (e : AnswerRefusal) → in_fron
 front_refused item (whole w p) e h = cc
 front_refused item (refused x) e h = h
 
--- one more line of a section
 inside_more : (section : Section) (t : List ℕ) (ps : List Piece) (end : Refusal) (item : AnswerValue) (e : AnswerRefusal)
     → read_item section t ≡ Ok item → InsideRefused section ps end e
     → InsideRefused section (line t ∷ ps) end e
@@ -91,7 +88,6 @@ inside_more section t ps end item e h i = record { lines = t ∷ i.lines; items 
     more (inl x) = inl (x.0, ap (λ y. line t ∷ y) x.1, x.2)
     more (inr x) = inr (x.0, x.1, ap (λ y. line t ∷ y) x.2, x.3)
 
--- with the header of the section
 with_header : (section : Section) (t : List ℕ) (ps : List Piece) (end : Refusal) (e : AnswerRefusal) → read_header t ≡ Ok (Of section)
     → InsideRefused section ps end e
     → AtRefused None (line t ∷ ps) end e
@@ -115,7 +111,6 @@ with_header section t ps end e h i = ended i.cut
       ((h, i.are), x.0, ap (λ y. line t ∷ y) x.2, x.3),
     )
 
--- by what a header opens
 header_refused : (t : List ℕ) (ps : List Piece) (end : Refusal) (e : AnswerRefusal) (o : Result Header AnswerRefusal) → read_header t ≡ o
     → opened o (record { list = ps; end = end }) (sections_from ps end) ≡ refused e
     → ((section : Section) → sections_from ps end (Some section) ≡ refused e → InsideRefused section ps end e)
@@ -124,7 +119,6 @@ header_refused t ps end e (Ok (Of section)) h k f = with_header section t ps end
 header_refused t ps end e (Ok Packfile) h k f = cc
 header_refused t ps end e (Err r) h k f = ([], inl (h ∙ ap Err (sym (same_refusal r e k))))
 
--- by what a line says
 item_refused : (section : Section) (t : List ℕ) (ps : List Piece) (end : Refusal) (e : AnswerRefusal)
     (o : Result AnswerValue AnswerRefusal) → read_item section t ≡ o
     → added o (sections_from ps end (Some section)) ≡ refused e
@@ -135,7 +129,6 @@ item_refused section t ps end e (Ok item) h k f =
 item_refused section t ps end e (Err r) h k f =
     record { lines = []; items = []; are = tt; cut = inl (line t ∷ ps, refl, h ∙ ap Err (sym (same_refusal r e k))) }
 
--- by the stop after a section
 stop_refused : (section : Section) (kind : MessageKind) (ps : List Piece) (end : Refusal) (e : AnswerRefusal)
     → closed kind (record { list = ps; end = end }) (sections_from ps end None) ≡ refused e
     → (sections_from ps end None ≡ refused e → AtRefused None ps end e)
@@ -164,7 +157,7 @@ refused_at (Some section) (line t ∷ ps) end e h =
 refused_at None (mark kind ∷ ps) end e h = ([], inl (same_refusal _ e h))
 refused_at (Some section) (mark kind ∷ ps) end e h = stop_refused section kind ps end e h (λ k. refused_at None ps end e k)
 
--- a refused answer is one of some sections and a refusal after them
+-- if reading fails, the packet lines are some sections and an error after them
 pub refused_found : (ps : List Piece) (end : Refusal) (e : AnswerRefusal) → sections_from ps end None ≡ refused e
     → (ss : List SectionText) × AreRefused ps end ss e
 refused_found ps end e h = refused_at None ps end e h

@@ -1,4 +1,4 @@
--- A version 2 answer is a list of sections, and no other one is.
+-- A response of version 2 is a list of sections, and no other list of packet lines is one.
 use Rattle.std.proofs.Common.{◌≡◌, ℕ, true, false, List, [], ◌∷◌, Option, Some, None, Result, Ok, Err, refl, sym, ap, ◌∙◌, inl, inr}
 use Rattle.std.specs.Prelude.{◌⊎◌}
 use Rattle.gixp_packetline.specs.declared.protocol.MessageKind.{MessageKind}
@@ -12,7 +12,7 @@ use Rattle.gixp_response.specs.Answer.{AnswerValue, no_more, both, Found, whole,
 use Rattle.gixp_response.specs.Sections.{read_header, read_item, opened, added, closed, sections_from}
 use Rattle.gixp_response.specs.SectionGrammar.{SectionText, AreItems, IsSection, lines_to_stop, section_text, Last, pack_behind, flushed, AreSections, said_before, said_by}
 
--- items in front of what is found
+-- items before those of a response
 abbrev pub items_before : List AnswerValue → Found → Found
 items_before vs (whole w rest) = whole (said_before vs w) rest
 items_before vs (refused e) = refused e
@@ -45,7 +45,7 @@ section_read s stop rest end h =
     let head : read_header s.header ≡ Ok (Of s.kind) = h.0 in
     rw head (items_read s.kind s.lines s.items stop rest end h.1)
 
--- sections are read as what they say
+-- the sections are read as their items
 pub sections_read : (ps : List Piece) (ss : List SectionText) (last : Last) (rest : List Piece) (end : Refusal)
     → AreSections ps ss last rest
     → sections_from ps end None ≡ whole (said_by ss last) (record { list = rest; end = end })
@@ -56,12 +56,12 @@ sections_read ps [] (flushed s) rest end h = rw h.1 (section_read s Flush rest e
 sections_read ps (s ∷ ss) last rest end h =
     rw h.2 (section_read s Delimiter h.1 end h.0 ∙ ap (items_before s.items) (sections_read h.1 ss last rest end h.3))
 
--- what some pieces in a section are, if an answer ends in them
+-- the packet lines in a section, if a response ends in them
 record Inside (kind : Section) (ps : List Piece) (v : AnswerValue) (rest : List Piece) : Type 0 where
   lines : List (List ℕ)
   items : List AnswerValue
   are : AreItems kind lines items
-  -- a flush ends it, or a delimiter and further sections
+  -- a flush packet ends it, or a delimiter packet and further sections follow
   ends : ((ps ≡ lines_to_stop lines Flush rest) × (v ≡ said_before items (no_more false)))
       ⊎ ((more : List Piece) × (ss : List SectionText) × (last : Last) × (ps ≡ lines_to_stop lines Delimiter more)
       × AreSections more ss last rest × (v ≡ said_before items (said_by ss last)))
@@ -72,7 +72,7 @@ record Sections (ps : List Piece) (v : AnswerValue) (rest : List Piece) : Type 0
   are : AreSections ps before last rest
   value : v ≡ said_by before last
 
--- what is found at a header, or in a section
+-- the packet lines at a header, or in a section
 abbrev At : Option Section → List Piece → AnswerValue → List Piece → Type 0
 At None ps v rest = Sections ps v rest
 At (Some kind) ps v rest = Inside kind ps v rest
@@ -80,13 +80,12 @@ At (Some kind) ps v rest = Inside kind ps v rest
 whole_value : (v w : AnswerValue) (p q : Pieces) → whole v p ≡ whole w q → (v ≡ w) × (p ≡ q)
 whole_value v w p q h = (cc, cc)
 
--- what is found after an item
+-- the response after an item
 front_found : (item : AnswerValue) (f : Found) (v : AnswerValue) (q : Pieces) → in_front item f ≡ whole v q → (w : AnswerValue)
     × (f ≡ whole w q) × (v ≡ both w.pack item w)
 front_found item (whole w p) v q h = let e = whole_value (both w.pack item w) v p q h in (w, ap (whole w) e.1, sym e.0)
 front_found item (refused e) v q h = cc
 
--- a line of a section
 inside_line : (kind : Section) (t : List ℕ) (ps rest : List Piece) (item v w : AnswerValue) → read_item kind t ≡ Ok item
     → v ≡ both w.pack item w → Inside kind ps w rest → Inside kind (line t ∷ ps) v rest
 inside_line kind t ps rest item v w e is i = record {
@@ -105,7 +104,6 @@ inside_line kind t ps rest item v w e is i = record {
     ended (inl x) = inl (ap (λ y. line t ∷ y) x.0, is ∙ ap (λ (y : AnswerValue). both y.pack item y) x.1)
     ended (inr x) = inr (x.0, x.1, x.2, ap (λ y. line t ∷ y) x.3, x.4, is ∙ ap (λ (y : AnswerValue). both y.pack item y) x.5)
 
--- the header of a section
 inside_header : (kind : Section) (t : List ℕ) (ps rest : List Piece) (v : AnswerValue) → read_header t ≡ Ok (Of kind)
     → Inside kind ps v rest → Sections (line t ∷ ps) v rest
 inside_header kind t ps rest v e i = ended i.ends
@@ -130,7 +128,6 @@ inside_header kind t ps rest v e i = ended i.ends
       value = x.5;
     }
 
--- by what a header opens
 header_found : (t : List ℕ) (ps : List Piece) (end : Refusal) (v : AnswerValue) (q : Pieces) (o : Result Header AnswerRefusal)
     → read_header t ≡ o
     → opened o (record { list = ps; end = end }) (sections_from ps end) ≡ whole v q
@@ -145,7 +142,6 @@ header_found t ps end v q (Ok Packfile) e h f =
     )
 header_found t ps end v q (Err r) e h f = cc
 
--- by what a line says
 item_found : (kind : Section) (t : List ℕ) (ps : List Piece) (end : Refusal) (v : AnswerValue) (q : Pieces)
     (o : Result AnswerValue AnswerRefusal) → read_item kind t ≡ o
     → added o (sections_from ps end (Some kind)) ≡ whole v q
@@ -157,7 +153,6 @@ item_found kind t ps end v q (Ok item) e h f =
     (inside_line kind t ps q.list item v x.0 e x.2 i.0, i.1)
 item_found kind t ps end v q (Err r) e h f = cc
 
--- by the stop after a section
 stop_found : (kind : Section) (k : MessageKind) (ps : List Piece) (end : Refusal) (v : AnswerValue) (q : Pieces)
     → closed k (record { list = ps; end = end }) (sections_from ps end None) ≡ whole v q
     → (sections_from ps end None ≡ whole v q → Sections ps v q.list × (q.end ≡ end))
@@ -184,7 +179,7 @@ found_at (Some kind) (line t ∷ ps) end v q h =
 found_at None (mark k ∷ ps) end v q h = cc
 found_at (Some kind) (mark k ∷ ps) end v q h = stop_found kind k ps end v q h (λ e. found_at None ps end v q e)
 
--- an answer that is found is a list of sections
+-- a response that is read is a list of sections
 pub sections_found : (ps : List Piece) (end : Refusal) (v : AnswerValue) (q : Pieces) → sections_from ps end None ≡ whole v q
     → (ss : List SectionText) × (last : Last) × AreSections ps ss last q.list × (q.end ≡ end) × (v ≡ said_by ss last)
 sections_found ps end v q h = let x = found_at None ps end v q h in (x.0.before, x.0.last, x.0.are, x.1, x.0.value)

@@ -1,4 +1,4 @@
--- How a version 2 answer is read piece by piece.
+-- How a response of version 2 is read, one packet line after the other.
 use Rattle.std.proofs.Common.{◌≡◌, ℕ, Bool, true, false, cond, List, [], ◌∷◌, ◌++◌, Option, Some, None, Result, Ok, Err, refl, sym, ap, subst, ◌∙◌, append_assoc, append-nil}
 use Rattle.std.specs.declared.io.ErrorKind.TheVariants.{UnexpectedEof}
 use Rattle.std.specs.Str.{is_utf8}
@@ -22,11 +22,11 @@ use Rattle.gixp_response.specs.AnswerLine.{trimmed}
 use Rattle.gixp_response.specs.AnswerReading.{stop_behind, Adds, Going, IsRunning, EndsAt, ReadsAnswer, AnswerFails}
 use Rattle.gixp_response.proofs.AnswerRunLemmas.{going-start, going-turn, going-line, going-stop, going-reset, going-whole, going-refused, going-memory, going-fails, stop_taken, last_line, last_mark}
 
--- what is left behind these items, in this section or where a header is due
+-- the rest of the response after these items, in this section or at a header
 abbrev pub left_of : AnswerValue → Option Section → Pieces → Found
 left_of had at q = in_front had (sections_from q.list q.end at)
 
--- an answer of sections is being read
+-- a response of version 2 is being read
 pub record Within (had : AnswerValue) (at : Option Section) (old now : Reading) : Type 0 where
   pub taken : List Piece
   pub going : Going v2_answer (left_of had at) taken old now
@@ -37,7 +37,7 @@ none_had : (f : Found) → f ≡ in_front (no_more false) f
 none_had (whole v rest) = refl
 none_had (refused e) = refl
 
--- at first nothing is said
+-- at first nothing was read
 pub within-start : (old now : Reading) → now ≡ reset_to V2 old → Within (no_more false) None old now
 within-start old now e =
     let all = going-start v2_answer V2 old now e in
@@ -49,7 +49,7 @@ within-start old now e =
       no_pack = refl;
     }
 
--- a header opens its section
+-- a header begins a section
 pub within-header : (had : AnswerValue) (s : Section) (old mid new : Reading) → Within had None old mid → TakesLine mid new
     → read_header new.line ≡ Ok (Of s)
     → Within had (Some s) old new
@@ -62,7 +62,7 @@ within-header had s old mid new h t is =
       no_pack = h.no_pack;
     }
 
--- a header in front of the pack
+-- the header of the pack
 pub within-pack : (had : AnswerValue) (old mid new : Reading) → Within had None old mid → TakesLine mid new
     → read_header new.line ≡ Ok Packfile
     → ReadsAnswer v2_answer V2 old new (record had { pack = true })
@@ -75,7 +75,6 @@ both_assoc : (a b : AnswerValue) (f : Found) → in_front a (in_front b f) ≡ i
 both_assoc a b (whole v rest) = simp append_assoc refl
 both_assoc a b (refused e) = refl
 
--- an item of a section
 pub within-item : (had more : AnswerValue) (s : Section) (old mid new : Reading) (item : AnswerValue) → Within had (Some s) old mid
     → TakesLine mid new
     → read_item s new.line ≡ Ok item → more ≡ both had.pack had item → Within more (Some s) old new
@@ -89,14 +88,13 @@ within-item had more s old mid new item h t is m =
       no_pack = rw m h.no_pack;
     }
 
--- the item that was added
 pub within-adds : (had more : AnswerValue) (s : Section) (old mid new : Reading) (o : Result AnswerValue AnswerRefusal)
     → Within had (Some s) old mid → TakesLine mid new
     → read_item s new.line ≡ o → Adds o had more (Ok tt) → Within more (Some s) old new
 within-adds had more s old mid new (Ok item) h t is a = within-item had more s old mid new item h t is a
 within-adds had more s old mid new (Err r) h t is a = absurd a
 
--- a kind that isn't a flush and at which a reader stops goes on
+-- a stop that is not a flush packet is followed by a header
 closed_is : (kind : MessageKind) (rest : Pieces) (later : Found) → is_stop V2 kind ≡ true → is_flush (Some kind) ≡ false
     → closed kind rest later ≡ later
 closed_is Flush rest later s f = cc
@@ -111,7 +109,7 @@ flushed_is Delimiter rest later f = cc
 flushed_is ResponseEnd rest later f = cc
 flushed_is Text rest later f = cc
 
--- after a section that a delimiter ends a header is due
+-- after a section with a delimiter packet comes a header
 pub within-delimiter : (had : AnswerValue) (s : Section) (old mid new last : Reading) → Within had (Some s) old mid → AtStop mid new
     → is_flush new.stopped ≡ false → last ≡ reset_to V2 new
     → Within had None old last
@@ -132,7 +130,7 @@ flush_is : (at : Option MessageKind) → is_flush at ≡ true → at ≡ Some Fl
 flush_is (Some Flush) h = refl
 flush_is _ h = cc
 
--- a section that a flush ends is the last
+-- a section with a flush packet is the last
 pub within-flush : (had : AnswerValue) (s : Section) (old mid new : Reading) → Within had (Some s) old mid → AtStop mid new
     → is_flush new.stopped ≡ true
     → ReadsAnswer v2_answer V2 old new had
@@ -145,7 +143,7 @@ within-flush had s old mid new h a f =
     (subst (λ b. new.stopped ≡ stop_behind b (h.taken ++ mark t.0 ∷ [])) (sym h.no_pack) (last_mark h.taken t.0 new.stopped t.1.stopped))
     (λ q. ap (in_front had) (flushed_is t.0 q (sections_from q.list q.end None) flush) ∙ ap (λ v. whole v q) (had_all had h.no_pack))
 
--- a stop where a header is due
+-- a stop in place of a header
 pub within-no_header : (plain : Bool) (had : AnswerValue) (old mid new : Reading) → Within had None old mid → AtStop mid new
     → AnswerFails v2_answer plain old new (Io UnexpectedEof)
 within-no_header plain had old mid new h a =
@@ -170,7 +168,7 @@ of_item false o text r h = let e : by_reader not_utf8 ≡ r = cc in subst (λ x.
 memory_is : (r : AnswerRefusal) (e : Error) → e ≡ Memory → IsAnswerRefusal e r
 memory_is r e h = subst (λ k. IsAnswerRefusal k r) (sym h) (λ n. cc)
 
--- a line that is no header
+-- a line that is not a header
 pub within-bad_header : (plain : Bool) (had : AnswerValue) (old mid new : Reading) (o : Result Header AnswerRefusal) (e : Error)
     → Within had None old mid → TakesLine mid new
     → read_header new.line ≡ o → AnswersResponse (λ (x : Header). x) o (Err e) → AnswerFails v2_answer plain old new e
@@ -182,7 +180,7 @@ within-bad_header plain had old mid new (Err r) e h t is a =
     let l : is_of_line r ≡ true = of_header (is_utf8 new.line) (header_of (trimmed new.line)) new.line r is in
     going-refused plain v2_answer _ _ old new r e all.0 (last_line h.taken new.line new.stopped all.1.stopped) (λ q. rw is refl) l a
 
--- a line that is no item of its section, or for which an allocation failed
+-- a line that is not an item of its section, or an allocation failed for it
 pub within-bad_item : (plain : Bool) (had more : AnswerValue) (s : Section) (old mid new : Reading)
     (o : Result AnswerValue AnswerRefusal) (e : Error) → Within had (Some s) old mid → TakesLine mid new
     → read_item s new.line ≡ o → Adds o had more (Err e) → AnswerFails v2_answer plain old new e
@@ -207,7 +205,7 @@ refuses_section Delimiter p later e h = cc
 refuses_section ResponseEnd p later e h = let s : unexpected_frame ≡ e = cc in rw (← s) refl
 refuses_section Text p later e h = let s : unexpected_frame ≡ e = cc in rw (← s) refl
 
--- what the reader refuses next, the answer is refused for
+-- an error of the reader is one of the response
 sections_refused : (at : Option Section) (list : List Piece) (end e : Refusal) → next_from V2 list end ≡ refuses e
     → sections_from list end at ≡ refused (from_reader e)
 sections_refused None [] end e h = let s : end ≡ e = cc in rw (← s) refl
@@ -217,7 +215,7 @@ sections_refused (Some s) (line t ∷ ps) end e h = cc
 sections_refused None (mark kind ∷ ps) end e h = refuses_header (is_stop V2 kind) kind (record { list = ps; end = end }) e h
 sections_refused (Some s) (mark kind ∷ ps) end e h = refuses_section kind (record { list = ps; end = end }) (sections_from ps end None) e h
 
--- the reader's refusal, or what came from outside
+-- an error of the reader, or an I/O error, an interrupt or an allocation failure
 pub within-fails : (plain : Bool) (had : AnswerValue) (at : Option Section) (old mid new : Reading) (r : ReadError) (e : Error)
     → Within had at old mid → Fails mid new (refusal_of r)
     → (plain ≡ true → IsPlain new (refusal_of r)) → answer_refusal e ≡ from_reader (refusal_of r) → AnswerFails v2_answer plain old new e
@@ -225,7 +223,7 @@ within-fails plain had at old mid new r e h f p is =
     going-fails plain v2_answer (left_of had at) V2 h.taken old mid new r e h.going h.running
     (λ q n. ap (in_front had) (sections_refused at q.list q.end (refusal_of r) n)) f p is
 
--- the header that was read is the definition's
+-- the header that was read is the one of the definition
 pub header_is : (o : Result Header AnswerRefusal) (h : Header) → AnswersResponse (λ (x : Header). x) o (Ok h) → o ≡ Ok h
 header_is (Ok x) h a = ap Ok (sym a)
 header_is (Err r) h a = absurd a

@@ -1,5 +1,5 @@
--- What an answer to a fetch says, and what is found in the pieces of a stream (gitprotocol-v2, "fetch"; gitprotocol-pack, "Packfile
--- Negotiation").
+-- The response to a fetch request, and the response that the packet lines of a stream have (gitprotocol-v2, "fetch";
+-- gitprotocol-pack, "Packfile Negotiation").
 use Rattle.std.specs.Prelude.{Bool, true, false, List, [], ◌∷◌, ◌++◌, Option, Some, None}
 use Rattle.std.specs.Prelude.{Vec}
 use Rattle.std.specs.declared.alloc.Global.{Global}
@@ -14,10 +14,10 @@ pub record AnswerValue : Type 0 where
   pub acknowledgements : List Acknowledgement
   pub shallow_updates : List ShallowUpdate
   pub wanted_refs : List WantedValue
-  -- whether a pack begins after it
+  -- whether a pack follows
   pub pack : Bool
 
--- an answer that says no more than whether a pack comes
+-- a response without items; it only says whether a pack follows
 abbrev pub no_more : Bool → AnswerValue
 no_more pack = record { acknowledgements = []; shallow_updates = []; wanted_refs = []; pack = pack }
 
@@ -30,7 +30,7 @@ of_update u = record { acknowledgements = []; shallow_updates = u ∷ []; wanted
 abbrev pub of_wanted : WantedValue → AnswerValue
 of_wanted w = record { acknowledgements = []; shallow_updates = []; wanted_refs = w ∷ []; pack = false }
 
--- the items of both, each kind in order; whether a pack comes is said by the one that is given
+-- the items of both responses, each kind in order; the flag says whether a pack follows
 abbrev pub both : Bool → AnswerValue → AnswerValue → AnswerValue
 both pack a b = record {
   acknowledgements = a.acknowledgements ++ b.acknowledgements;
@@ -39,26 +39,26 @@ both pack a b = record {
   pack = pack;
 }
 
--- the updates that come with a handshake, if any
+-- the shallow updates that came with a handshake, if any
 abbrev pub update_items : Option (Vec ShallowUpdate Global) → List ShallowUpdate
 update_items None = []
 update_items (Some updates) = updates.items
 
--- what is found in some pieces: a whole answer with the pieces after it, or a refusal
+-- the result of reading: a whole response with the packet lines after it, or an error
 pub data Found : Type 0 where
   whole : AnswerValue → Pieces → Found
   refused : AnswerRefusal → Found
 
--- these items in front of an answer's
+-- these items before those of the response
 abbrev pub in_front : AnswerValue → Found → Found
 in_front had (whole v rest) = whole (both v.pack had v) rest
 in_front had (refused e) = refused e
 
--- these pieces in front of the others
+-- these packet lines before the others
 abbrev pub front : List Piece → Pieces → Pieces
 front taken rest = record { list = taken ++ rest.list; end = rest.end }
 
--- the refusals that a line, or a stop in its place, brings
+-- the errors that a line causes, or a stop in place of a line
 abbrev pub is_of_line : AnswerRefusal → Bool
 is_of_line (io_failed UnexpectedEof) = true
 is_of_line (unknown_line line) = true

@@ -1,5 +1,5 @@
--- What the lines of an answer to a fetch stand for (gitprotocol-v2, "fetch", for the sections' lines; gitprotocol-pack, "Packfile
--- Negotiation").
+-- The meaning of the lines of a response to a fetch request (gitprotocol-v2, "fetch", for the lines of sections;
+-- gitprotocol-pack, "Packfile Negotiation").
 use Rattle.std.specs.Prelude.{ℕ, ◌==◌, Bool, true, false, if◌then◌else◌, List, [], ◌∷◌, length, take, drop, codes, Option, Some, None}
 use Rattle.std.specs.Option.{option_map}
 use Rattle.std.specs.Char.{is_whitespace}
@@ -23,30 +23,28 @@ pub record WantedValue : Type 0 where
 abbrev pub wanted_value : WantedRef → WantedValue
 wanted_value w = record { id = w.id.bytes; path = bstring_bytes w.path }
 
--- an id of these bytes
 abbrev pub id_from : List ℕ → ObjectId
 id_from bytes = record { bytes = bytes }
 
--- the id of a common commit
 abbrev pub common_id : Acknowledgement → Option ObjectId
 common_id (Common id) = Some id
 common_id _ = None
 
--- what comes after a beginning
+-- the text after this word, if the text begins with it
 abbrev pub behind : List ℕ → List ℕ → Option (List ℕ)
 behind word text = if is_text (take (length word) text) word then Some (drop (length word) text) else None
 
--- nothing, or a blank and anything
+-- nothing follows, or a blank and any text
 abbrev pub ends_word : Option (List ℕ) → Bool
 ends_word None = false
 ends_word (Some []) = true
 ends_word (Some (c ∷ cs)) = c == 32
 
--- the word alone, or in front of a blank and anything
+-- the text is the word, or the word followed by a blank and any text
 abbrev pub is_word : List ℕ → List ℕ → Bool
 is_word word text = ends_word (behind word text)
 
--- an id alone or `common` is in common, one with `ready` says no more than that
+-- an id alone or with `common` is a common commit; an id with `ready` means only `ready`
 abbrev pub described : Option (List ℕ) → List ℕ → Option Acknowledgement
 described None tail = None
 described (Some bytes) tail =
@@ -55,7 +53,7 @@ described (Some bytes) tail =
     else if is_text tail (codes " ready") then Some Ready
     else None
 
--- 40 digits, and what is said of that id
+-- the 40 hexadecimal digits of an id, and its status
 abbrev pub acknowledged : Option (List ℕ) → Option Acknowledgement
 acknowledged None = None
 acknowledged (Some rest) = described (id_of (take 40 rest)) (drop 40 rest)

@@ -1,5 +1,4 @@
--- An answer under versions 0 and 1 as a relation: a beginning that ends one, and no shorter one does (gitprotocol-pack, "Packfile
--- Negotiation").
+-- Responses of versions 0 and 1 as a relation: the shortest beginning that is a response (gitprotocol-pack, "Packfile Negotiation").
 use Rattle.std.specs.Prelude.{◌≡◌, ⊤, Bool, true, List, [], ◌∷◌, ◌++◌, Option, Some, None}
 use Rattle.gixp_packetline.specs.declared.protocol.Protocol.{Protocol}
 use Rattle.gixp_packetline.specs.Items.{is_stop}
@@ -9,23 +8,23 @@ use Rattle.gixp_response.specs.ResponseError.{AnswerRefusal, from_reader}
 use Rattle.gixp_response.specs.Answer.{AnswerValue, front}
 use Rattle.gixp_response.specs.Beginnings.{AnswerItem, line_item, stopped, Expected, ends, said_in}
 
--- the items of a beginning after those before it, the last one first
+-- the items of these packet lines after the items before them, the last one first
 abbrev pub items_behind : List Piece → List AnswerItem → List AnswerItem
 items_behind [] before = before
 items_behind (line text ∷ ps) before = items_behind ps (line_item text ∷ before)
 items_behind (mark kind ∷ ps) before = items_behind ps (stopped ∷ before)
 
--- whether an answer ends after these pieces, in front of those, and then whether a pack follows it
+-- whether a response ends after the packet lines `taken`, and if so, whether a pack follows
 abbrev pub ends_behind : Protocol → Expected → List Piece → Pieces → Option Bool
 ends_behind version a taken rest = ends a (items_behind taken []) (next_of version rest)
 
--- each mark among these pieces is a stop
+-- each special packet among these packet lines is a stop
 abbrev pub AreStops : Protocol → List Piece → Type 0
 AreStops version [] = ⊤
 AreStops version (line text ∷ ps) = AreStops version ps
 AreStops version (mark kind ∷ ps) = (is_stop version kind ≡ true) × AreStops version ps
 
--- a beginning that ends an answer, what it says, and that none of its own beginnings ends one
+-- these packet lines begin with a response, and no shorter beginning is one
 pub record IsShortest (version : Protocol) (a : Expected) (p : Pieces) (value : AnswerValue) (rest : Pieces) : Type 0 where
   pub taken : List Piece
   pub pack : Bool
@@ -36,7 +35,7 @@ pub record IsShortest (version : Protocol) (a : Expected) (p : Pieces) (value : 
   pub shortest : (shorter : List Piece) (next : Piece) (more : List Piece) → taken ≡ shorter ++ next ∷ more
       → ends_behind version a shorter (front (next ∷ more) rest) ≡ None
 
--- no beginning ends an answer, and what comes after the longest one is refused
+-- no beginning is a response, and an error comes after the longest one
 pub record BeginningIsRefused (version : Protocol) (a : Expected) (p : Pieces) (e : AnswerRefusal) : Type 0 where
   pub taken : List Piece
   pub rest : Pieces

@@ -1,5 +1,5 @@
--- An answer under versions 0 and 1: the shortest beginning of what is to come that is one (gitprotocol-pack, "Packfile Negotiation";
--- where it ends is this project's own rule).
+-- Responses of versions 0 and 1: the shortest beginning of the stream that is a response (gitprotocol-pack, "Packfile
+-- Negotiation"; where it ends is this project's own rule).
 use Rattle.std.specs.Prelude.{ℕ, Bool, true, false, not, ◌&&◌, if◌then◌else◌, List, [], ◌∷◌, ◌++◌, Option, Some, None}
 use Rattle.std.specs.List.{list_any}
 use Rattle.std.specs.Str.{is_utf8}
@@ -18,7 +18,7 @@ use Rattle.gixp_shallow.specs.declared.update.ShallowUpdate.{ShallowUpdate}
 use Rattle.gixp_response.specs.declared.fetch.response.beginnings.Said.{Said}
 use Rattle.gixp_response.specs.declared.fetch.response.beginnings.Said.TheVariants.{Acknowledgement as SaidAcknowledgement, ShallowUpdate as SaidUpdate}
 
--- what stands in an answer: an acknowledgement, a shallow update, another line, or a stop
+-- an item of a response: an acknowledgement, a shallow update, another line, or a stop
 pub data AnswerItem : Type 0 where
   acknowledged : Acknowledgement → AnswerItem
   updated : ShallowUpdate → AnswerItem
@@ -33,7 +33,7 @@ abbrev pub item_by : Option Acknowledgement → Option ShallowUpdate → AnswerI
 item_by (Some a) u = acknowledged a
 item_by None u = update_or_other u
 
--- a line that isn't text is another line
+-- a line that isn't UTF-8 is another line
 abbrev pub line_item : List ℕ → AnswerItem
 line_item text = if is_utf8 text then item_by (acknowledgement_line text) (shallow_update_line text) else other
 
@@ -53,12 +53,12 @@ abbrev pub is_other : AnswerItem → Bool
 is_other other = true
 is_other _ = false
 
--- whether a refusal is the stream's end
+-- whether an error is the end of the stream
 abbrev pub is_at_end : Refusal → Bool
 is_at_end (io UnexpectedEof) = true
 is_at_end _ = false
 
--- a beginning is given from its last item on
+-- whether the last item passes the test; lists of items have the last one first
 abbrev pub last_is : (AnswerItem → Bool) → List AnswerItem → Bool
 last_is p [] = false
 last_is p (i ∷ before) = p i
@@ -67,13 +67,13 @@ abbrev pub last_two_are : (AnswerItem → Bool) → List AnswerItem → Bool
 last_two_are p [] = false
 last_two_are p (i ∷ before) = p i && last_is p before
 
--- what a line that was read is
+-- the item of a line that the code has read
 abbrev pub item_said : Option Said → AnswerItem
 item_said (Some (SaidAcknowledgement a)) = acknowledged a
 item_said (Some (SaidUpdate u)) = updated u
 item_said None = other
 
--- what the client said: whether it expects a pack, and whether it wants to negotiate
+-- what the client expects: whether a pack follows, and whether it wants to negotiate
 pub record Expected : Type 0 where
   pub expects_pack : Bool
   pub negotiates : Bool
@@ -81,17 +81,17 @@ pub record Expected : Type 0 where
 abbrev pub expected : Bool → Bool → Expected
 expected expects_pack negotiates = record { expects_pack = expects_pack; negotiates = negotiates }
 
--- the last item says that nothing is in common, and the client wants to go on about that
+-- the last item is a `NAK`, and the client wants to negotiate; a client that expects a pack goes on if a `ready` came before
 abbrev pub ends_by_nak : Expected → List AnswerItem → Bool
 ends_by_nak a before = (last_is is_nak before && a.negotiates) && not (a.expects_pack && list_any is_ready before)
 
--- the next item is another line, which begins the pack, or the stream ends and not after a stop
+-- a response ends before another line, which begins the pack, and at the end of the stream, unless a stop comes right before that
 abbrev pub ends_before : List AnswerItem → Next → Option Bool
 ends_before before (gives text rest) = if is_other (line_item text) then Some true else None
 ends_before before (refuses e) = if is_at_end e && not (last_is is_stopped before) then Some false else None
 ends_before before (stops kind rest) = None
 
--- whether an answer ends after a beginning, and then whether a pack follows it
+-- whether a response ends after these items, and if so, whether a pack follows
 abbrev pub ends : Expected → List AnswerItem → Next → Option Bool
 ends a before next =
     if ends_by_nak a before then Some false
@@ -102,12 +102,12 @@ abbrev pub is_common : Acknowledgement → Bool
 is_common (Common id) = true
 is_common _ = false
 
--- whether both name one commit as common
+-- whether both name the same commit as common
 abbrev pub is_same_common : Acknowledgement → Acknowledgement → Bool
 is_same_common (Common a) (Common b) = is_text a.bytes b.bytes
 is_same_common _ _ = false
 
--- a commit that is common already isn't named again
+-- a commit that is already named as common isn't added again
 abbrev pub with_acknowledgement : List Acknowledgement → Acknowledgement → List Acknowledgement
 with_acknowledgement had a = if list_any (λ x. is_same_common x a) had then had else had ++ a ∷ []
 
@@ -121,23 +121,23 @@ updates_in [] = []
 updates_in (updated u ∷ before) = updates_in before ++ u ∷ []
 updates_in (_ ∷ before) = updates_in before
 
--- what a beginning says
+-- the response that these items make
 abbrev pub said_in : List AnswerItem → Bool → AnswerValue
 said_in before pack =
     record { acknowledgements = acknowledgements_in before; shallow_updates = updates_in before; wanted_refs = []; pack = pack }
 
--- one more item after those of an answer
+-- the response with one more item
 abbrev pub said_with : AnswerValue → AnswerItem → AnswerValue
 said_with had (acknowledged a) = record had { acknowledgements = with_acknowledgement had.acknowledgements a }
 said_with had (updated u) = record had { shallow_updates = had.shallow_updates ++ u ∷ [] }
 said_with had _ = had
 
--- the answer is a beginning that ends one, else what is found by longer ones
+-- the response ends here, or further on
 abbrev pub unless_ends : Option Bool → List AnswerItem → Pieces → Found → Found
 unless_ends (Some pack) before rest longer = whole (said_in before pack) rest
 unless_ends None before rest longer = longer
 
--- the answer by the shortest beginning that is this one or longer, and what is to come after this one
+-- the response that ends after the items `before` or further on; the others are the packet lines to come
 abbrev pub beginnings_from : Protocol → Expected → List Piece → Refusal → List AnswerItem → Found
 beginnings_from version a [] end before =
     unless_ends (ends a before (refuses end)) before (no_pieces end) (refused (from_reader end))
@@ -151,6 +151,6 @@ beginnings_from version a (mark kind ∷ ps) end before =
     else unless_ends (ends a before (refuses unexpected_frame)) before (record { list = mark kind ∷ ps; end = end })
     (refused (by_reader unexpected_frame))
 
--- the answer by the shortest beginning of some pieces
+-- the response by the shortest beginning
 abbrev pub v1_answer : Protocol → Expected → Pieces → Found
 v1_answer version a p = beginnings_from version a p.list p.end []

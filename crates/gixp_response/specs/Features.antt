@@ -1,5 +1,5 @@
--- The features without which answers under versions 0 and 1 aren't read (gitprotocol-capabilities, "multi_ack_detailed", "side-band,
--- side-band-64k").
+-- The features without which responses of versions 0 and 1 can't be read (gitprotocol-capabilities,
+-- "multi_ack_detailed", "side-band, side-band-64k").
 use Rattle.std.specs.Prelude.{◌≡◌, ℕ, ⊤, Bool, ◌||◌, if◌then◌else◌, List, map, codes, Option, Some, None, Result, Ok, Err}
 use Rattle.std.specs.Borrow.{Bor}
 use Rattle.std.specs.List.{list_any}
@@ -11,22 +11,21 @@ use Rattle.gixp_capabilities.specs.Capabilities.{is_text}
 use Rattle.gixp_response.specs.ResponseError.{answer_refusal, missing_capability}
 use Rattle.gixp_response.specs.declared.fetch.response.error.Error.{Error}
 
--- a feature: its name, and its value where it has one
+-- a feature: its name, and its value if it has one
 abbrev pub Feature : Type 0
 Feature = Bor (List ℕ) × Option (String Global)
 
 abbrev pub feature_name : Feature → List ℕ
 feature_name f = f.0.now
 
--- their names, which alone count
 abbrev pub feature_names : List Feature → List (List ℕ)
 feature_names features = map feature_name features
 
--- whether this name is among some
+-- whether one of the names is this one
 abbrev pub has_name : List ℕ → List (List ℕ) → Bool
 has_name name names = list_any (λ n. is_text n name) names
 
--- the first that is missing: an acknowledgement of each commit, and bands for the pack
+-- the first feature that is missing: `multi_ack_detailed`, or one of the two sideband features
 abbrev pub first_missing : List (List ℕ) → Option (List ℕ)
 first_missing names =
     if has_name (codes "multi_ack_detailed") names
@@ -34,7 +33,7 @@ first_missing names =
     else Some (codes "side-band OR side-band-64k"))
     else Some (codes "multi_ack_detailed")
 
--- version 2 needs none
+-- version 2 needs no feature
 abbrev pub missing_name : Protocol → List (List ℕ) → Option (List ℕ)
 missing_name V2 names = None
 missing_name _ names = first_missing names
@@ -42,7 +41,7 @@ missing_name _ names = first_missing names
 abbrev pub missing_feature : Protocol → List Feature → Option (List ℕ)
 missing_feature version features = missing_name version (feature_names features)
 
--- nothing is missing, or the first that is
+-- no feature is missing, or the error names the first one
 abbrev pub Misses : Option (List ℕ) → Result Unit Error → Type 0
 Misses None (Ok x) = ⊤
 Misses None (Err e) = ⊥

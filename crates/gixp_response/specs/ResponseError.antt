@@ -1,5 +1,4 @@
--- Why there is no answer to a fetch, and how errors of lines are compared (gitprotocol-v2, "fetch"; gitprotocol-pack, "Packfile
--- Negotiation").
+-- Why reading a response fails, and how contracts compare errors (gitprotocol-v2, "fetch"; gitprotocol-pack, "Packfile Negotiation").
 use Rattle.std.specs.Prelude.{◌≡◌, ℕ, Bool, true, false, List, codes, Option, Some, None, Result, Ok, Err, string_bytes}
 use Rattle.std.specs.declared.io.ErrorKind.{ErrorKind}
 use Rattle.bstr.specs.Owned.{bstring_bytes}
@@ -13,12 +12,12 @@ use Rattle.gixp_response.specs.declared.fetch.response.error.Error.TheVariants.{
 use Rattle.gixp_response.specs.declared.fetch.response.error.RequiredFeature.{RequiredFeature}
 use Rattle.gixp_response.specs.declared.fetch.response.error.RequiredFeature.TheVariants.{MultiAckDetailed, SideBand}
 
--- the name of a feature that answers need
+-- the name of a feature that a response needs
 abbrev pub required_text : RequiredFeature → List ℕ
 required_text MultiAckDetailed = codes "multi_ack_detailed"
 required_text SideBand = codes "side-band OR side-band-64k"
 
--- a refusal, as it is compared
+-- an error, as contracts compare it
 pub data AnswerRefusal : Type 0 where
   io_failed : ErrorKind → AnswerRefusal
   upload_pack : List ℕ → AnswerRefusal
@@ -29,7 +28,7 @@ pub data AnswerRefusal : Type 0 where
   by_reader : Refusal → AnswerRefusal
   no_memory : AnswerRefusal
 
--- the refusal that an error is
+-- an error, as contracts compare it
 abbrev pub answer_refusal : Error → AnswerRefusal
 answer_refusal (Io kind) = io_failed kind
 answer_refusal (UploadPack message) = upload_pack (bstring_bytes message)
@@ -40,62 +39,62 @@ answer_refusal (UnknownSectionHeader header) = unknown_header (string_bytes head
 answer_refusal (Reader e) = by_reader (refusal_of e)
 answer_refusal Memory = no_memory
 
--- whether it may pass when the same is tried again: where a read failed, or a call that speaks to a server as one over a network does
+-- whether a retry may succeed: an I/O error of a lost connection, in a read or in a call to the server
 abbrev pub is_spurious_answer : Error → Bool
 is_spurious_answer (Io kind) = is_spurious_kind kind
 is_spurious_answer (Transport e) = is_spurious_client e
 is_spurious_answer _ = false
 
--- whether a refusal is an interrupt of the reader
+-- whether an error is an interrupt of the reader
 abbrev pub is_interruption : AnswerRefusal → Bool
 is_interruption (by_reader interrupted) = true
 is_interruption _ = false
 
--- whether one ended the call
+-- whether an interrupt ended the call
 abbrev pub is_interrupted_answer : {X : Type 0} → Result X Error → Bool
 is_interrupted_answer (Ok x) = false
 is_interrupted_answer (Err e) = is_interruption (answer_refusal e)
 
--- a reader's refusal among them
+-- the error that passes on a reader's error
 abbrev pub from_reader : Refusal → AnswerRefusal
 from_reader (io kind) = io_failed kind
 from_reader (server message) = upload_pack message
 from_reader memory = no_memory
 from_reader other = by_reader other
 
--- a transport's refusal among them
+-- the error that passes on a transport's error
 abbrev pub from_transport : ClientRefusal → AnswerRefusal
 from_transport client_no_memory = no_memory
 from_transport other = by_transport other
 
--- whether it is an allocation failure
+-- whether an error is an allocation failure
 abbrev pub is_no_memory : AnswerRefusal → Bool
 is_no_memory no_memory = true
 is_no_memory _ = false
 
--- how the errors of calls that read an answer are compared
+-- how contracts compare the errors of calls that read a response
 abbrev pub answer_errors : Errors Error AnswerRefusal
 answer_errors = record { refusal = answer_refusal; from_reader = from_reader; memory = Memory; is_no_memory = is_no_memory }
 
--- a refusal is that of the definition, unless memory ran out
+-- the error is this one, unless an allocation failed
 abbrev pub IsAnswerRefusal : Error → AnswerRefusal → Type 0
 IsAnswerRefusal e r = is_no_memory (answer_refusal e) ≡ false → answer_refusal e ≡ r
 
--- a line's value, which allocates nothing, or the refusal that carries the line
+-- the value of a line, or an error that has the line; a value needs no allocation
 abbrev pub ReadsLine : {A : Type 0} → Option A → List ℕ → Result A Error → Type 0
 ReadsLine (Some value) line (Ok x) = x ≡ value
 ReadsLine (Some value) line (Err e) = ⊥
 ReadsLine None line (Ok x) = ⊥
 ReadsLine None line (Err e) = IsAnswerRefusal e (unknown_line line)
 
--- the same where the value allocates
+-- the same, where a value needs an allocation
 abbrev pub ReadsOwned : {A B : Type 0} → (A → B) → Option B → List ℕ → Result A Error → Type 0
 ReadsOwned view (Some value) line (Ok x) = view x ≡ value
 ReadsOwned view (Some value) line (Err e) = e ≡ Memory
 ReadsOwned view None line (Ok x) = ⊥
 ReadsOwned view None line (Err e) = IsAnswerRefusal e (unknown_line line)
 
--- the value that the definition has, or its refusal; but for memory
+-- the value or the error of the definition; an allocation failure may replace either
 abbrev pub AnswersResponse : {A B : Type 0} → (A → B) → Result B AnswerRefusal → Result A Error → Type 0
 AnswersResponse view (Ok value) (Ok x) = view x ≡ value
 AnswersResponse view (Ok value) (Err e) = e ≡ Memory

@@ -1,4 +1,5 @@
--- A version 2 answer: a list of sections, each a header, lines and a stop (gitprotocol-v2, "fetch").
+-- Responses of version 2: a list of sections, each of them a header, lines and a stop (gitprotocol-v2, "fetch"). A stop
+-- is a flush or delimiter packet.
 use Rattle.std.specs.Prelude.{ℕ, Bool, true, false, if◌then◌else◌, List, [], ◌∷◌, codes, Option, Some, None, Result, Ok, Err}
 use Rattle.std.specs.Option.{option_map}
 use Rattle.std.specs.Str.{is_utf8}
@@ -17,7 +18,7 @@ use Rattle.gixp_response.specs.declared.fetch.response.sections.Section.TheVaria
 use Rattle.gixp_response.specs.declared.fetch.response.sections.Header.{Header}
 use Rattle.gixp_response.specs.declared.fetch.response.sections.Header.TheVariants.{Of, Packfile}
 
--- the header that a text without white space at its end is
+-- the header of a text without white space at its end
 abbrev pub header_of : List ℕ → Option Header
 header_of text =
     if is_text text (codes "acknowledgments") then Some (Of Acknowledgments)
@@ -26,18 +27,18 @@ header_of text =
     else if is_text text (codes "packfile") then Some Packfile
     else None
 
--- what a line says in a section of this kind
+-- the item of a line in a section of this kind
 abbrev pub item_of : Section → List ℕ → Option AnswerValue
 item_of Acknowledgments text = option_map of_acknowledgement (acknowledgement_line text)
 item_of ShallowInfo text = option_map of_update (shallow_update_line text)
 item_of WantedRefs text = option_map of_wanted (wanted_ref_line text)
 
--- a value, or this refusal where there is none
+-- the value, or this error where there is none
 abbrev pub or_refused : {A : Type 0} → AnswerRefusal → Option A → Result A AnswerRefusal
 or_refused e (Some value) = Ok value
 or_refused e None = Err e
 
--- lines are wanted as text
+-- a line must be UTF-8
 abbrev pub as_text : {A : Type 0} → List ℕ → Result A AnswerRefusal → Result A AnswerRefusal
 as_text text read = if is_utf8 text then read else Err (by_reader not_utf8)
 
@@ -53,28 +54,28 @@ opened (Ok (Of section)) rest later = later (Some section)
 opened (Ok Packfile) rest later = whole (no_more true) rest
 opened (Err e) rest later = refused e
 
--- an item in front of what follows it
+-- an item before the items after it
 abbrev pub added : Result AnswerValue AnswerRefusal → Found → Found
 added (Ok item) later = in_front item later
 added (Err e) later = refused e
 
--- after a section: a flush ends the answer, a delimiter goes on to a header
+-- after a section: a flush packet ends the response, a header follows a delimiter packet
 abbrev pub closed : MessageKind → Pieces → Found → Found
 closed Flush rest later = whole (no_more false) rest
 closed Delimiter rest later = later
 closed _ rest later = refused (by_reader unexpected_frame)
 
--- whether a stop is a flush
+-- whether a stop is a flush packet
 abbrev pub is_flush : Option MessageKind → Bool
 is_flush (Some Flush) = true
 is_flush _ = false
 
--- no header is a stop
+-- the error of a special packet in place of a header
 abbrev pub not_opened : Bool → AnswerRefusal
 not_opened true = io_failed UnexpectedEof
 not_opened false = by_reader unexpected_frame
 
--- the answer in some pieces that stand in this section, or where a header is due
+-- the response in these packet lines; they begin in this section, or with a header
 abbrev pub sections_from : List Piece → Refusal → Option Section → Found
 sections_from [] end at = refused (from_reader end)
 sections_from (line text ∷ ps) end None = opened (read_header text) (record { list = ps; end = end }) (sections_from ps end)
@@ -82,6 +83,6 @@ sections_from (line text ∷ ps) end (Some section) = added (read_item section t
 sections_from (mark kind ∷ ps) end None = refused (not_opened (is_stop V2 kind))
 sections_from (mark kind ∷ ps) end (Some section) = closed kind (record { list = ps; end = end }) (sections_from ps end None)
 
--- the answer in some pieces, of which the first is a header
+-- the response in these packet lines, which begin with a header
 abbrev pub v2_answer : Pieces → Found
 v2_answer p = sections_from p.list p.end None

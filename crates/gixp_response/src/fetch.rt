@@ -1,5 +1,4 @@
-//! What the server answers to one who asks for a pack (gitprotocol-v2, "fetch"; gitprotocol-pack,
-//! "Packfile Negotiation").
+//! Responses to a fetch request (gitprotocol-v2, "fetch"; gitprotocol-pack, "Packfile Negotiation").
 pub mod response;
 
 pub use response::answer::Response;

@@ -1,4 +1,4 @@
-//! What a server answers in git's fetch protocol: from lines to what comes before a pack.
+//! Responses to a fetch request in git's fetch protocol, up to the pack.
 #![tactic(auto)]
 
 pub mod fetch;

@@ -1,4 +1,4 @@
-//! Equality and order of what an answer says.
+//! Equality and order of the items of a response.
 ghost use Rattle.std.specs.Prelude.{◌≡◌, ◌↔◌, IsTrue};
 ghost use Rattle.gixp_response.specs.AnswerLine.{wanted_value};
 ghost use Rattle.gixp_response.specs.Order.{acknowledgement_cmp, wanted_cmp};
@@ -7,7 +7,6 @@ use crate::fetch::response;
 use crate::fetch::response::RequiredFeature;
 use std::cmp::Ordering;
 
-// Two acknowledgements are equal exactly where they are one value.
 fn is_same_acknowledgement(
     one: &response::Acknowledgement,
     other: &response::Acknowledgement,
@@ -17,7 +16,7 @@ fn is_same_acknowledgement(
     one == other
 }
 
-// Common commits stand first, ordered by their ids, and `NAK` last.
+// Common commits come first, ordered by their ids, and `NAK` last.
 fn order_of_acknowledgements(
     first: &response::Acknowledgement,
     second: &response::Acknowledgement,
@@ -27,7 +26,6 @@ fn order_of_acknowledgements(
     first.cmp(second)
 }
 
-// Two wanted refs are equal exactly where their ids and paths are.
 fn is_same_wanted(a: &response::WantedRef, b: &response::WantedRef) -> bool
     ensures { IsTrue result ↔ (wanted_value a.now ≡ wanted_value b.now) }
 {
@@ -41,7 +39,6 @@ fn order_of_wanted(x: &response::WantedRef, y: &response::WantedRef) -> Ordering
     x.cmp(y)
 }
 
-// Two features are equal exactly where they are one.
 fn is_same_feature(feature: &RequiredFeature, next: &RequiredFeature) -> bool
     ensures { IsTrue result ↔ (feature.now ≡ next.now) }
 {

@@ -8,7 +8,7 @@ use Rattle.gixp_shallow.specs.ShallowText.{IdTextFails}
 use Rattle.gixp_shallow.specs.Store.{to_lock, to_read, to_write, IsStoreRefusal}
 use Rattle.gixp_shallow.specs.ShallowFile.{IsKept, HoldsLock, RefusesInFile, RefusesAlone, is_left, is_left_of}
 
--- a text that can't be read isn't locked
+-- a text that can't be read is not a `Locked` error
 pub not_locked : (text : List ℕ) (e : ShallowError) → IdTextFails text e → e ≡ Locked → ⊥
 not_locked text e h x = subst (IdTextFails text) x h
 
@@ -16,7 +16,7 @@ kept_through : {F : Type 0} (a b c : ShallowFile F) → IsKept a b → IsKept b 
 kept_through a b c h k = record { path = k.path ∙ h.path; lock_path = k.lock_path ∙ h.lock_path }
 
 module _ {F : Type 0} (old new : ShallowFile F) (e : ShallowError) where
-  -- a failed call of the system, by the call that made it
+  -- an error of the system, in the call that made it
   pub lock_refused : RefusesInFile to_read old e new → RefusesInFile to_lock old e new
   lock_refused h = record { held = h.held; kept = h.kept; counted = h.counted; uncounted = h.uncounted; locked = λ _. tt }
 

@@ -1,4 +1,4 @@
--- The text of a boundary reads as the ids that it was written of.
+-- The text of a boundary reads as the ids that it was written from.
 use Rattle.std.proofs.Common.{◌≡◌, ℕ, ◌/◌, ◌%◌, ◌<◌, ◌⊎◌, inl, inr, suc, Bool, true, false, true≢false, List, [], ◌∷◌, ◌++◌, length, Some, None, refl, sym, ap, ◌∙◌, subst, arith}
 use Rattle.std.specs.Prelude.{◌↔◌, ◌==◌, if◌then◌else◌, IsSome, Option}
 use Rattle.std.specs.Result.{result_ok}
@@ -51,7 +51,7 @@ one_line (c ∷ cs) rest h = at (c == 10) h.0 (one_line cs rest h.1)
     at true f e = absurd (true≢false f)
     at false f e = ap (in_first c) e
 
--- the digits of an id are those of this id
+-- the digits of an id read as this id
 id_back : (id : ObjectId) → IsId id → id_of (encode_lower id.bytes) ≡ Some id.bytes
 id_back id h =
     let whole : length (encode_lower id.bytes) ≡ 40 = omega (arith, length-encode_with lower_digits id.bytes, h.0) in
@@ -67,7 +67,7 @@ of_bytes bytes = record { bytes = bytes }
 same_id : (a b : ObjectId) → Some a.bytes ≡ Some b.bytes → b ≡ a
 same_id a b e = let bytes : a.bytes ≡ b.bytes = cc in sym (ap of_bytes bytes)
 
--- so a text's lines are the ids that it was written of
+-- the lines of a text read as the ids that it was written from
 each_back : (set ids : List ObjectId) → AllByRecursion IsId set → AllZip IsIdOf (lines (text_of set)) ids → ids ≡ set
 each_back [] [] good h = refl
 each_back [] (x ∷ xs) good h = absurd h
@@ -95,7 +95,7 @@ all_of : (P : ObjectId → Type 0) (set : List ObjectId) → ((id : ObjectId) �
 all_of P [] f = tt
 all_of P (x ∷ xs) f = (f x (first_member x xs x refl), all_of P xs (λ q h. f q (later_member x xs q h)))
 
--- the ids of a set of ids are ids
+-- the elements of a set of ids are ids
 are_ids : (ids set : List ObjectId) → All IsId ids → IsSetOf ids set → AllByRecursion IsId set
 are_ids ids set a h = all_of IsId set (λ id m. let n = (h.same id).0 m in subst IsId n.2 (a n.0 id n.1))
 
@@ -126,7 +126,7 @@ never_refused ids text Memory a t h = refl
 never_refused ids text (Io kind) a t h = absurd h
 never_refused ids text Locked a t h = absurd h
 
--- two lists in order of the same ids are one
+-- two sorted lists of the same ids are equal
 less_less : (a b : ObjectId) → id_cmp a b ≡ Less → id_cmp b a ≡ Less → ⊥
 less_less a b h k = let back : id_cmp b a ≡ Greater = ids_total.antisymm b a ∙ ap ordering_reverse h in cc
 

@@ -1,4 +1,4 @@
--- Lists of ids that are kept in order, as sets.
+-- Sorted lists of ids, as sets.
 use Rattle.std.proofs.Common.{◌≡◌, ◌≢◌, ℕ, ◌<◌, length, zero, suc, arith, ◌⊎◌, inl, inr, Bool, true, false, cond, List, [], ◌∷◌, refl, sym, ap, subst, ◌∙◌, true≢false}
 use Rattle.std.specs.Prelude.{◌↔◌, ◌||◌, ◌&&◌, not, slice_index_or}
 use Rattle.std.specs.List.{list_any, AllByRecursion, Contains}
@@ -21,7 +21,7 @@ use Rattle.gixp_shallow.specs.Boundary.{IsSetOf, StaysIn, IsBoundary}
 use Rattle.gixp_shallow.specs.Boundary.{with_ids, with_updates, boundary}
 
 module _ {K : Type 0} {R : K → K → Ordering} (o : IsTotalOrder R) (exact : CmpEqualImpliesEq R) where
-  -- ---- in order
+  -- ---- sorted lists
   all_inserted : (P : K → Type 0) (k : K) (xs : List K) → P k → AllByRecursion P xs → AllByRecursion P (insert_key R xs k)
   all_inserted P k [] p a = (p, a)
   all_inserted P k (x ∷ xs) p a = at (R k x) (all_inserted P k xs p a.1)
@@ -64,7 +64,7 @@ module _ {K : Type 0} {R : K → K → Ordering} (o : IsTotalOrder R) (exact : C
       at true more = h.1
       at false more = (all_removed (λ y. R x y ≡ Less) test xs h.0, more)
 
-  -- ---- which keys
+  -- ---- keys of a list
   abbrev has : List K → K → Bool
   has xs q = list_any (eq_by_cmp R q) xs
 
@@ -116,7 +116,7 @@ module _ {K : Type 0} {R : K → K → Ordering} (o : IsTotalOrder R) (exact : C
   or_right true b h = refl
   or_right false b h = h
 
-  -- an inserted key is there, and those that were
+  -- a list has the inserted key and the keys that it had
   pub inserted_has : (xs : List K) (k q : K) → Contains (insert_key R xs k) q ↔ (Contains xs q ⊎ (q ≡ k))
   inserted_has xs k q = (there, back)
     where
@@ -138,7 +138,7 @@ module _ {K : Type 0} {R : K → K → Ordering} (o : IsTotalOrder R) (exact : C
   and_none : (a : Bool) → a ≡ (true && a)
   and_none a = refl
 
-  -- the first key that ties with this one is the only one
+  -- no other key compares equal to the first such key
   has-removed : (xs : List K) (k q : K) → IsStrictlySortedBy R xs → has (remove_key (is_at (R k)) xs) q
       ≡ (not (eq_by_cmp R q k) && has xs q)
   unfolding IsStrictlySortedBy
@@ -181,7 +181,7 @@ module _ {K : Type 0} {R : K → K → Ordering} (o : IsTotalOrder R) (exact : C
   not_true true f = absurd (f refl)
   not_true false f = refl
 
-  -- a removed key isn't there, and those that were are but for it
+  -- a list without a removed key has the other keys that it had
   pub removed_has : (xs : List K) (k q : K) → IsStrictlySortedBy R xs → Contains (remove_key (is_at (R k)) xs) q ↔ (Contains xs q × (q ≢ k))
   removed_has xs k q h = (there, back)
     where
@@ -248,7 +248,7 @@ with_ids_has keys [] q = (inl, none)
     none (inr b) = absurd (no_member q b)
 with_ids_has keys (id ∷ ids) q = with_one keys id ids q (with_ids_has (insert_key id_cmp keys id) ids q)
 
--- the ids of a list, in order, each once
+-- the ids of a list, sorted, each once
 pub set_of : (ids : List ObjectId) → IsSetOf ids (with_ids [] ids)
 unfolding IsStrictlySortedBy
 set_of ids = record {
@@ -297,7 +297,7 @@ updates_has keys (becomes_whole id ∷ us) h q =
           more.1 (stays_by q (Contains keys q × (q ≢ id)) (Contains gone q) cut.1 us a),
     )
 
--- the boundary after the updates is that set
+-- the boundary after the updates is the set of the definition
 pub boundary_is : (ids : List ObjectId) (us : List ShallowUpdate) → IsBoundary ids us (boundary ids us)
 boundary_is ids us =
     let first = set_of ids in

@@ -52,7 +52,7 @@ no_end n len l e = by (nat_lt n len) refl e
     by true t h = cc
     by false t h = grind (arith, nat_tests)
 
--- where an LF ends the first line
+-- an LF ends the first line
 pub line_found : (text : List ℕ) (at : ℕ) → 0 < length text → Some at ≡ position (λ b. b == 10) text
     → lines text ≡ take at text ∷ lines (take (length text - (at + 1)) (drop (at + 1) text))
 line_found text at h e =
@@ -60,7 +60,7 @@ line_found text at h e =
     first_of_lines text h ∙ ap (λ n. take n text ∷ lines (drop (suc n) text)) (sym p.0)
     ∙ ap (λ rest. take at text ∷ lines rest) (ap (λ n. drop n text) (sym (add-one at)) ∙ sym (take_rest text (at + 1)))
 
--- where none does
+-- no LF ends the first line
 pub line_last : (text : List ℕ) → 0 < length text → None ≡ position (λ b. b == 10) text → lines text ≡ text ∷ []
 line_last text h e =
     let n : cut text ≡ length text = no_end (cut text) (length text) (prefix_len-le-length (λ x. not (x == 10)) text) e in
@@ -74,7 +74,7 @@ are_ids [] (id ∷ ids) h = absurd h
 are_ids (l ∷ ls) [] h = absurd h
 are_ids (l ∷ ls) (id ∷ ids) h = All-cons (λ l. IsSome (id_of l)) l ls (subst IsSome (sym h.0) refl) (are_ids ls ids h.1)
 
--- a line that is no id after lines that are
+-- a line that is not an id, after lines that are
 pub unread : (text : List ℕ) (before : List (List ℕ)) (ids : List ObjectId) (rest line behind : List ℕ) (e : ShallowError)
     → lines text ≡ before ++ lines rest → AllZip IsIdOf before ids
     → lines rest ≡ line ∷ lines behind → IsNoId line e → IdTextFails text e
@@ -84,7 +84,6 @@ unread text before ids rest line behind Memory s a c n = tt
 unread text before ids rest line behind (Io kind) s a c n = n
 unread text before ids rest line behind Locked s a c n = n
 
--- one more line
 one_more : (before : List (List ℕ)) (ids : List ObjectId) (line : List ℕ) (id : ObjectId) → AllZip IsIdOf before ids → IsIdOf line id
     → AllZip IsIdOf (before ++ line ∷ []) (ids ++ id ∷ [])
 one_more [] [] line id a is = (is, tt)

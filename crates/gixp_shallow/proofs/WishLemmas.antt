@@ -1,4 +1,4 @@
--- Equality of what is wanted of the history.
+-- Equality of the values of `Shallow`.
 use Rattle.std.proofs.Common.{◌≡◌, ◌==◌, ℕ, Bool, true, false, List, map, Option, Some, None, sym, ap, ◌∙◌, refl}
 use Rattle.std.specs.Prelude.{ℤ, ◌&&◌}
 use Rattle.std.specs.Bool.{Decides}
@@ -17,7 +17,7 @@ use Rattle.gixp_shallow.specs.declared.shallow.Shallow.TheVariants.{NoChange, De
 use Rattle.gixp_shallow.specs.contracts.shallow.ShallowPartialEq.TheImpl.{eq-value}
 use Rattle.gixp_shallow.specs.Shallow.{ShallowValue, at_remote, deepens, since, excludes, shallow_value}
 
--- what is of two kinds isn't one
+-- values of different kinds differ
 apart : {P : Type 0} {r : Bool} → r ≡ false → ¬ P → Decides r P
 apart e other = (λ t. absurd (false≢true (sym e ∙ t)), λ p. absurd (other p))
 
@@ -49,7 +49,7 @@ same_exclusion xs ys s t r e =
       λ h. e ∙ whole.1 ((let p : map name_bytes xs ≡ map name_bytes ys = cc in p), (let q : s ≡ t = cc in q)),
     )
 
--- two wishes are equal exactly where their values are one
+-- two values are equal exactly if their plain data are
 pub same_boundary : (a b : Shallow) (r : Bool) → r ≡ eq-value.it a b → Decides r (shallow_value a ≡ shallow_value b)
 same_boundary NoChange NoChange r e = (λ t. refl, λ h. e)
 same_boundary NoChange (DepthAtRemote y) r e = apart e (λ h. cc)

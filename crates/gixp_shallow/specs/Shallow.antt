@@ -1,11 +1,11 @@
--- How much of the history is wanted.
+-- How a fetch changes the shallow boundary.
 use Rattle.std.specs.Prelude.{◌==◌, ℕ, ℤ, Bool, true, false, List, map, Option}
 use Rattle.std.specs.Int.NonZero.{non_zero_u32_get}
 use Rattle.gixp_refspec.specs.PartialName.{name_bytes}
 use Rattle.gixp_shallow.specs.declared.shallow.Shallow.{Shallow}
 use Rattle.gixp_shallow.specs.declared.shallow.Shallow.TheVariants.{NoChange, DepthAtRemote, Deepen, Since, Exclude}
 
--- the same as plain data
+-- the change as plain data
 pub data ShallowValue : Type 0 where
   no_change : ShallowValue
   at_remote : (depth : ℕ) → ShallowValue

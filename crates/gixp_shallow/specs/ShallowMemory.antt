@@ -1,4 +1,4 @@
--- What is known of a boundary in memory.
+-- A boundary in memory.
 use Rattle.std.proofs.Common.{inl, inr}
 use Rattle.std.specs.Prelude.{◌≡◌, true}
 use Rattle.gixp_shallow.specs.declared.store.memory.ShallowMemory.{ShallowMemory}
@@ -6,15 +6,15 @@ use Rattle.gixp_shallow.specs.declared.store.ShallowError.{ShallowError}
 use Rattle.gixp_shallow.specs.declared.store.ShallowError.TheVariants.{Locked, Memory}
 use Rattle.gixp_shallow.specs.Store.{StoreCall, to_lock, to_read, to_write, HasFailed, IsStoreRefusal}
 
--- a refused call leaves the boundary and the lock: of `lock`, where someone has the lock, which counts; and of the others for an
--- allocation failure
+-- a failed call leaves the boundary and the lock; `lock` fails where it is locked, and counts the failure; the other
+-- calls fail only for an allocation failure
 abbrev pub RefusesInMemory : StoreCall → ShallowMemory → ShallowError → ShallowMemory → Type 0
 RefusesInMemory to_lock s e t = (s.locked ≡ true) × (e ≡ Locked) × (t ≡ record s { failures = t.failures })
     × HasFailed s.failures t.failures
 RefusesInMemory to_read s e t = (e ≡ Memory) × (t ≡ s)
 RefusesInMemory to_write s e t = (e ≡ Memory) × (t ≡ s)
 
--- so it is counted, unless an allocation failed
+-- so each failure is counted, unless an allocation failed
 pub counted_in_memory : (call : StoreCall) (s : ShallowMemory) (e : ShallowError) (t : ShallowMemory) → RefusesInMemory call s e t
     → IsStoreRefusal s.failures t.failures e
 counted_in_memory to_lock s e t h = inr h.3

@@ -1,11 +1,11 @@
--- The order of changes of the boundary.
+-- The order of updates of the boundary.
 use Rattle.std.specs.declared.cmp.Ordering.{Ordering}
 use Rattle.std.specs.declared.cmp.Ordering.TheVariants.{Less, Greater}
 use Rattle.gixp_hash.specs.ObjectId.{id_cmp}
 use Rattle.gixp_shallow.specs.declared.update.ShallowUpdate.{ShallowUpdate}
 use Rattle.gixp_shallow.specs.declared.update.ShallowUpdate.TheVariants.{Shallow, Unshallow}
 
--- those that make a commit shallow stand first, and each kind is ordered by the ids
+-- `shallow` before `unshallow`, each ordered by the ids
 abbrev pub update_cmp : ShallowUpdate → ShallowUpdate → Ordering
 update_cmp (Shallow a) (Shallow b) = id_cmp a b
 update_cmp (Shallow a) (Unshallow b) = Less

@@ -1,4 +1,4 @@
-//! The boundary after the changes that a server reported.
+//! The boundary after the updates of a server.
 ghost use Rattle.std.specs.Prelude.{◌≡◌, IfOk, OnOk, ◌∷◌, []};
 ghost use Rattle.gixp_shallow.specs.Boundary.{with_ids, with_updates, boundary};
 
@@ -48,7 +48,7 @@ fn apply_all(set: &mut BTreeSet<ObjectId>, updates: &[ShallowUpdate]) -> Result<
     Ok(())
 }
 
-/// The ids after the changes, in order, each once.
+/// The boundary with these ids after these updates, sorted, each id once.
 ///
 /// # Errors
 ///
@@ -66,7 +66,7 @@ pub fn new_boundary(
     set.iter().copied().collect(alloc)
 }
 
-/// The ids in order, each once.
+/// The ids, sorted, each once.
 pub(crate) fn sorted_ids(alloc: Global, ids: &[ObjectId]) -> Result<Vec<ObjectId>, AllocError>
     ensures { IfOk result (λ v. v.items ≡ with_ids [] ids.now) }
 {

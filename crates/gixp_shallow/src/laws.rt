@@ -1,4 +1,4 @@
-//! Laws of the definitions, each a function whose contract is the law.
+//! Theorems about the definitions. Each is a function without a body; its contract is the theorem.
 ghost use Rattle.std.specs.Prelude.{◌≡◌, ℕ, List};
 ghost use Rattle.std.specs.List.{All};
 ghost use Rattle.std.specs.List.Sorted.{IsStrictlySortedBy};
@@ -10,15 +10,15 @@ ghost use Rattle.gixp_shallow.specs.declared.store.ShallowError.TheVariants.{Mem
 ghost use Rattle.gixp_shallow.specs.Boundary.{IsSetOf, IsBoundary, boundary};
 ghost use Rattle.gixp_shallow.specs.ShallowText.{IsId, IsTextOf, ReadsIds, IdTextFails};
 
-/// The boundary after some updates has an id exactly where the updates leave it there, in order of the
-/// ids, each once: each `shallow` adds its id and each `unshallow` takes it away, one after another.
+/// The boundary after some updates is sorted and has each id once. Each `shallow` adds its id and each `unshallow`
+/// removes it, in their order.
 pub fn boundaries_are_sets()
     ensures { (ids : List ObjectId) (updates : List ShallowUpdate) → IsBoundary ids updates (boundary ids updates) }
 {}
 
-/// The text of a boundary reads as the set of the ids that it was written of: a text that `shallow_text`
-/// makes of some ids is refused for an allocation failure alone, and what `shallow_ids` reads of it has
-/// just these ids, in order, each once. Where they were in order it is the list itself.
+/// The text of a boundary reads as the ids that it was written from. `shallow_ids` fails on a text from `shallow_text`
+/// only if an allocation fails, and returns exactly the ids of that text, sorted, each once. If the ids were sorted
+/// without repetition, it returns the same list.
 pub fn boundary_texts_read_back()
     ensures read { (ids : List ObjectId) (text : List ℕ) (read : List ObjectId) → All IsId ids → IsTextOf ids text → ReadsIds text read
         → IsSetOf ids read }

@@ -1,5 +1,5 @@
-//! The boundary of a shallow repository, the commits whose parents aren't there: how it is to change, its changes, its text and
-//! where it is kept (gitprotocol-pack, "Packfile Negotiation").
+//! The boundary of a shallow repository: the commits whose parents are missing (gitprotocol-pack, "Packfile
+//! Negotiation"). How a fetch changes it, the updates of a server, its text and its stores.
 #![tactic(auto)]
 
 mod boundary;

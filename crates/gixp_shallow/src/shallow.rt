@@ -1,4 +1,4 @@
-//! How much of the history is wanted.
+//! How a fetch changes the shallow boundary.
 ghost use Rattle.std.specs.Prelude.{◌≡◌, IfOk, map};
 ghost use Rattle.gixp_refspec.specs.PartialName.{name_bytes};
 ghost use Rattle.gixp_shallow.specs.Shallow.{shallow_value};
@@ -7,20 +7,21 @@ use gixp_refspec::PartialName;
 use std::alloc::AllocError;
 use std::num::NonZeroU32;
 
-/// What becomes of the boundary of a shallow repository (gitprotocol-pack, "Packfile Negotiation").
+/// How a fetch changes the shallow boundary (gitprotocol-pack, "Packfile Negotiation").
 #[derive(Debug, Drop, PartialEq, Eq)]
 pub enum Shallow {
-    /// It stays.
+    /// It doesn't change.
     NoChange,
-    /// So many commits from each ref of the server on.
+    /// This many commits from each ref of the server (`git fetch --depth`).
     DepthAtRemote(NonZeroU32),
-    /// So many commits more than there are.
+    /// This many commits more than there are now (`git fetch --deepen`).
     Deepen(u32),
-    /// Commits from this time on, in seconds since 1970-01-01 00:00:00 UTC.
+    /// Commits since this time, in seconds since 1970-01-01 00:00:00 UTC (`git fetch --shallow-since`).
     Since {
         cutoff: i64,
     },
-    /// No commit that one of these refs leads to, nor one from before the time, in the same seconds.
+    /// No commit that is reachable from one of these refs (`git fetch --shallow-exclude`), and no commit before the time,
+    /// if there is one, in seconds as in `Since`.
     Exclude {
         remote_refs: Vec<PartialName>,
         since_cutoff: Option<i64>,
@@ -67,14 +68,14 @@ fn clone_names(names: &Vec<PartialName>) -> Result<Vec<PartialName>, AllocError>
 impl Shallow {
     ghost use Rattle.gixp_shallow.specs.Shallow.{at_remote, is_no_change, is_deepen_zero};
 
-    /// All of the history, by the depth of 2,147,483,647 that stands for it (git-fetch, `--unshallow`).
+    /// The whole history: git's infinite depth of 2,147,483,647 (git-fetch, `--unshallow`).
     pub fn undo() -> Shallow
         ensures { shallow_value result ≡ at_remote 2147483647 }
     {
         Shallow::DepthAtRemote(NonZeroU32::MIN.saturating_add(2147483646))
     }
 
-    /// Whether it stays.
+    /// Whether the boundary doesn't change.
     pub fn is_no_change(&self) -> bool
         ensures { result ≡ is_no_change self.now }
     {

@@ -1,4 +1,4 @@
-//! Where the boundary is kept.
+//! Stores of the shallow boundary.
 ghost use Rattle.std.specs.Prelude.{IfOk, IfErr, OnOk};
 ghost use Rattle.gixp_shallow.specs.declared.store.ShallowError.{ShallowError};
 ghost use Rattle.gixp_shallow.specs.Store.{StoreCall, StoreCalls, to_lock, to_read, to_write, IsStoreRefusal};
@@ -12,7 +12,7 @@ use thiserror::Error;
 pub mod file;
 pub mod memory;
 
-/// Why a call of a store of the boundary is refused.
+/// Why a call of a store fails.
 #[derive(Debug, Drop, Error)]
 pub enum ShallowError {
     /// A read or a write failed.
@@ -21,7 +21,7 @@ pub enum ShallowError {
     /// Someone else has the lock.
     #[error("Locked")]
     Locked,
-    /// A line is no id.
+    /// A line is not an id.
     #[error("Decode")]
     Decode { line: BString },
     /// An allocation failed.
@@ -51,24 +51,24 @@ impl<T: Drop> From<AllocFailed<T>> for ShallowError {
     }
 }
 
-/// Where the boundary is kept.
+/// A store of the shallow boundary.
 ///
-/// Each call says what it does as a relation of before and after, and what it leaves where it is refused
-/// as another, which are fields of `calls`. The law: a refused call raises a count of failures, unless an allocation failed.
+/// `calls` describes each call as a relation of the store before and after it, and a failed call as another. Each
+/// failed call must raise a count of failures, unless an allocation failed.
 pub trait ShallowStore {
-    /// What its calls do, what refused ones leave, and how many were refused so far.
+    /// The effects of the calls, of failed ones too, and the count of failures.
     ghost calls: { StoreCalls Self };
 
-    /// Keeps others from writing.
+    /// Takes the lock, so that others don't write.
     ///
     /// # Errors
     ///
-    /// `Locked` where someone else has the lock. It isn't had then.
+    /// `Locked` where someone else holds the lock. The call then doesn't take it.
     fn lock(&mut self) -> Result<(), ShallowError>
         ensures locked { OnOk result (calls.locks self.old self.new) }
         ensures refused { IfErr result (λ e. calls.failures to_lock self.old e self.new) };
 
-    /// The boundary.
+    /// Returns the boundary.
     ///
     /// # Errors
     ///
@@ -77,7 +77,7 @@ pub trait ShallowStore {
         ensures read { IfOk result (λ ids. calls.reads self.old ids.items self.new) }
         ensures refused { IfErr result (λ e. calls.failures to_read self.old e self.new) };
 
-    /// Keeps this boundary in place of the one before.
+    /// Replaces the boundary by this one.
     ///
     /// # Errors
     ///
@@ -86,11 +86,11 @@ pub trait ShallowStore {
         ensures written { OnOk result (calls.writes self.old boundary.now self.new) }
         ensures refused { IfErr result (λ e. calls.failures to_write self.old e self.new) };
 
-    /// Gives the lock back.
+    /// Releases the lock.
     fn release(&mut self)
         ensures released { calls.releases self.old self.new };
 
-    /// A refused call is counted, unless an allocation failed.
+    /// Each failure is counted, unless an allocation failed.
     ghost counted: { (call : StoreCall) (s : Self) (e : ShallowError) (t : Self) → calls.failures call s e t
         → IsStoreRefusal (calls.count s) (calls.count t) e };
 }

@@ -9,8 +9,8 @@ use bstr::BString;
 use gixp_hash::ObjectId;
 use std::alloc::{AllocError, Global};
 
-/// The text of a shallow boundary, as git keeps it: a line for each id, of 40 lower-case digits and
-/// LF, in order of the ids, each once.
+/// The text of a shallow boundary, as git stores it: a line for each id, of 40 lower-case hexadecimal digits and LF,
+/// sorted by the ids, each once.
 ///
 /// # Errors
 ///
@@ -22,7 +22,6 @@ pub fn shallow_text(alloc: Global, ids: &[ObjectId]) -> Result<Vec<u8>, AllocErr
     id_lines(alloc, &ids)
 }
 
-// A line for each of these ids.
 fn id_lines(alloc: Global, ids: &[ObjectId]) -> Result<Vec<u8>, AllocError>
     ensures { IfOk result (λ text. text.items ≡ text_of ids.now) }
 {
@@ -36,13 +35,13 @@ fn id_lines(alloc: Global, ids: &[ObjectId]) -> Result<Vec<u8>, AllocError>
     Ok(text)
 }
 
-/// The ids of the text of a shallow boundary, in order, each once. Each line is an id, of digits of
-/// either case; lines may repeat and stand in any order, and the last one may lack its LF.
+/// The ids of the text of a shallow boundary, sorted, each once. Each line is an id of hexadecimal digits in either
+/// case. Lines may repeat and come in any order, and the last one may lack its LF.
 ///
 /// # Errors
 ///
-/// `Decode` with the first line that is no id, without its LF, as one with a CR and an empty one; or
-/// `Memory`.
+/// `Decode` with the first line that is not an id, without its LF. Such lines are an empty one and one that ends in a
+/// CR. `Memory` where an allocation fails.
 pub fn shallow_ids(alloc: Global, text: &[u8]) -> Result<Vec<ObjectId>, ShallowError>
     ensures ids { IfOk result (λ ids. ReadsIds text.now ids.items) }
     ensures refused { IfErr result (IdTextFails text.now) }
@@ -54,7 +53,7 @@ pub fn shallow_ids(alloc: Global, text: &[u8]) -> Result<Vec<ObjectId>, ShallowE
     }
 }
 
-// The ids of the lines, as they come.
+// The ids of the lines, in their order.
 fn line_ids(alloc: Global, text: &[u8]) -> Result<Vec<ObjectId>, ShallowError>
     ensures ids { IfOk result (λ ids. AllZip IsIdOf (lines text.now) ids.items) }
     ensures refused { IfErr result (IdTextFails text.now) }
@@ -73,7 +72,6 @@ fn line_ids(alloc: Global, text: &[u8]) -> Result<Vec<ObjectId>, ShallowError>
     Ok(ids)
 }
 
-// The id of a line.
 fn line_id(alloc: Global, line: &[u8]) -> Result<ObjectId, ShallowError>
     ensures { MatchResult result (IsIdOf line.now) (IsNoId line.now) }
 {
@@ -88,14 +86,14 @@ fn line_id(alloc: Global, line: &[u8]) -> Result<ObjectId, ShallowError>
     }
 }
 
-// Where the first line ends, if an LF ends it.
+// The offset of the first LF.
 fn line_end(text: &[u8]) -> Option<usize>
     ensures { result ≡ position (λ b. b == 10) text.now }
 {
     text.iter().position(|byte| *byte == b'\n')
 }
 
-// The first line of a text that isn't empty, and what comes after it.
+// The first line of a nonempty text, and the text after it.
 fn first_line(text: &[u8]) -> (&[u8], &[u8])
     requires { 0 < length text.now }
     ensures lines { lines text.now ≡ result.0.now ∷ lines result.1.now }

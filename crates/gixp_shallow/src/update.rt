@@ -1,12 +1,11 @@
-//! A change of the boundary.
+//! An update of the boundary.
 use gixp_hash::ObjectId;
 
-/// A change of the client's shallow boundary (gitprotocol-pack, "Packfile Negotiation";
-/// gitprotocol-v2, "fetch", `shallow-info`).
+/// An update of the client's shallow boundary (gitprotocol-pack, "Packfile Negotiation"; gitprotocol-v2, "fetch", `shallow-info`).
 #[derive(Clone, Copy, Debug, PartialEq, Eq, PartialOrd, Ord, Hash)]
 pub enum ShallowUpdate {
-    /// The parents of this commit don't come.
+    /// The commit is shallow: its parents are not sent.
     Shallow(ObjectId),
-    /// The parents of this commit come now.
+    /// The commit is no longer shallow: its parents are sent.
     Unshallow(ObjectId),
 }

@@ -1,4 +1,4 @@
--- Who is asked, call by call.
+-- The calls of the interrupt, call by call of the reader.
 use Rattle.std.proofs.Common.{◌≡◌, ℕ, inl, inr, ◌⊎◌, Bool, true, false, cond, List, [], ◌∷◌, refl, sym, ap, subst, ◌∙◌, arith, Option, Some, None, IfSome, Err}
 use Rattle.gixp_packetline.specs.declared.protocol.Protocol.{Protocol}
 use Rattle.gixp_packetline.specs.declared.protocol.MessageKind.{MessageKind}
@@ -16,7 +16,7 @@ use Rattle.gixp_sidebands.specs.QuestionsAgain.{takes-nothing, asked-none, asked
 use Rattle.gixp_sidebands.proofs.PieceLemmas.{mark_not_gives}
 use Rattle.gixp_sidebands.proofs.ContentLemmas.{holds_line}
 
--- what comes next is the first piece
+-- the next line is the first packet line
 first-gives : (v : Protocol) (list : List Piece) (end : Refusal) (text : List ℕ) (q : Pieces) → next_from v list end ≡ gives text q
     → record { list = list; end = end } ≡ with_piece (line text) q
 first-gives v [] end text q h = cc
@@ -43,7 +43,7 @@ first-stops v (mark k ∷ ps) end kind q h = by (is_stop v k) h
         rw (← e1, ← e2) refl
     by false h = cc
 
--- a refusal comes after all pieces, or it is that of a frame that has no place
+-- an error comes after all packet lines, or it is that of an unexpected packet
 first-refuses : (v : Protocol) (list : List Piece) (end : Refusal) (e : Refusal) → next_from v list end ≡ refuses e
     → (no_pieces e ≡ record { list = list; end = end }) ⊎ (e ≡ unexpected_frame)
 first-refuses v [] end e h = let i : end ≡ e = cc in inl (ap no_pieces (sym i))
@@ -55,7 +55,6 @@ first-refuses v (mark k ∷ ps) end e h = by (is_stop v k) h
     by true h = cc
     by false h = let i : e ≡ unexpected_frame = cc in inr i
 
--- a line is taken
 takes-line : (n : ℕ) (old new : Reading) → TakesLine old new → one_if (is_text (band_of new.line)) ≡ n
     → IfSome old.to_come (TakesTexts n old new)
 takes-line n old new t e = at old.to_come t.next
@@ -73,7 +72,6 @@ takes-line n old new t e = at old.to_come t.next
       is_left = inl refl;
     }
 
--- a stop is told
 takes-stop : (old new : Reading) → AtStop old new → IfSome old.to_come (TakesTexts 0 old new)
 takes-stop old new (inl s) = takes-nothing old new s.stays.to_come
 takes-stop old new (inr s) = at old.to_come s.1.next
@@ -91,7 +89,6 @@ takes-stop old new (inr s) = at old.to_come s.1.next
       is_left = inl refl;
     }
 
--- a line is peeked at
 takes-shown : (old new : Reading) → ShowsLine old new → IfSome old.to_come (TakesTexts 0 old new)
 takes-shown old new s = takes-nothing old new (at old.to_come s.next)
   where
@@ -103,7 +100,6 @@ takes-shown old new s = takes-nothing old new (at old.to_come s.next)
 rose-counts : (old new : Reading) → Rose old.failures new.failures → IsUncounted old new → ⊥
 rose-counts old new r u = let e = u.0 in let l = u.1 in omega (arith, r, e, l)
 
--- a call is refused
 takes-fails : (old new : Reading) (e : Refusal) → Fails old new e → IfSome old.to_come (TakesTexts 0 old new)
 takes-fails old new e (inr (inl f)) = takes-nothing old new f.stays.to_come
 takes-fails old new e (inr (inr b)) = at old.to_come
@@ -138,7 +134,7 @@ takes-fails old new e (inl r) = at old.to_come r.next
         by (inl i) = inl i
         by (inr i) = inr (inl (ap no_pieces i))
 
--- its failures don't fall
+-- a failed call doesn't lower the count of failures
 fails-rise : (old new : Reading) (e : Refusal) → Fails old new e → NoFewer old new
 fails-rise old new e (inl r) = let f = r.failures in omega (arith, f)
 fails-rise old new e (inr (inr b)) = let f = b.failures in omega (arith, f)
@@ -186,7 +182,7 @@ module _ {I : Type 0} (says : I → Bool → I → Type 0) where
   asked-shown o now new a b h s = let f = s.failures in
       asked-joins says false o now new a b b h (asked-none says now new b (omega (arith, f)) (takes-shown now new s))
 
-  -- a packet that tells nothing is taken
+  -- a packet without a message is taken
   pub asked-passed : (o now new : Reading) (a b : I) → Asked says false o now a b → now.peeked ≡ true
       → is_text (band_of now.line) ≡ false → TakesLine now new → Asked says false o new a b
   asked-passed o now new a b h p k t =
@@ -194,13 +190,11 @@ module _ {I : Type 0} (says : I → Bool → I → Type 0) where
       let e : one_if (is_text (band_of new.line)) ≡ 0 = ap (λ l. one_if (is_text (band_of l))) (t.again p) ∙ ap one_if k in
       asked-joins says false o now new a b b h (asked-none says now new b (omega (arith, f)) (takes-line 0 now new t e))
 
-  -- nor does an empty one
   pub asked-empty : (o now mid new : Reading) (a b : I) → Asked says false o now a b → ShowsLine now mid → band_of mid.line ≡ Empty
       → TakesLine mid new → Asked says false o new a b
   asked-empty o now mid new a b h s k t =
       asked-passed o mid new a b (asked-shown o now mid a b h s) s.peeked (ap is_text k) t
 
-  -- nor does content
   pub below-content : (plain : Bool) (o now new : Reading) (a b : I) → AskedBelow says plain false o now a b
       → band_of now.line ≡ Content → now.peeked ≡ true → TakesLine now new → AskedBelow says plain false o new a b
   below-content plain o now new a b (inl h) k p t = inl (asked-passed o now new a b h p (ap is_text k) t)
@@ -227,7 +221,7 @@ module _ {I : Type 0} (says : I → Bool → I → Type 0) where
   asked-fails o now new a b e h f =
       asked-joins says false o now new a b b h (asked-none says now new b (fails-rise now new e f) (takes-fails now new e f))
 
-  -- a message is told, and the interrupt is asked
+  -- a message is reported, and the interrupt is called
   asked-text : (answer : Bool) (o now mid new : Reading) (a b c : I) (is_error : Bool) → Asked says false o now a b → ShowsLine now mid
       → band_of mid.line ≡ Text is_error → TakesLine mid new → says b answer c → Asked says answer o new a c
   asked-text answer o now mid new a b c is_error h s k t w =
@@ -254,7 +248,7 @@ module _ {I : Type 0} (says : I → Bool → I → Type 0) where
       → band_of mid.line ≡ Text is_error → TakesLine mid new → says b false c → Asked says false o new a c
   asked-more o now mid new a b c is_error = asked-text false o now mid new a b c is_error
 
-  -- a packet was told or not
+  -- a packet is reported, or its report fails
   pub asked-tell : {P : Type 0} (hears spares : P → Bool → List ℕ → P → Type 0) (X Y : Type 0) (plain : Bool) (m : Message)
       (o now mid new : Reading) (a : I) (b c : Listener P I) (is_error : Bool) (e : Error) → Asked says false o now a b.interrupt
       → ShowsLine now mid → band_of mid.line ≡ Text is_error → TellsPacket hears spares says {X = X} m mid new b c (Err e)
@@ -275,7 +269,7 @@ module _ {I : Type 0} (says : I → Bool → I → Type 0) where
   not_plain false new f = refl
   not_plain true new f = absurd (f refl)
 
-  -- the reader below was refused
+  -- the reader below fails
   pub asked-below : (X : Type 0) (plain : Bool) (o now new : Reading) (a b : I) (e : Error) → Asked says false o now a b
       → Fails now new (refusal_of e) → (plain ≡ true → IsPlain new (refusal_of e))
       → AskedBelow says plain (is_interrupted {X = X} (Err e)) o new a b

@@ -10,14 +10,14 @@ use Rattle.gixp_packetline.specs.Items.{is_stop, plain, banded, Item, line_item,
 use Rattle.gixp_packetline.specs.Lines.{lines_of, lines_from, no_lines, stop, refusal}
 use Rattle.gixp_sidebands.specs.Bands.{band_of, unband_line, unband_from, content_from, Message, messages_line, messages_from, joined, heard_before, heard, first_texts, without_texts}
 
--- what a line adds, by its band
+-- the item of a line, by its band
 abbrev item_by : Band → List ℕ → Result (Option Item) Refusal
 item_by Empty text = Ok None
 item_by Content text = Ok (Some (line_item (drop 1 text)))
 item_by (Text is_error) text = Ok (unless_empty (text_item is_error) (strip_last 10 (drop 1 text)))
 item_by (Unknown band) text = Err (bad_band band)
 
--- by whether the first byte is a band, and which
+-- by whether the first byte is a band, and which one
 item_cases : (band : ℕ) (text : List ℕ) (b1 b2 b3 b4 : Bool) → unless_empty line_item text ≡ cond b4 None (Some (line_item text))
     → cond b1 (Ok (unless_empty line_item text))
     (cond b2 (Ok (unless_empty (text_item false) (strip_last 10 text)))
@@ -37,7 +37,7 @@ item_at : (text : List ℕ) → item_of banded text ≡ item_by (band_of text) t
 item_at [] = refl
 item_at (band ∷ text) = item_cases band text (eqb band 1) (eqb band 2) (eqb band 3) (eqb (length (band ∷ text)) 1) (content_cases band text)
 
--- a text adds no line, and is heard where it isn't empty
+-- a text is no line, and is reported unless it is empty
 no_line : (is_error : Bool) (text : List ℕ) (rest : Items)
     → (first_lines (with_found (Ok (unless_empty (text_item is_error) text)) rest)).lines ≡ (first_lines rest).lines
 no_line is_error [] rest = refl
@@ -80,7 +80,7 @@ joined_lines v [] end = refl
 joined_lines v (line text ∷ ps) end = ap (λ x. text ++ x) (joined_lines v ps end)
 joined_lines v (mark kind ∷ ps) end = joined_mark (is_stop v kind) kind (record { list = ps; end = end })
 
--- its bytes are those lines, joined
+-- the bytes of the content are these lines, joined
 pub content_items : (v : Protocol) (list : List Piece) (end : Refusal)
     → content_from (unband_from list end).list ≡ joined (first_lines (items_from v banded list end)).lines
 content_items v list end = joined_lines v (unband_from list end).list (unband_from list end).end ∙ ap joined (content_lines v list end)
@@ -98,7 +98,7 @@ texts_mark : (b : Bool) (kind : MessageKind) (items : Items)
 texts_mark true kind items = refl
 texts_mark false kind items = refl
 
--- the messages that are heard are the texts among them
+-- the reported messages are the texts among the banded items
 pub messages_items : (v : Protocol) (list : List Piece) (end : Refusal)
     → heard (messages_from list) ≡ first_texts (items_from v banded list end).list
 messages_items v [] end = refl
@@ -127,7 +127,7 @@ items_mark : (b : Bool) (kind : MessageKind) (content items : Items) → content
 items_mark true kind content items h = ap (with_item (stop_item kind)) h
 items_mark false kind content items h = refl
 
--- the items of the content are the banded ones but for texts
+-- the items of the content are the banded items without texts
 pub content_without_texts : (v : Protocol) (list : List Piece) (end : Refusal) → items_of v plain (unband_from list end)
     ≡ without_texts (items_from v banded list end)
 content_without_texts v [] end = refl

@@ -1,4 +1,5 @@
--- A reader of bands over a reader of banded lines.
+-- A sideband reader over a reader of banded lines. `o` is the state of the sideband reader at the start of the call,
+-- `now` the present state of the reader below.
 use Rattle.std.proofs.Common.{◌≡◌, ℕ, ◌≤◌, ◌⊎◌, inl, inr, Bool, true, false, cond, List, [], ◌∷◌, drop, refl, sym, ap, subst, ◌∙◌, arith, Option, Some, None, IfSome, IsSome, length-drop}
 use Rattle.std.specs.Prelude.{◌&&◌}
 use Rattle.std.specs.Option.{option_map}
@@ -15,7 +16,7 @@ use Rattle.gixp_packetline.specs.Reading.{Reading, TakesLine, ShowsLine, AtStop,
 use Rattle.gixp_sidebands.specs.Bands.{band_of, is_content, band_refusal, IsPassed, unband_line, unband_from, unband, unband_behind, banded_reading, is_begun}
 use Rattle.gixp_sidebands.proofs.PieceLemmas.{mark_not_gives}
 
--- what comes next in banded pieces, and then in their content
+-- the content of banded packet lines, by the next line
 pub unband_gives : (v : Protocol) (list : List Piece) (end : Refusal) (text : List ℕ) (q : Pieces) → next_from v list end ≡ gives text q
     → unband_from list end ≡ unband_line (band_of text) text (unband q)
 unband_gives v [] end text q h = cc
@@ -63,18 +64,18 @@ unband_refuses v (mark k ∷ ps) end x h = at (is_stop v k) h
     at true e = cc
     at false e = e
 
--- what is seen of a reader with no packet begun
+-- the state of a sideband reader without an open packet
 abbrev pub seen : GName → Reading → Reading
 seen name r = banded_reading false name r
 
--- lines that are no content were taken, since there was nothing to be told at the front
+-- lines that are not content were taken; no error was sticky before
 pub record Moved (o now : Reading) : Type 0 where
   pub refused : o.refused ≡ None
   pub unpeeked : o.peeked ≡ false
   pub peeked : now.peeked ≡ false
   pub running : o.stopped ≡ None
 
--- what was seen as `o` is still to come
+-- the content to come is the same as at the start
 pub record Skipping (o : Reading) (name : GName) (now : Reading) : Type 0 where
   pub to_come : IfSome o.to_come (λ p. option_map unband now.to_come ≡ Some p)
   pub stopped : now.stopped ≡ o.stopped
@@ -130,7 +131,7 @@ content_next (Some p) (Some r) b v w text e k h n =
     let d : p ≡ with_piece (line (drop 1 text)) (unband n.0) = sym same ∙ c ∙ ap (λ x. unband_line x text (unband n.0)) k in
     (unband n.0, ap (option_map unband) n.1 ∙ ap Some same, ap (next_of v) d)
 
--- and is taken above with it
+-- content that is taken below is taken above
 taken_next : (o a b : Option Pieces) (v w : Protocol) (shown text : List ℕ) → w ≡ v → band_of text ≡ Content
     → IfSome o (λ p. (q : Pieces) × (option_map unband a ≡ Some p) × (next_of v p ≡ gives shown q))
     → IfSome a (λ p. (q : Pieces) × (b ≡ Some q) × (next_of w p ≡ gives text q))
@@ -234,7 +235,7 @@ passed_false (Unknown b) z = absurd z
 passed_false Empty z = refl
 passed_false (Text b) z = refl
 
--- nothing was refused above where nothing is
+-- if no error is sticky now, none was at the start
 calm_before : (o now : Reading) (name : GName) → Skipping o name now → (seen name now).refused ≡ None → o.refused ≡ None
 calm_before o now name s n = at s.moved
   where
@@ -339,7 +340,7 @@ refuses_band o now new name band s h k =
     at false e = let P : Option Refusal → Type 0 = λ o. IfSome o (λ y. y ≡ bad_band band) in
         subst P (sym (refused_above name now None (λ p. absurd (let q = e in cc)) (λ _. h.sound))) tt
 
--- nothing stood at the front of what was seen
+-- no error was sticky at the start
 pub calm : (o now mid : Reading) (name : GName) → Skipping o name now → ShowsLine now mid → IsPassed (band_of mid.line) → o.refused ≡ None
 calm o now mid name s h k = calm_before o now name s (refused_above name now None
     (λ p. same_band band_refusal now mid (band_of mid.line) h refl p ∙ passed_none (band_of mid.line) k) (λ _. h.sound))
@@ -366,7 +367,7 @@ skips_line o now mid new name s h k t = record {
   });
 }
 
--- a text was told, its packet taken, and the interrupt said so
+-- a text was reported, its packet taken, and the interrupt returned true
 pub interrupt_faults : (o now mid new : Reading) (name : GName) → Skipping o name now → ShowsLine now mid → IsPassed (band_of mid.line)
     → TakesLine mid new → Faults o (seen name new) interrupted
 interrupt_faults o now mid new name s h k t =
@@ -388,7 +389,7 @@ interrupt_faults o now mid new name s h k t =
       };
     }
 
--- memory ran out for a text: its line is still to come below
+-- an allocation failed for a text; its line is still to come below
 pub text_faults : (o now new : Reading) (name : GName) → Skipping o name now → ShowsLine now new → IsPassed (band_of new.line)
     → Faults o (seen name new) memory
 text_faults o now new name s h k =
@@ -525,7 +526,7 @@ skipping-init true name name' r new e t f = rw e (skipping-behind name r new (t 
 skipping-init false name name' r new e t f =
     rw e (subst (λ (x : Reading). Skipping (seen name r) name x) (sym (f refl)) (skipping-start name r))
 
--- what is seen with no packet begun, through a reference of the same name
+-- the state without an open packet doesn't depend on the reference to the reader below
 pub seen_by : (place x : Option ℕ) (name name' : GName) (r : Reading) → place ≡ x → is_begun x ≡ false → name' ≡ name
     → banded_reading (is_begun place) name' r ≡ seen name r
 seen_by place x name name' r e z n = ap (λ y. banded_reading (is_begun y) name' r) e ∙ ap (λ b. banded_reading b name' r) z

@@ -1,4 +1,4 @@
--- Bytes of band 1 that are returned.
+-- The bytes of band 1 that calls return.
 use Rattle.std.proofs.Common.{◌≡◌, ℕ, ◌+◌, ◌-◌, ◌<◌, ◌≤◌, ◌⊎◌, Bool, true, false, List, [], ◌∷◌, ◌++◌, length, drop, take, refl, sym, ap, ◌∙◌, arith, Option, Some, None, IfSome, Ok, min, inl, inr, subst, length-append, take-append-drop, take_all, length-drop, append-nil, IsSome}
 use Rattle.std.specs.Prelude.{◌&&◌, nat_lt, is_some}
 use Rattle.std.proofs.lemmas.List.{drop-drop, take-append-le, drop-append-le, length-take-le}
@@ -31,7 +31,7 @@ content_is (Unknown b) h = cc
 content_is Empty h = cc
 content_is (Text b) h = cc
 
--- what a place says of the line that is peeked at
+-- the facts about an open packet
 pub record HoldsLine (n : ℕ) (r : Reading) : Type 0 where
   pub peeked : r.peeked ≡ true
   pub content : band_of r.line ≡ Content
@@ -57,7 +57,7 @@ content_line k text rest e = ap (λ x. content_from (unband_line x text rest).li
 messages_skip : (k : Band) (text : List ℕ) (rest : List Message) → k ≡ Content → messages_line k text rest ≡ rest
 messages_skip k text rest e = ap (λ x. messages_line x text rest) e
 
--- content at the front is that line's and what is after it
+-- content begins with the first line, if that is content
 content_front : (list : List Piece) (end : Refusal) (text : List ℕ) → front_line list ≡ text → band_of text ≡ Content
     → (rest : List ℕ) × (content_from (unband_from list end).list ≡ drop 1 text ++ rest)
 content_front [] end text f k = absurd (let e : Empty ≡ Content = ap band_of f ∙ k in cc)
@@ -68,7 +68,7 @@ content_front (line t ∷ ps) end text f k = (
       ∙ ap (λ x. drop 1 x ++ content_from (unband_from ps end).list) f,
 )
 
--- and that of pieces whose first is that line
+-- the same for the next line
 pub content_gives : (v : Protocol) (list : List Piece) (end : Refusal) (text : List ℕ) (q : Pieces)
     → next_from v list end ≡ gives text q → band_of text ≡ Content
     → (content_from (unband_from list end).list ≡ drop 1 text ++ content_of q) × (messages_from list ≡ messages_of q)
@@ -84,7 +84,7 @@ content_gives v (line t ∷ ps) end text q h k =
       messages_skip (band_of t) t (messages_from ps) (ap band_of e1 ∙ k) ∙ ap messages_of e2,
     )
 
--- a part of a front is returned
+-- part of the first bytes is returned
 split_front : (all xs rest : List ℕ) (n k : ℕ) → all ≡ xs ++ rest → n + k ≤ length xs → drop n all ≡ take k (drop n xs) ++ drop (n + k) all
 split_front all xs rest n k e h =
     let a : drop n all ≡ drop n xs ++ rest = ap (drop n) e ∙ drop-append-le n xs rest (omega arith) in
@@ -92,7 +92,7 @@ split_front all xs rest n k e h =
     ∙ take-append-le k (drop n xs) rest (omega (arith, length-drop n xs)) in
     sym (take-append-drop k (drop n all)) ∙ ap (λ x. x ++ drop k (drop n all)) b ∙ ap (λ x. take k (drop n xs) ++ x) (drop-drop k n all)
 
--- all of a front is returned
+-- all of the first bytes are returned
 whole_front : (all xs rest : List ℕ) (n k : ℕ) → all ≡ xs ++ rest → n ≤ length xs → length xs ≤ n + k → drop n all ≡ take k (drop n xs)
     ++ rest
 whole_front all xs rest n k e h more =
@@ -101,7 +101,7 @@ whole_front all xs rest n k e h more =
 tail_of : (n : ℕ) (text : List ℕ) → drop n (drop 1 text) ≡ drop (n + 1) text
 tail_of n text = drop-drop n 1 text ∙ ap (λ i. drop i text) (omega arith)
 
--- fewer than all bytes at hand
+-- not all bytes of the open packet are returned
 pub hands_part : (n k : ℕ) (r : Reading) → is_held (Some n) r ≡ true → k < length r.line - n - 1
     → HandsOut (Some n) r (take k (shown (Some n) r)) (Some (n + k)) r
 hands_part n k r held less =
@@ -142,7 +142,7 @@ hands_part n k r held less =
               ∙ ap (λ x. take k x ++ drop (n + k) (content_of p)) (tail_of n r.line),
         )
 
--- all bytes at hand
+-- all bytes of the open packet are returned
 pub hands_all : (n k : ℕ) (r new : Reading) → is_held (Some n) r ≡ true → length r.line - n - 1 ≤ k → TakesLine r new
     → HandsOut (Some n) r (take k (shown (Some n) r)) None new
 hands_all n k r new held more t =
@@ -208,7 +208,7 @@ first_gives v (line t ∷ ps) end text q h = cc
 first_gives v (mark kind ∷ ps) end text q h =
     absurd (mark_not_gives (is_stop v kind) kind (record { list = ps; end = end }) q unexpected_frame text h)
 
--- what was peeked at is the first of what is to come
+-- a line that was peeked at is the first packet line to come
 pub shows_first : (o : Option Pieces) (now new : Reading) → IfSome o (λ p. (q : Pieces) × (now.to_come ≡ Some q)) → ShowsLine now new
     → IfSome o (λ p. (q : Pieces) × (new.to_come ≡ Some q) × (front_line q.list ≡ new.line))
 shows_first None now new h s = tt
@@ -226,7 +226,7 @@ stops_empty v [] end kind q h = refl
 stops_empty v (line t ∷ ps) end kind q h = cc
 stops_empty v (mark k ∷ ps) end kind q h = refl
 
--- a line of content that is peeked at, as bytes at hand
+-- a content line that was peeked at becomes the open packet
 shows_content_at : (old new : Side) → old.place ≡ None → new.place ≡ Some 0 → new.fault ≡ None → is_held new.place new.reading ≡ true
     → ShowsFirst old.reading new.reading (Ok true)
     → ShowsLine (banded_reading false old.name old.reading) (banded_reading false new.name new.reading) → ShowsContent old new
@@ -254,7 +254,7 @@ shows_content_at old new o n f held first h =
         let u : unband k.0 ≡ unband p = let x : Some (unband k.0) ≡ Some (unband p) = sym (ap (option_map unband) k.1) ∙ m.1 in cc in
         rw e (k.0, k.1, k.2, sym (ap (λ x. content_from x.list) u))
 
--- where no packet is at hand any more, it is the first of what is to come
+-- without an open packet, any packet line may be the first
 unopened_passes : (old new : Side) (bytes : List ℕ) → new.place ≡ None
     → IfSome old.reading.to_come (λ p. (q : Pieces) × (new.reading.to_come ≡ Some q)
     × (side_content old p ≡ bytes ++ side_content new q)) → Passes old new bytes
@@ -271,7 +271,7 @@ known_below : (o : Option Pieces) (y : Pieces) → option_map unband o ≡ Some 
 known_below None y h = absurd (let x = h in cc)
 known_below (Some q) y h = (q, refl, let x = h in cc)
 
--- no content is left, and none was
+-- no content is left, and there was none before
 empty_passes : (old new : Side) → old.place ≡ None → new.place ≡ None → IfSome old.reading.to_come (λ p. side_content old p ≡ [])
     → IfSome (option_map unband old.reading.to_come) (λ p. (y : Pieces) × (option_map unband new.reading.to_come ≡ Some y)
     × ((q : Pieces) → unband q ≡ y → content_left None new.reading.stopped q ≡ []))
@@ -289,7 +289,6 @@ at_stop : (s : Option MessageKind) (q : Pieces) → IsSome s → content_left No
 at_stop None q h = absurd (let x = h in cc)
 at_stop (Some kind) q h = refl
 
--- at a stop
 stop_behind : (old new : Reading) → AtStop old new → IfSome old.to_come (λ p. (y : Pieces) × (new.to_come ≡ Some y)
     × ((q : Pieces) → unband q ≡ y → content_left None new.stopped q ≡ []))
 stop_behind old new (inl h) = at old.to_come h.stays.to_come
@@ -339,14 +338,14 @@ ends_content_at old new o n f h =
     content (Some p) None (inr h) = let n = h.1.next in stops_empty old.reading.version (unband p).list (unband p).end h.0 n.0 n.2
     content (Some p) (Some k) h = refl
 
--- a call for lines, as one that sees to it that content is at hand
+-- a call for lines opens the next packet of content
 pub fills_by : (old new : Side) (more : Bool) → old.place ≡ None → new.place ≡ place_after (Ok more) → new.fault ≡ None
     → is_held new.place new.reading ≡ true
     → ShowsFirst old.reading new.reading (Ok more) → Peeks (side_reading old) (side_reading new) (Ok more) → FillsContent old new (Ok more)
 fills_by old new true o n f held first h = shows_content_at old new o n f held first (rw (o, n) at h)
 fills_by old new false o n f held first h = ends_content_at old new o n f h
 
--- content that was at hand is returned
+-- bytes of the open packet are returned
 pub reads_bytes : (old mid new : Side) (n : ℕ) (rest buf buf' : List ℕ) → ShowsContent old mid
     → HandsOut mid.place mid.reading (take n (shown mid.place mid.reading)) new.place new.reading
     → new.name ≡ mid.name → new.fault ≡ mid.fault → rest ≡ shown mid.place mid.reading → n ≡ min (length rest) (length buf)
@@ -398,7 +397,7 @@ refuses_empty v [] end e h = refl
 refuses_empty v (line t ∷ ps) end e h = cc
 refuses_empty v (mark k ∷ ps) end e h = refl
 
--- a fault leaves the content that is to come
+-- a transient error leaves the content to come as it is
 fault_passes : (old new : Side) (x : Refusal) → old.place ≡ None → new.place ≡ None
     → Faults (banded_reading false old.name old.reading) (banded_reading false new.name new.reading) x → Passes old new []
 fault_passes old new x o n h =
@@ -415,7 +414,7 @@ fault_passes old new x o n h =
         let u : unband q ≡ unband p = let y : Some (unband q) ≡ Some (unband p) = k in cc in
         rw (e, g) (q, refl, sym (ap (λ y. content_from y.list) u))
 
--- nothing is left behind a refusal that stands
+-- nothing is left after a sticky error
 refused_empty : (s : Option MessageKind) (x : Refusal) (q : Pieces) → s ≡ None → unband q ≡ no_pieces x → content_left None s q ≡ []
 refused_empty s x q e u = rw e (ap (λ y. content_from y.list) u)
 
@@ -448,7 +447,7 @@ broken_passes old new x n h = unopened_passes old new (lost_of old old.reading.t
               ∙ ap (λ y. side_content old p ++ y) (sym (refused_empty new.reading.stopped x f.0 h.stopped f.2)),
         )
 
--- a refusal of the stream comes after all content
+-- an error of the stream comes after all content
 ends_at : (old new : Side) (x : Refusal) → old.place ≡ None → Refuses (side_reading old) (side_reading new) x
     → IfSome old.reading.to_come (λ p. side_content old p ≡ [])
 ends_at old new x o r = rw o (by (rw o at r))
@@ -463,11 +462,11 @@ ends_at old new x o r = rw o (by (rw o at r))
         → IfSome old.reading.to_come (λ p. content_left None old.reading.stopped p ≡ [])
     by h = at old.reading.to_come (side_reading new).to_come old.reading.stopped h.running h.next
 
--- a read that failed as at the end didn't leave what is to come
+-- a read that failed with `UnexpectedEof` is not a transient error
 not_both : (old new : Reading) (x : Refusal) → x ≡ io UnexpectedEof → Faults old new x → ⊥
 not_both old new x e h = absurd (let y : is_end UnexpectedEof ≡ false = (subst (IsFault old new) e h.fault).0 in cc)
 
--- a call for lines that is refused, as one that sees to it that content is at hand
+-- a failed call for lines is a failed call for content
 pub refuses_by : (old new : Side) (x : Refusal) (e : io_error) → old.place ≡ None → new.place ≡ None → new.fault ≡ Some x
     → error_kind e ≡ io_kind x → Fails (side_reading old) (side_reading new) x
     → RefusesContent old new e

@@ -1,4 +1,4 @@
--- What ends the content, by what a call does.
+-- How the content ends, call by call.
 use Rattle.std.proofs.Common.{◌≡◌, ◌^◌, ◌-◌, ◌<◌, inl, inr, Bool, true, false, cond, List, [], ◌∷◌, refl, sym, ap, ◌∙◌, arith, Option, Some, None, IfSome}
 use Rattle.std.specs.Option.{option_map}
 use Rattle.gixp_packetline.specs.declared.protocol.Protocol.{Protocol}
@@ -12,12 +12,12 @@ use Rattle.std.specs.Borrow.{GName}
 use Rattle.gixp_sidebands.specs.Bands.{band_of, unband_line, unband, side_reading, Side, end_left, KeepsEnd, KeepsEndUncounted}
 use Rattle.gixp_sidebands.proofs.BandLemmas.{unband_gives, seen}
 
--- what ends the lines ahead is the same
+-- the end of the lines to come is unchanged
 abbrev KeepsLines : Reading → Reading → Type 0
 KeepsLines old new =
     IfSome old.to_come (λ p. (q : Pieces) × (new.to_come ≡ Some q) × ((lines_ahead new q).ending ≡ (lines_ahead old p).ending))
 
--- the lines that a reader of bands sees with no packet begun are the content
+-- the lines of a sideband reader without an open packet are the content
 above : (name name' : GName) (old new : Reading) → KeepsLines (seen name old) (seen name' new) → KeepsEnd old new
 above name name' old new k = at old.to_come new.to_come k
   where
@@ -30,7 +30,7 @@ above name name' old new k = at old.to_come new.to_come k
         let u : unband q ≡ k.0 = let x = k.1 in cc in
         (q, refl, ap (λ y. (lines_ahead new y).ending) u ∙ k.2)
 
--- of readers that are at no stop
+-- for readers that are not at a stop
 running : (old new : Reading) → old.stopped ≡ None → new.stopped ≡ None → new.version ≡ old.version
     → IfSome old.to_come (λ p. (q : Pieces) × (new.to_come ≡ Some q)
     × ((lines_of old.version q).ending ≡ (lines_of old.version p).ending)) → KeepsLines old new
@@ -54,7 +54,7 @@ shown_keeps old new h = running old new h.running h.stopped h.version (at old.to
     at None k = tt
     at (Some p) k = (p, k.1, refl)
 
--- the stop that comes next ends the lines
+-- a stop that is next ends the lines
 pub ends_stop : (v : Protocol) (list : List Piece) (end : Refusal) (kind : MessageKind) (q : Pieces) → next_from v list end ≡ stops kind q
     → (lines_from v list end).ending ≡ stop kind q
 ends_stop v [] end kind q h = cc
@@ -72,7 +72,7 @@ ends_stop v (mark k ∷ ps) end kind q h = at (is_stop v k) h
         ap (λ x. stop x rest) e1 ∙ ap (stop kind) e2
     at false e = cc
 
--- and so does a refusal
+-- an error that is next ends the lines
 pub ends_refused : (v : Protocol) (list : List Piece) (end x : Refusal) → next_from v list end ≡ refuses x
     → (lines_from v list end).ending ≡ refusal x
 ends_refused v [] end x h = let e : end ≡ x = cc in ap refusal e
@@ -119,7 +119,7 @@ refused_keeps old new x h = running old new h.running h.stopped h.version (at ol
     at None k = tt
     at (Some p) k = (no_pieces x, k.0, sym (ends_refused old.version p.list p.end x k.1))
 
--- a read that failed as at the end was counted
+-- a read that failed with `UnexpectedEof` was counted
 broken_counts : (old new : Reading) (x : Refusal) → BreaksOff old new x → new.failures ≡ old.failures → new.failures < 2 ^ 64 - 1 → ⊥
 broken_counts old new x h e f = let r = h.failures in omega arith
 
@@ -130,11 +130,9 @@ module _ (old new : Side) (o : old.place ≡ None) (n : new.place ≡ None) wher
   abbrev after : Reading
   after = seen new.name new.reading
 
-  -- a stop at which a reader of bands is
   pub stop_keeps_end : AtStop (side_reading old) (side_reading new) → KeepsEnd old.reading new.reading
   stop_keeps_end h = above old.name new.name old.reading new.reading (stopped_keeps before after (rw (o, n) at h))
 
-  -- a refusal
   pub refusal_keeps_end : (x : Refusal) → Fails (side_reading old) (side_reading new) x → KeepsEndUncounted old.reading new.reading
   refusal_keeps_end x h = by (rw (o, n) at h)
     where
@@ -144,11 +142,9 @@ module _ (old new : Side) (o : old.place ≡ None) (n : new.place ≡ None) wher
           (stayed_keeps before after f.stays.stopped f.stays.version f.stays.to_come)
       by (inr (inr b)) = λ u. absurd (broken_counts before after x b u.0 u.1)
 
--- content that is peeked at
 pub shown_keeps_end : (name name' : GName) (old new : Reading) → ShowsLine (seen name old) (seen name' new) → KeepsEnd old new
 shown_keeps_end name name' old new h = above name name' old new (shown_keeps (seen name old) (seen name' new) h)
 
--- content that is taken
 pub taken_keeps_end : (old new : Reading) → band_of old.line ≡ Content → old.peeked ≡ true → TakesLine old new → KeepsEnd old new
 taken_keeps_end old new k p' t = at old.to_come t.next
   where

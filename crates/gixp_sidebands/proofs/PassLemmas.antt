@@ -1,4 +1,4 @@
--- Content that passes, piece by piece.
+-- Bytes of content that are passed on, piece by piece.
 use Rattle.std.proofs.Common.{◌≡◌, ℕ, List, [], ◌++◌, refl, ap, sym, ◌∙◌, subst, Option, Some, None}
 use Rattle.std.proofs.lemmas.List.{append_assoc}
 use Rattle.std.specs.Prelude.{IfSome}

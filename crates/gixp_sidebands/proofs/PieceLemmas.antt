@@ -1,4 +1,4 @@
--- Where the next line of a stream stands.
+-- A special packet is not a line.
 use Rattle.std.proofs.Common.{◌≡◌, Bool, true, false, cond, List, ℕ}
 use Rattle.gixp_packetline.specs.declared.protocol.MessageKind.{MessageKind}
 use Rattle.gixp_packetline.specs.Pieces.{Refusal, Pieces}

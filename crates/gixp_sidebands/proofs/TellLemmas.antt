@@ -1,4 +1,4 @@
--- What bands 2 and 3 tell, call by call.
+-- The messages of bands 2 and 3, call by call of the reader.
 use Rattle.std.proofs.Common.{◌≡◌, ℕ, inl, inr, Bool, true, false, List, [], ◌∷◌, ◌++◌, refl, sym, ap, subst, ◌∙◌, Option, Some, None, IfSome, IsSome, Err, append_assoc}
 use Rattle.std.specs.declared.io.ErrorKind.{ErrorKind}
 use Rattle.std.specs.declared.io.ErrorKind.TheVariants.{UnexpectedEof}
@@ -16,7 +16,7 @@ use Rattle.gixp_sidebands.specs.Telling.{Listener, SparesThen, TellsThen, Tells,
 use Rattle.gixp_sidebands.proofs.PieceLemmas.{mark_not_gives}
 use Rattle.gixp_sidebands.proofs.ContentLemmas.{holds_line, content_gives}
 
--- the messages by what comes next
+-- the messages, by the next line
 messages_gives : (v : Protocol) (list : List Piece) (end : Refusal) (text : List ℕ) (q : Pieces) → next_from v list end ≡ gives text q
     → messages_from list ≡ messages_line (band_of text) text (messages_of q)
 messages_gives v [] end text q h = cc
@@ -50,7 +50,7 @@ at_stop : (s : Option MessageKind) (p : Pieces) → IsSome s → messages_left s
 at_stop None p h = absurd (let x = h in cc)
 at_stop (Some kind) p h = refl
 
--- what is known of a value after an option that is known
+-- a property of a known value
 known_at : (o : Option Pieces) (q : Pieces) (P : Pieces → Type 0) → o ≡ Some q → IfSome o P → P q
 known_at None q P e h = absurd (let x = e in cc)
 known_at (Some p) q P e h = let same : p ≡ q = cc in subst P same h
@@ -61,7 +61,7 @@ module _ {P I : Type 0} (hears spares : P → Bool → List ℕ → P → Type 0
   tells-more [] m a b c h t = (c, subst (λ (x : Listener P I). TellsThen hears spares says m false x c) h t, refl)
   tells-more (n ∷ ms) m a b c h t = (h.0, h.1, tells-more ms m h.0 b c h.2 t)
 
-  -- what was told so far, and is still to come from `now`, is so from `new`
+  -- the messages reported so far and those to come, one step later
   step : (o now new : Reading) (a b c : Listener P I) → Told hears spares says true None o now a b
       → ((p q : Pieces) → ToldTo hears spares says o now a b p q → (r : Pieces) × ToldTo hears spares says o new a c p r)
       → Told hears spares says true None o new a c
@@ -79,7 +79,6 @@ module _ {P I : Type 0} (hears spares : P → Bool → List ℕ → P → Type 0
       at None e = tt
       at (Some p) e = (p, record { to_come = e; told = []; messages = refl; tells = refl })
 
-  -- a packet of content is taken
   pub told-content : (o now new : Reading) (a b : Listener P I) → Told hears spares says true None o now a b
       → band_of now.line ≡ Content → now.peeked ≡ true → TakesLine now new
       → Told hears spares says true None o new a b
@@ -96,7 +95,6 @@ module _ {P I : Type 0} (hears spares : P → Bool → List ℕ → P → Type 0
         },
       ))
 
-  -- at the start of a call
   pub told-init : (place : Option ℕ) (r new : Reading) (a b : Listener P I) → b ≡ a → is_held place r ≡ true
       → (is_begun place ≡ true → TakesLine r new) → (is_begun place ≡ false → new ≡ r)
       → Told hears spares says true None r new a b
@@ -115,7 +113,6 @@ module _ {P I : Type 0} (hears spares : P → Bool → List ℕ → P → Type 0
           by false e = stays (f e)
           by true e = let l = holds_line n r h in told-content r r new a a (told-start r a) l.content l.peeked (t e)
 
-  -- a line is peeked at
   pub told-shown : (o now new : Reading) (a b : Listener P I) → Told hears spares says true None o now a b → ShowsLine now new
       → Told hears spares says true None o new a b
   told-shown o now new a b h s = step o now new a b b h (λ p q k. (
@@ -129,7 +126,6 @@ module _ {P I : Type 0} (hears spares : P → Bool → List ℕ → P → Type 0
     },
   ))
 
-  -- a line is taken
   told-taken : (o now mid new : Reading) (p q : Pieces) → now.to_come ≡ Some q → ShowsLine now mid → TakesLine mid new
       → (r : Pieces) × (new.to_come ≡ Some r) × (messages_left now.stopped q ≡ messages_line (band_of mid.line) mid.line
       (messages_left new.stopped r))
@@ -144,7 +140,7 @@ module _ {P I : Type 0} (hears spares : P → Bool → List ℕ → P → Type 0
             ∙ ap (messages_line (band_of mid.line) mid.line) (sym (at_none new.stopped n.0 t.stopped)),
       )
 
-  -- a line that tells nothing is taken
+  -- a line without a message is taken
   pub told-empty : (o now mid new : Reading) (a b : Listener P I) → Told hears spares says true None o now a b → ShowsLine now mid
       → band_of mid.line ≡ Empty → TakesLine mid new
       → Told hears spares says true None o new a b
@@ -160,7 +156,7 @@ module _ {P I : Type 0} (hears spares : P → Bool → List ℕ → P → Type 0
         },
       ))
 
-  -- a message is told and its packet taken
+  -- a message is reported and its packet taken
   pub told-text : (o now mid new : Reading) (a b c : Listener P I) (is_error : Bool) → Told hears spares says true None o now a b
       → ShowsLine now mid → band_of mid.line ≡ Text is_error → TakesLine mid new
       → TellsThen hears spares says (message_in is_error mid.line) false b c → Told hears spares says true None o new a c
@@ -178,7 +174,7 @@ module _ {P I : Type 0} (hears spares : P → Bool → List ℕ → P → Type 0
         },
       ))
 
-  -- a message is told, its packet taken, and the interrupt says to stop
+  -- a message is reported, its packet taken, and the interrupt returns true
   told-until : (plain : Bool) (o now mid new : Reading) (a b c : Listener P I) (is_error : Bool)
       → Told hears spares says true None o now a b → ShowsLine now mid → band_of mid.line ≡ Text is_error → TakesLine mid new
       → TellsThen hears spares says (message_in is_error mid.line) true b c → Told hears spares says plain (Some interrupted) o new a c
@@ -234,7 +230,7 @@ module _ {P I : Type 0} (hears spares : P → Bool → List ℕ → P → Type 0
             },
           )
 
-  -- a packet was told or not
+  -- a packet is reported, or its report fails
   pub told-tell : (X : Type 0) (plain : Bool) (o now mid new : Reading) (a b c : Listener P I) (is_error : Bool) (e : Error)
       → Told hears spares says true None o now a b → ShowsLine now mid → band_of mid.line ≡ Text is_error
       → TellsPacket hears spares says {X = X} (message_in is_error mid.line) mid new b c (Err e)
@@ -250,7 +246,6 @@ module _ {P I : Type 0} (hears spares : P → Bool → List ℕ → P → Type 0
   told-tell X plain o now mid new a b c is_error NotUtf8 h s k t = absurd t
   told-tell X plain o now mid new a b c is_error (BadBand x) h s k t = absurd t
 
-  -- nothing is lost
   told-stays : (o now new : Reading) (a b : Listener P I) → Told hears spares says true None o now a b → Stays now new
       → Told hears spares says true None o new a b
   told-stays o now new a b h s = step o now new a b b h (λ p q k. (
@@ -263,7 +258,6 @@ module _ {P I : Type 0} (hears spares : P → Bool → List ℕ → P → Type 0
     },
   ))
 
-  -- a stop is told
   pub told-stop : (o now new : Reading) (a b : Listener P I) → Told hears spares says true None o now a b → AtStop now new
       → Told hears spares says true None o new a b
   told-stop o now new a b h (inl s) = told-stays o now new a b h s.stays
@@ -295,7 +289,7 @@ module _ {P I : Type 0} (hears spares : P → Bool → List ℕ → P → Type 0
         },
       ))
 
-  -- whatever the refusal is that left what is to come
+  -- an error that leaves the packet lines to come
   pub told-kept : (plain : Bool) (e : Refusal) (o new : Reading) (a b : Listener P I) → (e ≡ interrupted → plain ≡ false)
       → Told hears spares says true None o new a b → Told hears spares says plain (Some e) o new a b
   told-kept plain e o new a b f h = at o.to_come h
@@ -320,7 +314,7 @@ module _ {P I : Type 0} (hears spares : P → Bool → List ℕ → P → Type 0
       at None h = tt
       at (Some p) h = by e f p h
 
-  -- the stream broke off
+  -- a read failed with `UnexpectedEof`
   broken : (plain : Bool) (kind : ErrorKind) (o now new : Reading) (a b : Listener P I) → is_end kind ≡ true
       → Rose o.failures new.failures → Told hears spares says true None o now a b
       → Told hears spares says plain (Some (io kind)) o new a b
@@ -336,7 +330,7 @@ module _ {P I : Type 0} (hears spares : P → Bool → List ℕ → P → Type 0
   not_plain false new e f i = refl
   not_plain true new e f i = absurd (subst (IsPlain new) i (f refl))
 
-  -- the reader below was refused
+  -- the reader below fails
   pub told-fails : (plain : Bool) (e : Refusal) (o now new : Reading) (a b : Listener P I) → now.failures ≡ o.failures
       → Told hears spares says true None o now a b → Fails now new e → (plain ≡ true → IsPlain new e)
       → Told hears spares says plain (Some e) o new a b
@@ -356,13 +350,13 @@ module _ {P I : Type 0} (hears spares : P → Bool → List ℕ → P → Type 0
       at interrupted i = absurd (let j = i in cc)
       at memory i = absurd (let j = i in cc)
 
-  -- a band that there isn't
+  -- a line without a band
   pub told-band : (plain : Bool) (band : ℕ) (o now new : Reading) (a b : Listener P I) → Told hears spares says true None o now a b
       → ShowsLine now new → Told hears spares says plain (Some (bad_band band)) o new a b
   told-band plain band o now new a b h s =
       told-kept plain (bad_band band) o new a b (λ e. absurd (let i = e in cc)) (told-shown o now new a b h s)
 
-  -- what is to come is known where it was
+  -- the packet lines to come are known if they were known before
   pub told-known : (o now : Reading) (a b : Listener P I) → Told hears spares says true None o now a b
       → IfSome o.to_come (λ p. (q : Pieces) × (now.to_come ≡ Some q))
   told-known o now a b h = at o.to_come h

@@ -1,4 +1,4 @@
--- Calls after one another that keep what ends the content (gitprotocol-pack, "Packfile Data").
+-- Several calls that don't change how the content ends (gitprotocol-pack, "Packfile Data").
 use Rattle.std.proofs.Common.{subst, ◌∙◌, refl}
 use Rattle.std.specs.Prelude.{◌≡◌, Option, Some, None, IfSome}
 use Rattle.gixp_packetline.specs.Pieces.{Pieces}
@@ -13,7 +13,7 @@ end-stays r = at r.to_come
     at None = tt
     at (Some p) = (p, refl, refl)
 
--- it is kept, and then kept again
+-- two such calls after each other
 pub end-joins : (a b c : Reading) → KeepsEnd a b → KeepsEnd b c → KeepsEnd a c
 end-joins a b c h k = at a.to_come b.to_come h k
   where

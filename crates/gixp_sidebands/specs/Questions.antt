@@ -1,4 +1,4 @@
--- Who is asked after each packet of bands 2 and 3, and what it says (gitprotocol-pack, "Packfile Data").
+-- The calls of the interrupt, one after each packet of bands 2 and 3 (gitprotocol-pack, "Packfile Data").
 use Rattle.std.specs.Prelude.{◌≡◌, ℕ, ◌+◌, ◌-◌, ◌^◌, ◌≤◌, min, ◌⊎◌, Bool, true, false, List, [], ◌∷◌, ◌++◌, length, Some, IfSome}
 use Rattle.std.specs.declared.io.ErrorKind.TheVariants.{UnexpectedEof}
 use Rattle.gixp_packetline.specs.Pieces.{io, unexpected_frame, Piece, line, mark, Pieces, no_pieces}
@@ -15,19 +15,18 @@ abbrev pub is_text : Band → Bool
 is_text (Text is_error) = true
 is_text _ = false
 
--- how many of these pieces are packets of bands 2 and 3
+-- the number of packets of bands 2 and 3 among these packet lines
 abbrev pub texts_in : List Piece → ℕ
 texts_in [] = 0
 texts_in (line text ∷ ps) = one_if (is_text (band_of text)) + texts_in ps
 texts_in (mark kind ∷ ps) = texts_in ps
 
--- what is left of the pieces to come: these, but at a frame that has no place nothing, and at a read that failed as at the end, which
--- is counted
+-- the packet lines still to come: the rest; or none after an unexpected packet, or after a counted read failure with `UnexpectedEof`
 abbrev pub IsLeft : Reading → Reading → Pieces → Pieces → Type 0
 IsLeft old new rest left = (left ≡ rest) ⊎ (left ≡ no_pieces unexpected_frame)
     ⊎ ((left ≡ no_pieces (io UnexpectedEof)) × (IsUncounted old new → ⊥))
 
--- these pieces came first and were taken, of which as many are packets of bands 2 and 3
+-- the packet lines that came first were taken; this many of them are packets of bands 2 and 3
 pub record TakesTexts (count : ℕ) (old new : Reading) (p : Pieces) : Type 0 where
   pub taken : List Piece
   pub rest : Pieces
@@ -37,24 +36,25 @@ pub record TakesTexts (count : ℕ) (old new : Reading) (p : Pieces) : Type 0 wh
   pub to_come : new.to_come ≡ Some left
   pub is_left : IsLeft old new rest left
 
--- failures are counted up to the greatest value
+-- the count of failures didn't fall, up to its greatest value
 abbrev pub NoFewer : Reading → Reading → Type 0
 NoFewer old new = min old.failures (2 ^ 64 - 1) ≤ new.failures
 
 module _ {I : Type 0} (says : I → Bool → I → Type 0) where
-  -- it was asked again and again, said to go on and was this after each time, and the last time it said to stop where this is true
+  -- the interrupt was called once for each of these states and returned false; if the flag is true, it was called once
+  -- more and returned true
   abbrev pub SaysEach : List I → Bool → I → I → Type 0
   SaysEach [] false a b = b ≡ a
   SaysEach [] true a b = says a true b
   SaysEach (x ∷ xs) stops a c = says a false x × SaysEach xs stops x c
 
-  -- it was asked once after each packet of bands 2 and 3 that was taken, and said to stop after the last of them, or after none
+  -- the interrupt was called once after each packet of bands 2 and 3 that was taken; if the flag is true, its last call returned true
   pub record Asked (stops : Bool) (old new : Reading) (a b : I) : Type 0 where
     pub after : List I
     pub said : SaysEach after stops a b
     pub failures : NoFewer old new
     pub each : IfSome old.to_come (TakesTexts (length after + one_if stops) old new)
 
-  -- the same; and a reader below that isn't plain may have been told to stop by another
+  -- the same; but if the reader below isn't plain, its own interrupt may have returned true
   abbrev pub AskedBelow : Bool → Bool → Reading → Reading → I → I → Type 0
   AskedBelow plain stops old new a b = Asked stops old new a b ⊎ ((plain ≡ false) × (stops ≡ true) × Asked false old new a b)

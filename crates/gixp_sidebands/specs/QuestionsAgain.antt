@@ -1,4 +1,4 @@
--- Questions after questions (gitprotocol-pack, "Packfile Data").
+-- The calls of the interrupt in several reads after one another (gitprotocol-pack, "Packfile Data").
 use Rattle.std.proofs.Common.{subst, ap, sym, ◌∙◌, refl, inl, inr, arith, append_assoc, length-append}
 use Rattle.std.specs.Prelude.{◌≡◌, ℕ, ◌+◌, Bool, false, List, [], ◌∷◌, ◌++◌, length, Option, Some, None, IfSome}
 use Rattle.gixp_packetline.specs.Pieces.{Refusal, io, unexpected_frame, Piece, line, mark, Pieces, no_pieces}
@@ -12,7 +12,7 @@ texts-append [] ys = omega arith
 texts-append (line text ∷ xs) ys = let e = texts-append xs ys in omega arith
 texts-append (mark kind ∷ xs) ys = texts-append xs ys
 
--- nothing but a refusal begins with nothing
+-- packet lines that are only an error begin with no packet line
 none-first : (e : Refusal) (xs : List Piece) (q : Pieces) → no_pieces e ≡ record { list = xs ++ q.list; end = q.end }
     → (xs ≡ []) × (q ≡ no_pieces e)
 none-first e [] q h = (refl, sym h)
@@ -24,14 +24,14 @@ counted-before a b c f g h k = let e = k.0 in let l = k.1 in h (omega (arith, f,
 counted-after : (a b c : Reading) → NoFewer a b → NoFewer b c → (IsUncounted b c → ⊥) → IsUncounted a c → ⊥
 counted-after a b c f g h k = let e = k.0 in let l = k.1 in h (omega (arith, f, g, e, l), k.1)
 
--- what is left after a later run
+-- the packet lines still to come after two reads
 left-after : (a b c : Reading) (rest left : Pieces) → NoFewer a b → NoFewer b c → IsLeft b c rest left
     → IsLeft a c rest left
 left-after a b c rest left f g (inl e) = inl e
 left-after a b c rest left f g (inr (inl e)) = inr (inl e)
 left-after a b c rest left f g (inr (inr h)) = inr (inr (h.0, counted-after a b c f g h.1))
 
--- nothing was left, and nothing more was taken
+-- after the end nothing more was taken
 takes-none : (m n : ℕ) (a b c : Reading) (p : Pieces) (e : Refusal) → NoFewer a b → NoFewer b c
     → (g : TakesTexts m a b p) → g.left ≡ no_pieces e → IsLeft a c g.rest (no_pieces e) → TakesTexts n b c g.left
     → TakesTexts (m + n) a c p
@@ -79,7 +79,7 @@ takes-all m n a b c f k g h = at a.to_come g
     at None g = tt
     at (Some p) g = takes-joins m n a b c p f k g h
 
--- nothing is taken
+-- nothing was taken
 pub takes-nothing : (a b : Reading) → IfSome a.to_come (λ p. b.to_come ≡ Some p) → IfSome a.to_come (TakesTexts 0 a b)
 takes-nothing a b h = at a.to_come h
   where
@@ -97,14 +97,14 @@ module _ {I : Type 0} (says : I → Bool → I → Type 0) where
   says-then [] ys stops a b c g h = subst (λ x. SaysEach says ys stops x c) g h
   says-then (x ∷ xs) ys stops a b c g h = (g.0, says-then xs ys stops x b c g.1 h)
 
-  -- nobody was asked
+  -- the interrupt was not called
   pub asked-none : (a b : Reading) (x : I) → NoFewer a b → IfSome a.to_come (TakesTexts 0 a b) → Asked says false a b x x
   asked-none a b x f h = record { after = []; said = refl; failures = f; each = h }
 
   pub asked-stays : (r : Reading) (x : I) → Asked says false r r x x
   asked-stays r x = asked-none r r x (omega arith) (takes-nothing r r (come-same r.to_come))
 
-  -- asked so after it was asked so
+  -- calls of the interrupt, and then more calls
   pub asked-joins : (stops : Bool) (ra rb rc : Reading) (a b c : I) → Asked says false ra rb a b → Asked says stops rb rc b c
       → Asked says stops ra rc a c
   asked-joins stops ra rb rc a b c g h = record {

@@ -1,4 +1,4 @@
--- What a reader of bands means, and to whom it tells (gitprotocol-pack, "Packfile Data").
+-- The state of a sideband reader, its listener and its interrupt (gitprotocol-pack, "Packfile Data").
 use Rattle.std.specs.Prelude.{◌≡◌, ℕ, Bool, List, Option, Result}
 use Rattle.std.specs.Borrow.{Bor}
 use Rattle.std.specs.Option.{option_map}
@@ -11,7 +11,6 @@ use Rattle.gixp_sidebands.specs.Telling.{Listener, Told, refusal_in}
 use Rattle.gixp_sidebands.specs.Questions.{AskedBelow}
 
 module _ {T P I : Type 0} {b : _} where
-  -- where it stands, over what its transport means
   abbrev pub side : (T → Reading) → WithSidebands T P I b → Side
   side reading s = record {
     place = s.front.place;
@@ -21,47 +20,47 @@ module _ {T P I : Type 0} {b : _} where
     fault = option_map refusal_of s.fault;
   }
 
-  -- what it means
+  -- the state of the sideband reader, as a reader of lines
   abbrev pub sidebands_reading : (T → Reading) → WithSidebands T P I b → Reading
   sidebands_reading reading s = side_reading (side reading s)
 
   abbrev pub listener : WithSidebands T P I b → Listener P I
   listener s = record { progress = s.progress; interrupt = s.interrupt.now }
 
-  -- its interrupt was asked after each packet of bands 2 and 3, and it is the same one
+  -- the interrupt was called after each packet of bands 2 and 3, and is still borrowed
   abbrev pub sidebands_asks : (T → Reading) → Bool → (I → Bool → I → Type 0) → WithSidebands T P I b → Bool → WithSidebands T P I b
       → Type 0
   sidebands_asks reading plain says old stops new =
       AskedBelow says plain stops (side reading old).reading (side reading new).reading (listener old).interrupt (listener new).interrupt
       × (new.interrupt.ghost_name ≡ old.interrupt.ghost_name)
 
-  -- the reader below, as it is now
+  -- the reader below
   abbrev pub transport_of : WithSidebands T P I b → T
   transport_of s = s.front.at.now
 
   module _ (reading : T → Reading) (hears spares : P → Bool → List ℕ → P → Type 0) (says : I → Bool → I → Type 0) (plain : Bool) where
-    -- a call that lends the content at hand: the reader that comes after it, and what was told on the way
+    -- a call that lends content: the state after it, and the messages it reported
     pub record Lends (old : WithSidebands T P I b) (result : Result (Bor (List ℕ)) io_error) (new : WithSidebands T P I b) : Type 0 where
       pub fills : FillsLent (side reading old) (side reading new) result
       pub told : Told hears spares says plain (side reading new).fault (side reading old).reading (side reading new).reading
           (listener old) (listener new)
       pub interrupt : new.interrupt.ghost_name ≡ old.interrupt.ghost_name
 
-    -- such a call, while the content is lent
+    -- the same, while the content is lent
     abbrev pub LendsFrom : WithSidebands T P I b → Result (Bor (List ℕ)) io_error → Type 0
     LendsFrom old result = (new : WithSidebands T P I b) × Lends old result new
 
-    -- what was told by a call that lends a line
+    -- the messages that a call reported which lends a line
     abbrev pub ToldLent : WithSidebands T P I b → Side → Listener P I → Result (Option (Bor (List ℕ))) Error → Type 0
     ToldLent old new heard result = Told hears spares says plain (refusal_in result) (side reading old).reading new.reading
         (listener old) heard
 
-    -- a call that lends the line that comes next, and what was told on the way
+    -- a call that lends the next line, and the messages it reported
     abbrev pub PeeksAndTells : WithSidebands T P I b → Result (Option (Bor (List ℕ))) Error → Type 0
     PeeksAndTells old result = (new : Side) × (heard : Listener P I)
         × PeeksLent (sidebands_reading reading old) (side_reading new) result × ToldLent old new heard result
 
-    -- a call that lends the line that it took, and what was told on the way
+    -- a call that takes the next line and lends it, and the messages it reported
     abbrev pub ReadsAndTells : WithSidebands T P I b → Result (Option (Bor (List ℕ))) Error → Type 0
     ReadsAndTells old result = (new : Side) × (heard : Listener P I)
         × ReadsLent (sidebands_reading reading old) (side_reading new) result × ToldLent old new heard result

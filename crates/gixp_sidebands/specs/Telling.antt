@@ -1,4 +1,5 @@
--- To whom bands 2 and 3 are told, and who is asked after each of their packets (gitprotocol-pack, "Packfile Data").
+-- The listener that bands 2 and 3 are reported to, and the interrupt that is called after each of their packets
+-- (gitprotocol-pack, "Packfile Data").
 use Rattle.std.specs.Prelude.{◌≡◌, ℕ, ◌⊎◌, Bool, true, false, List, [], ◌∷◌, ◌++◌, Option, Some, None, IfSome, Result, Ok, Err}
 use Rattle.gixp_packetline.specs.declared.read.Error.{Error}
 use Rattle.gixp_packetline.specs.declared.read.Error.TheVariants.{Interrupted, Memory}
@@ -6,43 +7,43 @@ use Rattle.gixp_packetline.specs.Pieces.{Refusal, io, memory, interrupted, Piece
 use Rattle.gixp_packetline.specs.Reading.{Reading, TakesLine, Rose, refusal_of, is_end}
 use Rattle.gixp_sidebands.specs.Bands.{Message, messages_left}
 
--- the listener and the interrupt, as a call leaves them
+-- the states of the listener and the interrupt
 pub record Listener (P I : Type 0) : Type 0 where
   pub progress : P
   pub interrupt : I
 
 module _ {P I : Type 0} (hears spares : P → Bool → List ℕ → P → Type 0) (says : I → Bool → I → Type 0) where
-  -- a text is handed on unless it is empty
+  -- a text is reported unless it is empty
   abbrev pub TellsText : Bool → List ℕ → P → P → Type 0
   TellsText is_error [] p q = q ≡ p
   TellsText is_error (x ∷ xs) p q = hears p is_error (x ∷ xs) q
 
-  -- an allocation failed for a text, which isn't empty
+  -- an allocation failed for a text; the text is not empty
   abbrev pub SparesText : Bool → List ℕ → P → P → Type 0
   SparesText is_error [] p q = ⊥
   SparesText is_error (x ∷ xs) p q = spares p is_error (x ∷ xs) q
 
-  -- one failed for a message, and the interrupt isn't asked
+  -- an allocation failed for a message, and the interrupt was not called
   abbrev pub SparesThen : Message → Listener P I → Listener P I → Type 0
   SparesThen m a b = SparesText m.is_error m.text a.progress b.progress × (b.interrupt ≡ a.interrupt)
 
-  -- a message is told, and then the interrupt answers this
+  -- a message was reported, and then the interrupt returned this
   abbrev pub TellsThen : Message → Bool → Listener P I → Listener P I → Type 0
   TellsThen m answer a b = TellsText m.is_error m.text a.progress b.progress × says a.interrupt answer b.interrupt
 
-  -- these messages are told in a row, and after each the interrupt says to go on
+  -- these messages were reported in order, and after each the interrupt returned false
   abbrev pub Tells : List Message → Listener P I → Listener P I → Type 0
   Tells [] a b = b ≡ a
   Tells (m ∷ ms) a c = (b : Listener P I) × TellsThen m false a b × Tells ms b c
 
-  -- the messages up to what is left were told
+  -- the messages that are not left were reported
   pub record ToldTo (old new : Reading) (a b : Listener P I) (p q : Pieces) : Type 0 where
     pub to_come : new.to_come ≡ Some q
     pub told : List Message
     pub messages : messages_left old.stopped p ≡ told ++ messages_left new.stopped q
     pub tells : Tells told a b
 
-  -- and one more, after which the interrupt said to stop
+  -- the same; then the next one was reported, and the interrupt returned true
   pub record ToldUntil (old new : Reading) (a c : Listener P I) (p q : Pieces) : Type 0 where
     pub to_come : new.to_come ≡ Some q
     pub told : List Message
@@ -52,26 +53,26 @@ module _ {P I : Type 0} (hears spares : P → Bool → List ℕ → P → Type 0
     pub tells : Tells told a before
     pub stops : TellsThen last true before c
 
-  -- the messages up to what is left were told; if an allocation failed for the next one, that is still to come, and no other was told
-  -- in its place
+  -- the messages that are not left were reported; if an allocation failed for the next one, it is still to come, and
+  -- nothing else was reported in its place
   pub record ToldBut (old new : Reading) (a c : Listener P I) (p q : Pieces) : Type 0 where
     pub before : Listener P I
     pub told : ToldTo old new a before p q
     pub spared : (c ≡ before) ⊎ ((m : Message) × (rest : List Message) × (messages_left new.stopped q ≡ m ∷ rest) × SparesThen m before c)
 
-  -- some of the messages were told
+  -- some of the first messages were reported
   pub record ToldSome (old : Reading) (a b : Listener P I) (p : Pieces) : Type 0 where
     pub told : List Message
     pub rest : List Message
     pub messages : messages_left old.stopped p ≡ told ++ rest
     pub tells : Tells told a b
 
-  -- the messages up to what is left were told, or only some where a read failed as at the end, which counts as a failure
+  -- the messages that are not left were reported; or only the first ones, if a read failed with `UnexpectedEof`, which counts as a failure
   abbrev pub ToldUnless : Bool → Reading → Reading → Listener P I → Listener P I → Pieces → Type 0
   ToldUnless true old new a b p = ((q : Pieces) × ToldTo old new a b p q) ⊎ (ToldSome old a b p × Rose old.failures new.failures)
   ToldUnless false old new a b p = (q : Pieces) × ToldTo old new a b p q
 
-  -- what a call told, by its refusal; a reader below that isn't plain may itself be interrupted
+  -- the messages that a call reported, by its error; the reader below may itself be interrupted if it isn't plain
   abbrev pub ToldBy : Bool → Option Refusal → Reading → Reading → Listener P I → Listener P I → Pieces → Type 0
   ToldBy plain None old new a b p = (q : Pieces) × ToldTo old new a b p q
   ToldBy plain (Some interrupted) old new a b p = (q : Pieces) × (ToldUntil old new a b p q ⊎ ((plain ≡ false) × ToldTo old new a b p q))
@@ -79,18 +80,17 @@ module _ {P I : Type 0} (hears spares : P → Bool → List ℕ → P → Type 0
   ToldBy plain (Some (io kind)) old new a b p = ToldUnless (is_end kind) old new a b p
   ToldBy plain (Some e) old new a b p = (q : Pieces) × ToldTo old new a b p q
 
-  -- the same, where the pieces to come are known
+  -- the same, where the packet lines to come are known
   abbrev pub Told : Bool → Option Refusal → Reading → Reading → Listener P I → Listener P I → Type 0
   Told plain refusal old new a b = IfSome old.to_come (ToldBy plain refusal old new a b)
 
-  -- the packet that is peeked at was told and taken, or is still to come
+  -- the packet that was peeked at was reported and taken, or it is still to come
   abbrev pub TellsPacket : {X : Type 0} → Message → Reading → Reading → Listener P I → Listener P I → Result X Error → Type 0
   TellsPacket m old new a b (Ok x) = TakesLine old new × TellsThen m false a b
   TellsPacket m old new a b (Err Interrupted) = TakesLine old new × TellsThen m true a b
   TellsPacket m old new a b (Err Memory) = (new ≡ old) × SparesThen m a b
   TellsPacket m old new a b (Err e) = ⊥
 
--- the refusal of a result
 abbrev pub refusal_in : {X : Type 0} → Result X Error → Option Refusal
 refusal_in (Ok x) = None
 refusal_in (Err e) = Some (refusal_of e)

@@ -1,5 +1,4 @@
-//! The bands of a stream of git's fetch protocol: the content of a pack's packets, and the texts of
-//! progress and errors between them.
+//! The sidebands of git's fetch protocol: the content on band 1, and the messages between its packets on bands 2 and 3.
 #![tactic(auto)]
 
 pub mod laws;

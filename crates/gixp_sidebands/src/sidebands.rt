@@ -1,4 +1,4 @@
-//! The bands of a stream: content, and the texts of progress and errors.
+//! The sideband reader: content on band 1, messages on bands 2 and 3.
 ghost use Rattle.std.specs.Prelude.{◌≡◌, ℕ, Bool, List, true, false, Option, None, Some, Ok, OnOk, OnErr, IfOk, IfSome, [], ◌++◌, drop, take, length, min, string_bytes};
 ghost use Rattle.std.specs.Option.{option_map};
 ghost use Rattle.std.specs.Io.{ReadsAtMost, StartsWith};
@@ -23,45 +23,45 @@ use std::alloc::AllocError;
 use std::io;
 use std::io::{BufRead, ErrorKind, Read};
 
-/// Takes the texts of bands 2 and 3 (gitprotocol-pack, "Packfile Data").
+/// A listener for the texts of bands 2 and 3 (gitprotocol-pack, "Packfile Data").
 pub trait BandText {
-    // What a listener was, and is after it took a text.
+    // The listener before and after it took a text.
     ghost hears: { Self → Bool → List ℕ → Self → Type 0 };
 
-    // What a listener was, and is after an allocation failed for a text.
+    // The listener before and after an allocation failed for a text.
     ghost spares: { Self → Bool → List ℕ → Self → Type 0 };
 
-    /// Takes the text of an error (band 3) or of progress (band 2), without one ending LF and
-    /// never empty.
+    /// Receives the text of an error (band 3) or of progress (band 2), without one ending LF. The text is never empty.
     ///
     /// # Errors
     ///
-    /// An allocation failed. The same text comes again, so what was kept of it should go.
+    /// An allocation failed. The same text is reported again, so the listener should discard what it stored of it.
     fn band_text(&mut self, is_error: bool, text: &[u8]) -> Result<(), AllocError>
         ensures ok { OnOk result (hears self.old is_error text.now self.new) }
         ensures err { OnErr result (spares self.old is_error text.now self.new) };
 }
 
-/// The content of a banded stream, and its texts on the way (gitprotocol-pack, "Packfile Data").
+/// Reads the content of a banded stream, and reports its messages (gitprotocol-pack, "Packfile Data").
 ///
-/// The first byte of each packet is its band: 1 for content, 2 for progress, 3 for the text of an
-/// error, which doesn't end the reading. It reads content as lines, as bytes, or both. A text goes to
-/// the listener, without one ending LF, unless it is empty; then its packet is taken, and the
-/// interrupt is asked. A packet of band 1 with nothing in it adds nothing.
+/// The first byte of each packet is its band: 1 for content, 2 for progress, 3 for the text of an error, which doesn't
+/// end the reading. Content can be read as lines, as bytes, or both. A text is reported to the listener without one
+/// ending LF, unless it is empty; then its packet is taken, and the interrupt is called. A packet of band 1 without
+/// content is skipped.
 ///
-/// `Read` and `BufRead` end at the stop and only there. A packet of content is taken from the
-/// transport once a byte of it was returned; then its rest goes with the reader, whether that is
-/// dropped or gives the transport back, and a call for lines goes on after it.
+/// `Read` and `BufRead` end only at a flush packet (version 2: or a delimiter packet). Once a byte of a packet of
+/// content was returned, the packet is taken from the transport: when the reader is dropped or returns the transport,
+/// the rest of the packet is lost, and a call for lines goes on after it.
 ///
-/// Beside the refusals of the transport there are `BadBand`, at a packet of no band, which is never
-/// taken, so that every reader over this transport returns the same; `Interrupted`, where the
-/// interrupt said so, after which the text isn't reported again; and `Memory`, where the listener had
-/// none, after which the same text is reported again.
+/// Besides the errors of the transport there are three:
+///
+/// - `BadBand`: the first byte of a packet is not a band. The packet is never taken, so every reader over this transport returns the same.
+/// - `Interrupted`: the interrupt returned true. The text before it isn't reported again.
+/// - `Memory`: an allocation of the listener failed. The same text is reported again.
 pub struct WithSidebands<'a, 'i, T: ExtendedBufRead, P, I> {
     front: Front<'a, T>,
     progress: P,
     interrupt: &'i mut I,
-    // The refusal of the latest call of `Read` or `BufRead`.
+    // The error of the last call of `Read` or `BufRead`.
     fault: Option<Error>,
 }
 
@@ -69,7 +69,7 @@ impl<'a, 'i, T: ExtendedBufRead, P: Drop, I> WithSidebands<'a, 'i, T, P, I> {
     ghost use Rattle.gixp_sidebands.specs.Questions.{TakesTexts};
     ghost use Rattle.gixp_sidebands.specs.Sidebands.{side, listener, transport_of};
 
-    /// Gives the transport back. A packet that was begun is taken.
+    /// Returns the transport. A packet that was begun is taken.
     pub fn into_transport(self) -> &'a mut T
         ensures same { result.ghost_name ≡ (side T.reading self.entry).name }
         ensures begun { is_begun (side T.reading self.entry).place ≡ true
@@ -85,7 +85,7 @@ impl<'a, 'i, T: ExtendedBufRead, P: Drop, I> WithSidebands<'a, 'i, T, P, I> {
         front.into_inner()
     }
 
-    /// Gives back what it was lent: the transport, as `into_transport` does, and the interrupt.
+    /// Returns the transport, as `into_transport` does, and the interrupt.
     pub fn into_parts(self) -> (&'a mut T, &'i mut I)
         ensures same { result.0.ghost_name ≡ (side T.reading self.entry).name }
         ensures begun { is_begun (side T.reading self.entry).place ≡ true
@@ -107,7 +107,6 @@ impl<'a, 'i, T: ExtendedBufRead, P: Drop, I> WithSidebands<'a, 'i, T, P, I> {
 }
 
 impl<T: ExtendedBufRead, P: Drop, I> Drop for WithSidebands<'_, '_, T, P, I> {
-    // A packet that was begun is taken.
     fn drop(self) {
         let WithSidebands {
             front,
@@ -122,7 +121,7 @@ impl<T: ExtendedBufRead, P: Drop, I> Drop for WithSidebands<'_, '_, T, P, I> {
 impl<'a, 'i, T: ExtendedBufRead, P: BandText + Drop, I: Interrupt> WithSidebands<'a, 'i, T, P, I> {
     ghost use Rattle.gixp_sidebands.specs.Sidebands.{side, sidebands_reading, sidebands_asks, listener, transport_of};
 
-    /// Reads what is to come of a banded stream. It allocates nothing, and reads nothing yet.
+    /// Reads the content of this transport, and reports its messages. It allocates nothing, and reads nothing yet.
     pub fn new(transport: &'a mut T, progress: P, interrupt: &'i mut I) -> Self
         ensures side { side T.reading result ≡ record {
           place = None;
@@ -143,7 +142,7 @@ impl<'a, 'i, T: ExtendedBufRead, P: BandText + Drop, I: Interrupt> WithSidebands
         }
     }
 
-    /// Asks the interrupt, for the one who reads.
+    /// Calls the interrupt.
     pub fn interrupted(&mut self) -> bool
         ensures says { I.says (listener self.old).interrupt result (listener self.new).interrupt }
         ensures side { side T.reading self.new ≡ side T.reading self.old }
@@ -153,15 +152,14 @@ impl<'a, 'i, T: ExtendedBufRead, P: BandText + Drop, I: Interrupt> WithSidebands
         self.interrupt.is_interrupted()
     }
 
-    /// The refusal of the latest call of `Read` or `BufRead`: none where that one succeeded, or
-    /// where there was none.
+    /// The error of the last call of `Read` or `BufRead`. `None` where that call succeeded or there was none.
     pub fn fault(&self) -> Option<&Error>
         ensures { option_map (λ e. refusal_of e.now) result ≡ (side T.reading self.now).fault }
     {
         self.fault.as_ref()
     }
 
-    /// Takes out the refusal that `fault` shows.
+    /// Returns and clears the error that `fault` shows.
     pub fn take_fault(&mut self) -> Option<Error>
         ensures taken { option_map refusal_of result ≡ (side T.reading self.old).fault }
         ensures side { side T.reading self.new ≡ record (side T.reading self.old) { fault = None } }
@@ -171,13 +169,13 @@ impl<'a, 'i, T: ExtendedBufRead, P: BandText + Drop, I: Interrupt> WithSidebands
         self.fault.take()
     }
 
-    /// Sees to it that bytes of content are at hand, which `buffer` then lends, and returns true; at
-    /// a stop false. Of content it takes nothing.
+    /// Opens the next packet of content, if none is open, and returns true; `buffer` then lends its bytes. Returns
+    /// false at a flush packet (version 2: or a delimiter packet). It takes no content.
     ///
     /// # Errors
     ///
-    /// Those of the transport and of the type, with `Io(kind)` as `kind`, `Memory` as `OutOfMemory`,
-    /// `Interrupted` as `Other` and all else as `InvalidData`. `fault` has the refusal itself.
+    /// Those of the transport and of [`WithSidebands`], as I/O errors: `Io(kind)` as `kind`, `Memory` as `OutOfMemory`,
+    /// `Interrupted` as `Other`, and all others as `InvalidData`. `fault` has the error itself.
     pub fn fill(&mut self) -> io::Result<bool>
         ensures fills { FillsContent (side T.reading self.old) (side T.reading self.new) result }
         ensures told { Told P.hears P.spares I.says T.is_plain (side T.reading self.new).fault (side T.reading self.old).reading
@@ -199,14 +197,14 @@ impl<'a, 'i, T: ExtendedBufRead, P: BandText + Drop, I: Interrupt> WithSidebands
         }
     }
 
-    /// The bytes of content at hand, as `fill` and `fill_buf` leave them.
+    /// The bytes of the open packet that were not yet returned.
     pub fn buffer(&self) -> &[u8]
         ensures { result.now ≡ shown (side T.reading self.now).place (side T.reading self.now).reading }
     {
         self.front.rest()
     }
 
-    // Tells the text of the packet that is peeked at, takes the packet, and asks the interrupt.
+    // Reports the text of the packet that was peeked at, takes the packet, and calls the interrupt.
     fn tell(&mut self, is_error: bool) -> Result<(), Error>
         requires peeked { (T.reading self.old.front.at.now).peeked ≡ true }
         requires nowhere { self.old.front.place ≡ None }
@@ -233,7 +231,7 @@ impl<'a, 'i, T: ExtendedBufRead, P: BandText + Drop, I: Interrupt> WithSidebands
         Ok(())
     }
 
-    // Tells what comes before the next content, which is then peeked at.
+    // Takes a packet that was begun, reports the messages before the next content, and opens the packet of content.
     fn settle(&mut self) -> Result<bool, Error>
         ensures peeks { Peeks (sidebands_reading T.reading self.old) (sidebands_reading T.reading self.new) result }
         ensures told { Told P.hears P.spares I.says T.is_plain (refusal_in result) (T.reading self.old.front.at.now)
@@ -438,7 +436,7 @@ impl<'a, 'i, T: ExtendedBufRead, P: BandText + Drop, I: Interrupt> BufRead
     }
 }
 
-// Copies as many bytes as both have.
+// Copies as many bytes as both have, and returns their number.
 fn copy_front(from: &[u8], to: &mut [u8]) -> usize
     ensures count { result ≡ min (length from.now) (length to.old) }
     ensures copied { to.new ≡ take result from.now ++ drop result to.old }
@@ -448,7 +446,7 @@ fn copy_front(from: &[u8], to: &mut [u8]) -> usize
     count
 }
 
-// The kind with which `Read` and `BufRead` return a refusal.
+// The I/O error that `Read` and `BufRead` return for this error.
 fn io_kind(e: &Error) -> ErrorKind
     ensures { result ≡ io_kind (refusal_of e.now) }
 {

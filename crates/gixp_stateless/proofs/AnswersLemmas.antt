@@ -1,4 +1,4 @@
--- What is passed on of bytes that come in pieces.
+-- The bytes that are passed on when the bytes arrive in pieces.
 use Rattle.std.proofs.Common.{◌≡◌, ℕ, zero, suc, ◌+◌, ◌-◌, ◌<◌, ◌≤◌, ◌==◌, nat_lt, Bool, true, false, if◌then◌else◌, List, [], ◌∷◌, ◌++◌, length, take, drop, Option, Some, None, refl, ap, sym, ◌∙◌, arith, append_assoc, append-nil, eqb-true, length-append, length-drop, length-take, take-add, drop-drop, inl, inr, rules}
 use Rattle.std.specs.Option.{option_map}
 use Rattle.std.specs.Prelude.{slice_range, codes}
@@ -12,7 +12,7 @@ use Rattle.gixp_stateless.specs.declared.place.Next.TheVariants.{Line, AnswerEnd
 use Rattle.gixp_stateless.specs.Order.{needs_digits, steps_left}
 use Rattle.gixp_stateless.specs.Answers.{is_number, next_of, given_count, next_after, given_after, advertised_after, given, told_from}
 
--- digits that are held come first, where no others come next
+-- held digits come first, unless more digits come next
 pub payload_front : (adv : Bool) (n : ℕ) (held ys : List ℕ) → given adv (Payload n) held ys ≡ held ++ given adv (Payload n) [] ys
 payload_front adv n held [] = sym (append-nil held)
 payload_front adv zero held (b ∷ ys) = refl
@@ -27,7 +27,7 @@ known_front adv (Payload n) a b ys h = payload_front adv n (a ++ b) ys
 known_front adv Rest a b ys h = append_assoc a b ys
 known_front adv Nothing a b ys h = refl
 
--- a payload comes as it is
+-- a payload is passed on unchanged
 pub payload_part : (adv : Bool) (n : ℕ) (xs ys : List ℕ) → length xs ≤ n
     → given adv (Payload n) [] (xs ++ ys) ≡ xs ++ given adv (Payload (n - length xs)) [] ys
 payload_part adv n [] ys h = let e : n ≡ n - 0 = omega arith in ap (λ k. given adv (Payload k) [] ys) e
@@ -36,12 +36,12 @@ payload_part adv (suc n) (x ∷ xs) ys h =
     let e : n - length xs ≡ suc n - length (x ∷ xs) = omega arith in
     ap (λ zs. x ∷ zs) (payload_part adv n xs ys (omega arith)) ∙ ap (λ k. x ∷ (xs ++ given adv (Payload k) [] ys)) e
 
--- and a packet line after it
+-- a packet line after a payload
 pub payload_over : (adv : Bool) (ys : List ℕ) → given adv (Payload 0) [] ys ≡ given adv Line [] ys
 payload_over adv [] = refl
 payload_over adv (b ∷ ys) = refl
 
--- by the test whether digits are missing
+-- while digits are missing
 missing : (adv : Bool) (next : Next) (held : List ℕ) (x : ℕ) (ys : List ℕ) → needs_digits next ≡ true → length held < 3
     → given adv next held (x ∷ ys) ≡ given adv next (held ++ x ∷ []) ys
 missing adv Line held x ys d h = let t : nat_lt (length held) 3 ≡ true = search (rules) in rw t refl
@@ -59,7 +59,6 @@ whole adv (Payload n) held x ys d h = cc
 whole adv Rest held x ys d h = cc
 whole adv Nothing held x ys d h = cc
 
--- fewer than four digits
 pub digits_part : (adv : Bool) (next : Next) (held xs ys : List ℕ) → needs_digits next ≡ true → length held + length xs < 4
     → given adv next held (xs ++ ys) ≡ given adv next (held ++ xs) ys
 digits_part adv next held [] ys d h = ap (λ ds. given adv next ds ys) (sym (append-nil held))
@@ -70,7 +69,7 @@ digits_part adv next held (x ∷ xs) ys d h = missing adv next held x (xs ++ ys)
 pub taken_all : (digits : List ℕ) → length digits ≡ 4 → take 4 digits ≡ digits
 taken_all digits four = take_all 4 digits (omega arith)
 
--- of four digits all are held, or none, and what is held comes first
+-- the held digits are all four, or none, and they come first
 taken_front : (adv : Bool) (next : Next) (digits ys : List ℕ)
     → take (given_count next) digits ++ given adv next [] ys ≡ given adv next (take (given_count next) digits) ys
 taken_front adv Line digits ys = refl
@@ -93,7 +92,7 @@ by_size adv flag (Payload n) size digits ys d = cc
 by_size adv flag Rest size digits ys d = cc
 by_size adv flag Nothing size digits ys d = cc
 
--- what is passed on after four digits
+-- the bytes passed on after four digits
 abbrev pub told_whole : (adv : Bool) → Next → List ℕ → List ℕ → List ℕ
 told_whole adv next digits ys =
     given (advertised_after adv (size_of digits)) (next_after adv next (size_of digits)) (given_after adv next (size_of digits) digits) ys
@@ -104,7 +103,6 @@ last_digit adv next held x [] ys d h k = whole adv next held x ys d h
     ∙ by_size adv (advertised_after adv (size_of (held ++ x ∷ []))) next (size_of (held ++ x ∷ [])) (held ++ x ∷ []) ys d
 last_digit adv next held x (y ∷ xs) ys d h k = absurd (omega arith)
 
--- four digits
 pub digits_whole : (adv : Bool) (next : Next) (held xs ys : List ℕ) → needs_digits next ≡ true → length held + length xs ≡ 4
     → length held < 4 → given adv next held (xs ++ ys) ≡ told_whole adv next (held ++ xs) ys
 digits_whole adv next held [] ys d h k = absurd (omega arith)
@@ -116,7 +114,7 @@ digits_whole adv next held (x ∷ xs) ys d h k = elim (cases_lt (length held) 3)
   | inr ge ↦ last_digit adv next held x xs ys d ge (omega arith)
 ]
 
--- digits that came
+-- digits that arrived
 pub told : (adv : Bool) (next : Next) (held xs ys : List ℕ) → needs_digits next ≡ true → length held + length xs ≤ 4
     → length held < 4 → given adv next held (xs ++ ys) ≡ told_from adv next (held ++ xs) ys
 told adv next held xs ys d h k = elim (cases_lt (length (held ++ xs)) 4) [
@@ -126,7 +124,7 @@ told adv next held xs ys d h k = elim (cases_lt (length (held ++ xs)) 4) [
       rw t (digits_whole adv next held xs ys d (omega (arith, length-append held xs)) k)
 ]
 
--- known bytes through a function
+-- known bytes, through a function
 pub consumes_through : (old new : Option (List ℕ)) (bytes out : List ℕ) (f g : List ℕ → List ℕ)
     → Consumes old new bytes → ((ys : List ℕ) → f (bytes ++ ys) ≡ out ++ g ys) → Consumes (option_map f old) (option_map g new) out
 consumes_through None new bytes out f g h e = tt
@@ -149,7 +147,7 @@ pub end_through : (new : Option (List ℕ)) (f : List ℕ → List ℕ) → IsAt
 end_through None f h e = tt
 end_through (Some ys) f h e = ap f h ∙ e
 
--- and where the end is reached
+-- the same where the end is reached
 pub end_kept : (old new : Option (List ℕ)) (f g : List ℕ → List ℕ) → Consumes old new [] → IsAtEnd new → f [] ≡ g []
     → Keeps (option_map f old) (option_map g new)
 end_kept None new f g h k e = tt
@@ -192,7 +190,7 @@ range_length ds start n h =
     let e : (start + n) - start ≡ n = omega arith in
     ap (λ k. length (take k (drop start ds))) e ∙ length-take-le n (drop start ds) (omega (arith, length-drop start ds))
 
--- of digits that are held, the first are given
+-- the first of the held digits are passed on
 pub range_parts : (ds : List ℕ) (start n end : ℕ) → start + n ≤ end
     → slice_range ds start end ≡ slice_range ds start (start + n) ++ slice_range ds (start + n) end
 range_parts ds start n end h =
@@ -247,7 +245,7 @@ reads_rest old new adv next held buf n is none fits some came at_end =
       λ z. end_through new (given adv Rest []) (at_end z some) refl,
     )
 
--- four digits that were taken
+-- four digits were taken
 took_whole : (o : Option (List ℕ)) (adv flag : Bool) (next place : Next) (digits held : List ℕ) → length digits ≡ 4
     → next ≡ next_after adv place (size_of digits) → flag ≡ advertised_after adv (size_of digits)
     → held ≡ given_after adv place (size_of digits) digits

@@ -1,4 +1,4 @@
--- What is passed on of whole packet lines and of what comes after them.
+-- What is passed on for whole packet lines, and for the bytes after them.
 use Rattle.std.proofs.Common.{◌≡◌, ℕ, ◌+◌, ◌-◌, ◌<◌, inl, inr, nat_eq, Bool, true, false, List, [], ◌∷◌, ◌++◌, length, take, drop, Option, Some, None, refl, ap, sym, subst, ◌∙◌, arith, append_assoc, append-nil, length-drop, length-append, ne_eqb}
 use Rattle.std.specs.Prelude.{codes}
 use Rattle.std.proofs.lemmas.List.{take-append-drop}
@@ -13,11 +13,11 @@ use Rattle.gixp_stateless.specs.Answers.{is_number, next_of, given_count, next_a
 use Rattle.gixp_stateless.specs.Whole.{whole_answers, whole_stream}
 use Rattle.gixp_stateless.proofs.AnswersLemmas.{payload_front, payload_part, payload_over, digits_part, digits_whole, taken_all}
 
--- what is passed on from a packet line on
+-- what is passed on from the start of a packet line
 abbrev lines : Bool → List ℕ → List ℕ
 lines adv bytes = given adv Line [] bytes
 
--- four digits of a packet line, and what comes after them
+-- four digits of a packet line, and the bytes after them
 abbrev after_line : Bool → Option ℕ → List ℕ → List ℕ → List ℕ
 after_line adv o digits more = given (advertised_after adv o) (next_of adv o) (take (given_count (next_of adv o)) digits) more
 
@@ -26,7 +26,7 @@ digits_of : (adv : Bool) (o : Option ℕ) (digits more : List ℕ) → length di
 digits_of adv o digits more four size = digits_whole adv Line [] digits more refl (omega arith) (omega arith)
     ∙ ap (λ k. after_line adv k digits more) size
 
--- of a payload, or of a delimiter packet
+-- the digits of a payload, or of a delimiter packet
 counted : (adv : Bool) (k : ℕ) (digits more : List ℕ) → Counts digits k → (k ≡ 2 → ⊥) → (k ≡ 0 → ⊥)
     → lines adv (digits ++ more) ≡ digits ++ given adv (Payload (k - 4)) [] more
 counted adv k digits more c other some =
@@ -61,14 +61,14 @@ first_flush : (text rest : List ℕ) → Counts text 0 → lines false (text ++ 
 first_flush text rest c = digits_of false (Some 0) text rest c.0 c.1
     ∙ rw (taken_all text c.0) (payload_front true 0 text rest) ∙ ap (λ zs. text ++ zs) (payload_over true rest)
 
--- one of an answer
+-- the flush packet of a response
 later_flush : (text rest : List ℕ) → Counts text 0 → lines true (text ++ rest) ≡ given true AnswerEnd [] rest
 later_flush text rest c = digits_of true (Some 0) text rest c.0 c.1
 
 no_line : (adv : Bool) (text rest : List ℕ) → Counts text 2 → lines adv (text ++ rest) ≡ []
 no_line adv text rest c = digits_of adv (Some 2) text rest c.0 c.1
 
--- what comes after an answer's flush packet
+-- the bytes after the flush packet of a response
 abbrev after_flush : Option ℕ → List ℕ → List ℕ
 after_flush o more = given (advertised_after true o) (next_after true AnswerEnd o) (given_after true AnswerEnd o []) more
 
@@ -91,7 +91,7 @@ other_line : (k : ℕ) (digits more : List ℕ) → Counts digits k → (k ≡ 2
 other_line k digits more c other =
     not_closed digits more c.0 (ap (is_number 2) c.1 ∙ ne_eqb k 2 other)
 
--- what comes after the whole packet lines
+-- the bytes after the last whole packet line
 keeps_end : (adv : Bool) (rest : List ℕ) (end : End) → IsEnd rest end → IsEnd (lines adv rest) end
 keeps_end adv rest (bad HexDecode) h =
     (h.0, h.1, ap (lines adv) h.2 ∙ digits_of adv None h.0 h.1 h.3.0 h.3.1 ∙ ap (λ xs. xs ++ h.1) (taken_all h.0 h.3.0), h.3)
@@ -131,7 +131,7 @@ keeps_end adv rest ended (inr h) =
     ∙ parts in
     subst (λ xs. IsEnd xs ended) (sym same) (inr h)
 
--- and after an answer's flush packet it is no response-end packet
+-- a flush packet at the end, without a response-end packet
 no_close : (rest : List ℕ) (end : End) → IsEnd rest end → given true AnswerEnd [] rest ≡ []
 no_close rest (bad HexDecode) h =
     ap (given true AnswerEnd []) h.2 ∙ not_closed h.0 h.1 h.3.0 (ap (is_number 2) h.3.1)
@@ -144,20 +144,18 @@ no_close rest ended (inl short) =
 no_close rest ended (inr h) = ap (given true AnswerEnd []) (sym (take-append-drop 4 rest))
     ∙ other_line h.0 (take 4 rest) (drop 4 rest) h.1 (λ e. absurd (omega (arith, h.2)))
 
--- the bytes are these packet lines
 abbrev AreThese : List ℕ → Frames → Type 0
 AreThese bytes fs = AreFrames bytes fs.list fs.end
 
 nothing_more : (bytes : List ℕ) → bytes ≡ [] → IsEnd bytes ended
 nothing_more bytes e = inl (omega (arith, ap length e))
 
--- after a flush packet, a packet line that is no response-end packet
+-- a flush packet, and then a packet line that is not a response-end packet
 cut : (k : ℕ) (bytes text rest digits more : List ℕ) → bytes ≡ text ++ rest → Counts text 0 → rest ≡ digits ++ more → Counts digits k
     → (k ≡ 2 → ⊥) → IsEnd (lines true bytes) ended
 cut k bytes text rest digits more b c r d other = nothing_more (lines true bytes)
     (ap (lines true) b ∙ later_flush text rest c ∙ ap (given true AnswerEnd []) r ∙ other_line k digits more d other)
 
--- whole answers
 answers_are : (frames : List Frame) (bytes : List ℕ) (end : End) → AreFrames bytes frames end
     → AreThese (lines true bytes) (whole_answers frames end)
 answers_are [] bytes end h = keeps_end true bytes end h
@@ -187,7 +185,7 @@ answers_are (special ResponseEnd ∷ frames) bytes end h =
     nothing_more (lines true bytes) (ap (lines true) h.2 ∙ no_line true h.0 h.1 h.3)
 answers_are (special Text ∷ frames) bytes end h = absurd h.3
 
--- the advertisement, and whole answers
+-- the advertisement, and then whole responses
 pub stream_is : (frames : List Frame) (bytes : List ℕ) (end : End) → AreFrames bytes frames end
     → AreFrames (passed_on bytes) (whole_stream frames end).list (whole_stream frames end).end
 stream_is [] bytes end h = keeps_end false bytes end h

@@ -1,11 +1,11 @@
--- A flush packet that is passed on after the advertisement's was followed by a response-end packet.
+-- A flush packet that is passed on after that of the advertisement was followed by a response-end packet.
 use Rattle.std.proofs.Common.{◌≡◌, List, [], ◌∷◌, ◌++◌, refl, ap, append_assoc}
 use Rattle.gixp_packetline.specs.declared.protocol.MessageKind.TheVariants.{Flush, Delimiter, ResponseEnd, Text}
 use Rattle.gixp_packetline.specs.Frames.{Frame, payload, special, End}
 use Rattle.gixp_stateless.specs.Others.{without_response_ends}
 use Rattle.gixp_stateless.specs.Whole.{whole_answers, whole_stream}
 
--- of these packet lines, those before such a flush packet are these, without response-end packets
+-- the packet lines before such a flush packet are these, without response-end packets
 abbrev IsClosed : (frames front : List Frame) → Type 0
 IsClosed frames front = (before more : List Frame) × (frames ≡ before ++ special Flush ∷ special ResponseEnd ∷ more)
     × (without_response_ends before ≡ front)

@@ -3,7 +3,7 @@ use Rattle.std.specs.Prelude.{◌≡◌, ℕ, ◌-◌, ◌<◌, ◌≤◌, Bool,
 use Rattle.gixp_stateless.specs.declared.place.Next.{Next}
 use Rattle.gixp_stateless.specs.declared.place.Next.TheVariants.{Line, AnswerEnd, Payload, Rest, Nothing}
 
--- whether digits come next: those of a packet line, or those of an answer's response-end packet
+-- whether digits come next: those of a packet line, or of the response-end packet of a response
 abbrev pub needs_digits : Next → Bool
 needs_digits Line = true
 needs_digits AnswerEnd = true
@@ -11,12 +11,12 @@ needs_digits (Payload n) = false
 needs_digits Rest = false
 needs_digits Nothing = false
 
--- four digits at most; where digits come next, they are held from the first on, and are fewer
+-- at most four digits; if more digits come next, fewer than four are held, from the first on
 abbrev pub IsInOrder : (start end : ℕ) → Next → Type 0
 IsInOrder start end next = (start ≤ end) × (end ≤ 4) × (needs_digits next ≡ true → (start ≡ 0) × (end < 4))
 
--- how often a reader can go on at most before it passes something on, or finds the end: it takes a digit at least, and after an
--- answer's flush packet the four digits of a response-end packet too
+-- an upper bound of the steps before a reader passes on a byte or finds the end: each takes at least one digit, and the
+-- four digits of a response-end packet may follow the flush packet of a response
 abbrev pub steps_left : (start end : ℕ) → Next → ℕ
 steps_left start end Line = 10 - end
 steps_left start end AnswerEnd = 5 - end

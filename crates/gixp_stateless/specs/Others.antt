@@ -1,4 +1,4 @@
--- The packet lines of a stream that are no response-end packets (gitprotocol-v2, "Packet-Line Framing").
+-- The packet lines of a stream without response-end packets (gitprotocol-v2, "Packet-Line Framing").
 use Rattle.std.specs.Prelude.{List, [], ◌∷◌}
 use Rattle.gixp_packetline.specs.Frames.{Frame, payload, special}
 use Rattle.gixp_packetline.specs.declared.protocol.MessageKind.TheVariants.{Flush, Delimiter, ResponseEnd, Text}

@@ -1,4 +1,4 @@
-//! A reader of packet lines that passes on whole answers.
+//! A reader of packet lines that passes on whole responses.
 ghost use Rattle.std.specs.Prelude.{◌≡◌, ◌<◌, ◌≤◌, true, false, length, take, IfOk};
 ghost use Rattle.std.specs.Option.{option_map};
 ghost use Rattle.std.specs.Io.{ReadsAtMost};
@@ -12,7 +12,7 @@ use hex;
 use std::io;
 use std::io::Read;
 
-// The number of four digits.
+// `None` where a byte is not a hexadecimal digit.
 fn size_of(digits: &[u8]) -> Option<usize>
     requires { length digits.now ≡ 4 }
     ensures { result ≡ size_of digits.now }
@@ -39,7 +39,7 @@ fn next_of(advertised: bool, size: Option<usize>) -> Next
     }
 }
 
-// Whether the flush packet of the advertisement came, after these digits of a packet line too.
+// Whether the flush packet of the advertisement has been read, these digits included.
 fn advertised_after(advertised: bool, size: Option<usize>) -> bool
     ensures { result ≡ advertised_after advertised size }
 {
@@ -70,7 +70,7 @@ fn given_count(next: Next) -> usize
 }
 
 impl<R: Read> Answers<R> {
-    /// The packet lines of this reader, which is at the start of a capability advertisement.
+    /// Passes on the packet lines of this reader, which must be at the start of a capability advertisement.
     pub fn new(reader: R) -> Answers<R>
         ensures bytes { to_come R.remaining result ≡ option_map passed_on (R.remaining reader) }
         ensures unread { result.reader ≡ reader }
@@ -86,7 +86,7 @@ impl<R: Read> Answers<R> {
         }
     }
 
-    // Gives digits that are held.
+    // Passes on held digits.
     fn give(&mut self, buf: &mut [u8]) -> usize
         requires held { self.old.start < self.old.end }
         requires known { needs_digits self.old.next ≡ false }
@@ -116,7 +116,7 @@ impl<R: Read> Answers<R> {
         self.end = given_count(self.next);
     }
 
-    // Takes the digits after an answer's flush packet. Those of a response-end packet let the flush packet be passed on.
+    // Takes the digits after the flush packet of a response. If they are a response-end packet, the flush packet is passed on.
     fn end_answer(&mut self, digits: [u8; 4])
         requires { self.old.next ≡ Next.AnswerEnd }
         ensures bytes { to_come R.remaining self.new
@@ -133,7 +133,7 @@ impl<R: Read> Answers<R> {
         }
     }
 
-    // Takes digits that came, and finds by the fourth what follows.
+    // Takes digits that were read, and finds what follows the fourth.
     fn take_digits(&mut self, digits: [u8; 4], end: usize)
         requires next { needs_digits self.old.next ≡ true }
         requires more { self.old.end < end }
@@ -153,8 +153,7 @@ impl<R: Read> Answers<R> {
         }
     }
 
-    // Reads digits. Returns whether nothing more is passed on, since the reader is at its end. A flush packet that is held then isn't
-    // passed on either.
+    // Reads digits. Returns true at the end of the reader, after which nothing is passed on; a held flush packet is then dropped.
     fn read_digits(&mut self) -> io::Result<bool>
         requires { needs_digits self.old.next ≡ true }
         ensures bytes { ReadsDigits (to_come R.remaining self.old) (to_come R.remaining self.new) (steps_of self.old) (steps_of self.new)
@@ -183,7 +182,7 @@ impl<R: Read> Answers<R> {
         }
     }
 
-    // Reads of a payload.
+    // Reads part of a payload.
     fn read_payload(&mut self, left: usize, buf: &mut [u8]) -> io::Result<usize>
         requires some { 0 < left }
         requires next { self.old.next ≡ Next.Payload left }
@@ -198,7 +197,7 @@ impl<R: Read> Answers<R> {
         Ok(count)
     }
 
-    // Gives what it can, or takes a step without it.
+    // Passes on what it can, or goes a step further.
     fn step(&mut self, buf: &mut [u8]) -> io::Result<Option<usize>>
         requires { 0 < length buf.old }
         ensures { GivesOrSteps (to_come R.remaining self.old) (to_come R.remaining self.new) (steps_of self.old) (steps_of self.new)

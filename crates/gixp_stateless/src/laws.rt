@@ -1,4 +1,4 @@
-//! Laws of what a reader passes on, each a function without a body whose contract is the law.
+//! Theorems about what a reader passes on. Each is a function without a body; its contract is the theorem.
 ghost use Rattle.std.specs.Prelude.{◌≡◌, ℕ, List, ◌∷◌, ◌++◌};
 ghost use Rattle.gixp_packetline.specs.Frames.{Frame, special, End};
 ghost use Rattle.gixp_packetline.specs.Grammar.{AreFrames};
@@ -7,14 +7,14 @@ ghost use Rattle.gixp_stateless.specs.Answers.{passed_on};
 ghost use Rattle.gixp_stateless.specs.Others.{without_response_ends};
 ghost use Rattle.gixp_stateless.specs.Whole.{whole_stream};
 
-/// The packet lines that are passed on are those of the advertisement and of the whole answers after it.
+/// The packet lines that are passed on are those of the advertisement and of the whole responses after it.
 pub fn packet_lines_are_of_whole_answers()
     ensures { (bytes : List ℕ) (frames : List Frame) (end : End) → AreFrames bytes frames end
         → AreFrames (passed_on bytes) (whole_stream frames end).list (whole_stream frames end).end }
 {}
 
-/// Where a flush packet is passed on after the advertisement's, a response-end packet directly followed it, and the packet lines that
-/// are passed on before it are those that came before it.
+/// If a flush packet after that of the advertisement is passed on, a response-end packet directly followed it, and the
+/// packet lines passed on before it are those that came before it, without response-end packets.
 pub fn flush_packets_end_whole_answers()
     ensures { (frames first second after : List Frame) (end : End)
         → (whole_stream frames end).list ≡ first ++ special Flush ∷ (second ++ special Flush ∷ after)

@@ -1,5 +1,6 @@
-//! The answers of a server without state, as `git remote-https` passes them on: the capability advertisement, and then each answer
-//! with a response-end packet after it (gitremote-helpers, "stateless-connect"; gitprotocol-v2, "Packet-Line Framing").
+//! The responses of a stateless server, as `git remote-https` passes them on: the capability advertisement, and then
+//! each response with a response-end packet after it (gitremote-helpers, "stateless-connect"; gitprotocol-v2,
+//! "Packet-Line Framing").
 #![tactic(auto)]
 
 mod answers;

@@ -1,37 +1,36 @@
 //! Where a reader of packet lines is.
 ghost use Rattle.gixp_stateless.specs.Order.{IsInOrder};
 
-/// What comes after the digits that are held.
+/// What comes after the held digits.
 #[derive(Clone, Copy)]
 pub(crate) enum Next {
-    /// The other digits of a packet line.
+    /// More digits of a packet line.
     Line,
-    /// The other digits of the response-end packet after an answer. The answer's flush packet isn't passed on yet.
+    /// More digits of the response-end packet of a response. The flush packet of the response isn't passed on yet.
     AnswerEnd,
-    /// So many bytes of a payload.
+    /// This many bytes of a payload.
     Payload(usize),
-    /// What is no packet line, or less than one.
+    /// Bytes that are not a packet line, or less than one.
     Rest,
-    /// Nothing, since an answer wasn't whole.
+    /// Nothing, because a response wasn't whole.
     Nothing,
 }
 
-/// The packet lines of a capability advertisement and of the answers after it, without the response-end packet that follows each
-/// answer.
+/// The packet lines of a capability advertisement and of the responses after it, without the response-end packet of each response.
 ///
-/// An answer is packet lines, a flush packet, and directly after it a response-end packet. Its flush packet is passed on only once
-/// that response-end packet was read. A response-end packet anywhere else, or anything else after an answer's flush packet, ends the
-/// stream: from then on every read returns `Ok(0)`. From the first four bytes on that count no packet line all is passed on as it
-/// comes.
+/// A response is packet lines and a flush packet, with a response-end packet directly after it. The flush packet is
+/// passed on only once the response-end packet was read. A response-end packet anywhere else, or anything else after
+/// the flush packet of a response, ends the stream: from then on every read returns `Ok(0)`. After four bytes in place
+/// of digits that are not hexadecimal, all bytes are passed on as they come.
 ///
-/// It never reads more than the packet line that comes next, and after an answer's flush packet no more than the response-end
-/// packet. A payload is read right into the buffer of the one who asks. A read that fails loses nothing.
+/// It never reads beyond the next packet line, and after the flush packet of a response never beyond the response-end
+/// packet. A payload is read directly into the caller's buffer. A failed read loses nothing.
 #[derive(Drop)]
 pub struct Answers<R> {
     pub(crate) reader: R,
-    // Whether the flush packet of the advertisement came.
+    // Whether the flush packet of the advertisement was read.
     pub(crate) advertised: bool,
-    // Digits that came and aren't passed on: those from `start` to `end`.
+    // The digits from `start` to `end` were read and not yet passed on.
     pub(crate) digits: [u8; 4],
     pub(crate) start: usize,
     pub(crate) end: usize,

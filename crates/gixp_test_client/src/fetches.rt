@@ -7,7 +7,7 @@ use gixp_progress::NestedProgress;
 use gixp_wire::Transport;
 use std::alloc::Global;
 
-/// What came of a call, unless an allocation failed, at which a test ends.
+/// Separates allocation failures, which end a test, from other errors.
 pub(crate) fn unless_memory<C>(came: Result<C, Error>) -> Result<Result<C, Error>, Error> {
     match came {
         Ok(value) => Ok(Ok(value)),
@@ -16,14 +16,14 @@ pub(crate) fn unless_memory<C>(came: Result<C, Error>) -> Result<Result<C, Error
     }
 }
 
-/// A request for the branches.
+/// A request for all branches.
 pub(crate) fn branches(alloc: Global) -> Result<Request, Error> {
     let mut request = Request::new(alloc);
     request.add_refspec(b"refs/heads/*:refs/remotes/origin/*")?;
     Ok(request)
 }
 
-/// One fetch of what a request asks for over a session, into a repository without a boundary, and its pack.
+/// Fetches what a request asks for into a repository without a shallow boundary. Returns the pack, too.
 pub(crate) fn fetch_into<
     T: Transport + Drop,
     L: Listener + Drop,

@@ -1,4 +1,4 @@
-//! A whole session, each of whose allocations may be refused: `scripts/refused_growth.py` refuses them in turn.
+//! A whole session in which each allocation may fail: `scripts/fail_allocations.py` makes them fail in turn.
 use crate::fetches::{branches, fetch};
 use crate::lines::lines;
 use crate::servers::{GREETING, PACK, REFS};
@@ -7,7 +7,7 @@ use gixp_doubles::{Device, Paper};
 use gixp_wire::Transport;
 use std::alloc::Global;
 
-// Whether a fetch of a session comes to its pack.
+// Whether a fetch receives its pack.
 fn comes<T: Transport + Drop, L: Listener + Drop>(
     alloc: Global,
     session: &mut Session<T, L>,
@@ -19,8 +19,8 @@ fn comes<T: Transport + Drop, L: Listener + Drop>(
     }
 }
 
-// The whole session over these bytes, where a refused call is made again if the session is at a stop: what was written, whether the
-// fetch came to its pack, and whether the session is broken, as it is where an allocation of a request failed.
+// Runs the whole session over these bytes. A failed call is repeated if the session is at a stop. Returns the bytes written,
+// whether the fetch received its pack, and whether the session is broken. It is if an allocation of a request failed.
 fn meets(alloc: Global, bytes: &[u8]) -> Result<(Vec<u8>, bool, bool), Error> {
     let streams = over_streams(alloc, Device::new(bytes, 7), Paper::new(alloc, 64))?;
     let mut session = Session::open(alloc, streams, "first/1.0", Silent)?;

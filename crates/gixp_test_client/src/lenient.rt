@@ -1,4 +1,4 @@
-//! A fetch by a negotiator that passes over what it can't read.
+//! A fetch with a negotiator that skips unreadable commits.
 ghost use Rattle.std.specs.Prelude.{◌≡◌, ◌⊎◌, [], None, Ok, IfOk, codes};
 ghost use Rattle.gixp_packetline.specs.Reading.{Reading};
 ghost use Rattle.gixp_fetch.specs.Fetch.{parties_of};
@@ -25,7 +25,7 @@ use gixp_wire::Transport;
 use std::alloc::Global;
 use std::io::Write;
 
-// One fetch by it, which is one run of the law.
+// Such a fetch is one run of the law.
 fn fetch_leniently<'a, T: Transport + Drop, W: Write>(
     alloc: Global,
     transport: T,

@@ -1,5 +1,5 @@
-//! Tests of what rows of data can't say of a session: what it sends and leaves behind, what listeners show, and the sentences of its
-//! errors. It has no function outside its tests.
+//! Tests of sessions that test vectors can't express: what a session sends and leaves, what listeners show, and the texts of
+//! errors. The crate has only tests.
 #![tactic(auto)]
 
 #[cfg(test)]

@@ -1,7 +1,7 @@
 //! Packet lines.
 use std::alloc::{AllocError, Global};
 
-/// Appends a packet line of this payload.
+/// Appends a packet line with this payload.
 pub(crate) fn push_line(
     alloc: Global,
     stream: &mut Vec<u8>,
@@ -13,10 +13,10 @@ pub(crate) fn push_line(
     stream.extend_from_slice(payload)
 }
 
-/// A payload that stands for a delimiter packet.
+/// In a list of payloads, a delimiter packet.
 pub(crate) const DELIMITER: &[u8] = b"0001";
 
-/// The packet lines of these payloads. One that is empty is a flush packet, and `DELIMITER` a delimiter packet.
+/// The packet lines with these payloads. An empty payload is a flush packet, and `DELIMITER` a delimiter packet.
 pub(crate) fn lines(alloc: Global, payloads: &[&[u8]]) -> Result<Vec<u8>, AllocError> {
     let mut stream = Vec::new(alloc);
     for payload in payloads {

@@ -1,4 +1,4 @@
-//! What listeners show and keep.
+//! The output of listeners.
 use gixp_client::{Kept, Listener, RemoteLines};
 use std::alloc::AllocError;
 

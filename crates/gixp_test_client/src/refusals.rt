@@ -1,4 +1,4 @@
-//! What a session says where it is refused, where it then stands, and what is written afterwards.
+//! The texts of a session's errors, its state after them, and its output in later calls.
 use crate::fetches::{branches, fetch, fetch_into, unless_memory};
 use crate::lines::lines;
 use crate::servers::{
@@ -15,7 +15,7 @@ use gixp_wire::Connection;
 use std::alloc::{AllocError, Global};
 use std::io::ErrorKind;
 
-// What came of a fetch of a session over these answers, in a sentence, and where it stands.
+// The result of a fetch over these responses as a text, and the state of the session.
 fn told(alloc: Global, answers: &[&[&[u8]]]) -> Result<(String, Option<State>), Error> {
     let transport = server(alloc, answers)?;
     let mut session = match Session::open(alloc, transport, "first/1.0", Silent) {
@@ -35,7 +35,7 @@ fn told(alloc: Global, answers: &[&[&[u8]]]) -> Result<(String, Option<State>), 
     Ok((text, Some(session.state())))
 }
 
-// The sentences and states of a server of version 2 that refuses, or is cut off, at each place.
+// The texts and states for servers of version 2 that fail or end at each point.
 const NEW: &[(&[&[&[u8]]], &str, Option<State>)] = &[
     (
         &[GREETING, REFS, PACK],
@@ -110,7 +110,7 @@ const NEW: &[(&[&[&[u8]]], &str, Option<State>)] = &[
     ),
 ];
 
-// The same of servers of version 0.
+// The same for servers of version 0.
 const FORMER: &[(&[&[&[u8]]], &str, Option<State>)] = &[
     (&[OLD, OLD_PACK], "pack true of 4 bytes", Some(State::Ended)),
     (
@@ -150,7 +150,7 @@ fn says_what_was_refused(rt: HostRuntime) -> Result<(), Error> {
     Ok(())
 }
 
-// A connection to a server that says these bytes.
+// A connection to a server that sends these bytes.
 fn connection<'a>(
     alloc: Global,
     bytes: &'a [u8],
@@ -158,7 +158,7 @@ fn connection<'a>(
     over_streams(alloc, Device::new(bytes, 7), Paper::new(alloc, 16))
 }
 
-// What a session writes over these bytes up to its refused fetch, and, if so, in the calls after it.
+// The output of a session over these bytes up to its failed fetch, and, if `goes_on`, in the calls after it.
 fn written(alloc: Global, bytes: &[u8], goes_on: bool) -> Result<Option<Vec<u8>>, Error> {
     let Ok(mut session) = Session::open(alloc, connection(alloc, bytes)?, "first/1.0", Silent)
     else {
@@ -209,7 +209,7 @@ fn refs_that_cannot_be_read_send_nothing(rt: HostRuntime) -> Result<(), Error> {
     Ok(())
 }
 
-// Objects of which a commit is there that can't be read.
+// Objects with a commit that can't be read.
 fn unreadable(alloc: Global) -> Result<Unreadable, AllocError> {
     let mut objects = StoredObjects::new(alloc);
     if let Ok(id) = ObjectId::from_hex(b"7257effbd41e1233eaae5744e614c5c728e3c979") {

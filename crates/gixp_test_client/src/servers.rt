@@ -1,10 +1,10 @@
-//! What servers say.
+//! Recorded servers.
 use crate::lines::{DELIMITER, lines};
 use bstr::BString;
 use gixp_wire::{Bodies, Body};
 use std::alloc::{AllocError, Global};
 
-/// What a server of version 2 says first.
+/// The capability advertisement of a server of version 2.
 pub(crate) const GREETING: &[&[u8]] = &[
     b"version 2\n",
     b"agent=git/2.39.5\n",
@@ -14,19 +14,19 @@ pub(crate) const GREETING: &[&[u8]] = &[
     b"",
 ];
 
-/// Its refs.
+/// A list of refs.
 pub(crate) const REFS: &[&[u8]] = &[
     b"7257effbd41e1233eaae5744e614c5c728e3c979 refs/heads/main\n",
     b"",
 ];
 
-/// The same list, which ends at a delimiter packet.
+/// A list of refs that ends with a delimiter packet.
 pub(crate) const UNENDED: &[&[u8]] = &[
     b"7257effbd41e1233eaae5744e614c5c728e3c979 refs/heads/main\n",
     DELIMITER,
 ];
 
-/// What a server says first that names objects by SHA-256.
+/// The advertisement of a server whose object format is SHA-256.
 pub(crate) const SHA256: &[&[u8]] = &[
     b"version 2\n",
     b"ls-refs=unborn\n",
@@ -35,7 +35,7 @@ pub(crate) const SHA256: &[&[u8]] = &[
     b"",
 ];
 
-/// Its answer to a fetch: texts of bands 2 and 3, and a pack.
+/// A response to a fetch: messages of bands 2 and 3, and a pack.
 pub(crate) const PACK: &[&[u8]] = &[
     b"packfile\n",
     b"\x02Counting obj",
@@ -46,41 +46,41 @@ pub(crate) const PACK: &[&[u8]] = &[
     b"",
 ];
 
-/// The same with an error beside the pack.
+/// The same with an error on band 3.
 pub(crate) const REPORTED: &[&[u8]] = &[b"packfile\n", b"\x01PA", b"\x03disk full\n\0", b""];
 
-/// The list of an empty repository.
+/// The list of refs of an empty repository.
 pub(crate) const EMPTY: &[&[u8]] = &[b""];
 
-/// A refusal.
+/// An error line.
 pub(crate) const DENIED: &[&[u8]] = &[b"ERR access denied\n"];
 
-/// An answer without a pack, though the client said `done`.
+/// A response without a pack to a request with `done`.
 pub(crate) const UNPACKED: &[&[u8]] = &[b"acknowledgments\n", b"NAK\n", b""];
 
-/// What a server of version 0 says first.
+/// The advertisement of a server of version 0.
 pub(crate) const OLD: &[&[u8]] = &[
     b"7257effbd41e1233eaae5744e614c5c728e3c979 refs/heads/main\0multi_ack_detailed side-band-64k include-tag\n",
     b"",
 ];
 
-/// The same of one that lacks what its answers need.
+/// The same without a capability that the client needs.
 pub(crate) const OLDER: &[&[u8]] = &[
     b"7257effbd41e1233eaae5744e614c5c728e3c979 refs/heads/main\0ofs-delta\n",
     b"",
 ];
 
-/// The same of one whose repository is shallow.
+/// The same of a server whose repository is shallow.
 pub(crate) const OLD_SHALLOW: &[&[u8]] = &[
     b"7257effbd41e1233eaae5744e614c5c728e3c979 refs/heads/main\0multi_ack_detailed side-band-64k include-tag shallow\n",
     b"shallow 7257effbd41e1233eaae5744e614c5c728e3c979\n",
     b"",
 ];
 
-/// The pack of a server of version 0.
+/// The response of a server of version 0 with a pack.
 pub(crate) const OLD_PACK: &[&[u8]] = &[b"NAK\n", b"\x01PACK", b""];
 
-/// A transport over the answers of a server, each the packet lines of these payloads.
+/// A transport over the responses of a server. Each response is the packet lines with these payloads.
 pub(crate) fn server(alloc: Global, answers: &[&[&[u8]]]) -> Result<Bodies, AllocError> {
     let mut bodies = Vec::new(alloc);
     for answer in answers {

@@ -1,4 +1,4 @@
-//! Whole sessions, and what comes of them.
+//! Whole sessions and their results.
 use crate::fetches::{branches, fetch, unless_memory};
 use crate::servers::{GREETING, PACK, REFS, REPORTED, UNPACKED, server};
 use gixp_client::{Error, LocalChange, Session, Silent, State, local_changes};

@@ -1,10 +1,10 @@
-//! Objects that are there and can't be read.
+//! Objects that exist but can't be read.
 use gixp_graph::{CommitData, Find, ObjectError, ObjectKind};
 use gixp_hash::ObjectId;
 use gixp_memory::StoredObjects;
 use std::alloc::Global;
 
-/// Says that an object is there, and can't read a commit.
+/// Reports that its objects exist, but fails to read a commit.
 #[derive(Drop)]
 pub(crate) struct Unreadable {
     pub(crate) objects: StoredObjects,

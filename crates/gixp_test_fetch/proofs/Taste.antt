@@ -1,4 +1,4 @@
--- What a consumer that reads once leaves.
+-- A consumer that reads once.
 use Rattle.std.specs.Prelude.{◌≡◌, ℕ, List, [], take, Result, Ok, Err}
 use Rattle.std.proofs.Common.{inl, inr}
 use Rattle.std.specs.declared.io.Error.{Error as io_error}
@@ -16,7 +16,7 @@ refusal_held old new e (inl h) = h.held
 refusal_held old new e (inr (inl h)) = h.stays.held
 refusal_held old new e (inr (inr h)) = h.held
 
--- one read takes some of the content, and nothing else of the transport
+-- one read takes a part of the content, and changes nothing else of the transport
 pub reads_on : (old new : Side) (r : Result ℕ io_error) (buf : List ℕ) → ReadsContent old new r buf
     → (read : List ℕ) × ReadsOn old new read × ((side_reading new).held ≡ (side_reading old).held)
 reads_on old new (Ok n) buf (inl h) = (take n buf, record { content = h.0.content; ending = λ _. h.0.ending }, h.0.held)

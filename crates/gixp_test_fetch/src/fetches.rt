@@ -1,4 +1,4 @@
-//! Whole fetches: what fails in them, and what is left behind.
+//! Whole fetches, their failures, and what they leave.
 
 mod children;
 mod consumers;

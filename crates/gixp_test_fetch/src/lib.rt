@@ -1,6 +1,6 @@
-//! Tests of what rows of data can't say of the parts of a fetch and of a whole one: devices and repositories that fail at
-//! each call, consumers that stop early, second tries, boundaries in files, what is sent when a value is dropped, what a
-//! progress reporter is told, and the texts of errors. It has no function outside its tests.
+//! Tests of a fetch and of its parts that test vectors can't express: devices and repositories that fail at each call,
+//! consumers that stop early, second tries, boundaries in files, what is sent when a value is dropped, the calls of a progress
+//! reporter, and the texts of errors. All functions are tests or serve tests.
 #![tactic(auto)]
 
 #[cfg(test)]

@@ -1,4 +1,4 @@
-//! Negotiations: what a second try finds, alternates that can't be opened, and answers that name commits nobody sent.
+//! Negotiations: second tries, alternates that can't be opened, and responses that acknowledge commits that nobody sent.
 
 mod commons;
 pub(crate) mod repository;

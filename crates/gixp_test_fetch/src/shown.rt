@@ -1,13 +1,13 @@
-//! What values show as text.
+//! Values as text.
 use std::alloc::{AllocError, Global};
 use std::fmt::{Debug, Display};
 
-/// A value as it shows itself.
+/// The debug text of a value.
 pub(crate) fn shown<T: Debug + Drop>(alloc: Global, value: T) -> Result<String, AllocError> {
     format!(in alloc; "{value:?}")
 }
 
-/// The texts of these errors, a line for each.
+/// The texts of these errors, a line each.
 pub(crate) fn texts<E: Display>(alloc: Global, errors: &[E]) -> Result<String, AllocError> {
     let mut lines = String::new(alloc);
     for error in errors {

@@ -10,7 +10,7 @@ pub(crate) fn text(alloc: Global, bytes: &[u8]) -> Result<BString, AllocError> {
     BString::from_slice(alloc, bytes)
 }
 
-/// What a client says first that opens `/p.git`.
+/// The first message of a client that opens `/p.git`.
 pub(crate) fn opening(alloc: Global) -> Result<Opening, AllocError> {
     Ok(Opening {
         path: text(alloc, b"/p.git")?,
@@ -18,7 +18,7 @@ pub(crate) fn opening(alloc: Global) -> Result<Opening, AllocError> {
     })
 }
 
-/// A connection of a client that asks for this version, and accepts each.
+/// A connection of a client that requests this version, and accepts each.
 pub(crate) fn connection<'a, W: Write + Drop>(
     alloc: Global,
     device: Device<'a>,
@@ -31,7 +31,6 @@ pub(crate) fn connection<'a, W: Write + Drop>(
     Connection::new(alloc, device, writer, url, version, accepted, opening)
 }
 
-// Adds these answers.
 fn push_answers(
     alloc: Global,
     bodies: &mut Vec<Body>,
@@ -43,14 +42,14 @@ fn push_answers(
     Ok(())
 }
 
-/// A transport over memory with these answers.
+/// A transport over memory with these responses.
 pub(crate) fn memory(alloc: Global, answers: &[&[u8]]) -> Result<Bodies, AllocError> {
     let mut bodies = Vec::new(alloc);
     push_answers(alloc, &mut bodies, answers)?;
     Bodies::new(alloc, bodies, text(alloc, b"mem:")?, Vec::new(alloc))
 }
 
-/// The same of a server that wants an account: it denies the first handshake.
+/// The same for a server that requires credentials: it denies the first handshake.
 pub(crate) fn denying(alloc: Global, answers: &[&[u8]]) -> Result<Bodies, AllocError> {
     let mut bodies = Vec::new(alloc);
     bodies.push(Body::Fail(ErrorKind::PermissionDenied))?;

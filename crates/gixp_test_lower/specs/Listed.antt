@@ -9,14 +9,13 @@ use Rattle.gixp_graph.specs.declared.objects.ObjectKind.TheVariants.{Commit as I
 use Rattle.gixp_graph.specs.declared.objects.CommitData.{CommitData}
 use Rattle.gixp_graph.specs.Object.{Object, Objects, commit_of}
 
--- a commit as an object
 abbrev pub object_of : CommitData → Object
 object_of c = record { kind = Some IsCommit; commit = Some (commit_of c) }
 
--- the objects that these commits are, by their ids
+-- the objects of these commits, by id
 abbrev pub objects_of : List (ObjectId × CommitData) → Objects
 objects_of commits = finite.from_entries (map (λ (e : ObjectId × CommitData). (e.0, object_of e.1)) commits)
 
--- the commit under an id in such a list
+-- the commit with this id in such a list
 abbrev pub listed_at : List (ObjectId × CommitData) → ObjectId → Option CommitData
 listed_at commits id = lookup (is_at (id_cmp id)) commits

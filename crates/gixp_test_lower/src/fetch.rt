@@ -1,4 +1,4 @@
-//! Requests whose answers fail, advertisements, updates of a handshake, and texts of errors.
+//! Requests with failing responses, reference advertisements, updates of a handshake, and texts of errors.
 
 mod advertisements;
 mod answers;

@@ -1,4 +1,4 @@
-//! The commit graph, and the complete commits by a plain slow program that is proved against their definition.
+//! The commit graph, and the complete commits by a slow reference program that is proved against their definition.
 
 mod calls;
 mod repository;

@@ -1,13 +1,11 @@
-//! Tests of what rows of data can't say, and no clause says, of the crates up to requests, the listing of refs,
-//! the commit graph and refspecs. It has no function outside its tests.
+//! Tests of the crates up to requests, the commit graph and refspecs, for what neither test vectors nor clauses can
+//! say. It has no function outside its tests.
 #![tactic(auto)]
 
 #[cfg(test)]
 mod fetch;
 #[cfg(test)]
 mod graph;
-#[cfg(test)]
-mod listing;
 #[cfg(test)]
 mod refspecs;
 #[cfg(test)]

@@ -1,4 +1,4 @@
-//! Refspecs: values, copies, texts of errors, and allocations that fail. Worked rows are data of `gixp_replay`.
+//! Refspecs: values, copies, texts of errors, and failing allocations. `gixp_replay` has the test vectors.
 use crate::shown::is_shown;
 use bstr::{BStr, BString};
 use gixp_hash::ObjectId;
@@ -11,7 +11,7 @@ use std::alloc::{AllocError, Global};
 use std::process::Abort;
 use std::test::Fail;
 
-// The refspec of a text, none where it is refused.
+// Reads a refspec; `None` where it is invalid.
 fn read(text: &[u8]) -> Option<RefSpecRef<'_>> {
     match parse(BStr::new(text), Operation::Fetch) {
         Ok(spec) => Some(spec),
@@ -30,7 +30,7 @@ fn refusal(text: &[u8]) -> Option<Error> {
     }
 }
 
-// Whether a text is read, and stands for this.
+// Whether a text is a refspec with this instruction.
 fn stands_for(text: &[u8], instruction: &Instruction<'_>) -> bool {
     match read(text) {
         Some(spec) => spec.instruction() == *instruction,
@@ -59,7 +59,7 @@ fn check_copy<T: Clone + PartialEq>(rt: &impl Abort, value: &T) -> Result<(), Al
     Ok(())
 }
 
-// A refspec with each of its parts.
+// A refspec with a sign, a source and a destination.
 const SPEC: &[u8] = b"+a:refs/heads/b";
 
 fn check_owned(rt: &impl Abort, alloc: Global, spec: &RefSpec) -> Result<(), AllocError> {
@@ -127,7 +127,7 @@ fn matched<'s>(alloc: Global, specs: &'s [RefSpecRef<'s>]) -> Result<Outcome<'s>
     MatchGroup::from_fetch_specs(specs).match_lhs(alloc, &[item])
 }
 
-// How many mappings and fixes there are, where no local name has two sources.
+// The number of mappings and of fixes; `None` where one local name has two sources.
 fn validated(alloc: Global, outcome: Outcome<'_>) -> Result<Option<(usize, usize)>, AllocError> {
     match outcome.validated(alloc)? {
         Ok((outcome, fixes)) => Ok(Some((outcome.mappings.len(), fixes.len()))),
@@ -135,7 +135,7 @@ fn validated(alloc: Global, outcome: Outcome<'_>) -> Result<Option<(usize, usize
     }
 }
 
-// A ref that a pattern maps to no whole local name: its mapping is taken out, and told as a fix.
+// A pattern maps a ref to a local name that is not a full name: validation removes the mapping and reports a fix.
 fn check_matching(rt: &impl Abort, alloc: Global) -> Result<(), AllocError> {
     let Some(spec) = read(b"refs/heads/*:o/*") else {
         return Ok(());
@@ -163,7 +163,7 @@ fn copies_mappings_and_prefixes(rt: HostRuntime) -> Result<(), Fail> {
     Ok(())
 }
 
-// With a failed allocation, each is the answer or that failure.
+// If an allocation fails, each call returns its result or that failure.
 #[test]
 fn answers_or_allocation_failures(rt: HostRuntime) {
     let _ = check_copies(&rt, rt.alloc());

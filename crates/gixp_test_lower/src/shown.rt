@@ -1,8 +1,8 @@
-//! What values show as text.
+//! The texts that values display.
 use std::alloc::{AllocError, Global};
 use std::fmt::Display;
 
-/// Whether a value is shown as this text.
+/// Whether `Display` writes this text for a value.
 pub(crate) fn is_shown<T: Display + Drop>(
     alloc: Global,
     value: T,
@@ -11,7 +11,7 @@ pub(crate) fn is_shown<T: Display + Drop>(
     Ok(value.to_string(alloc)?.as_str() == text)
 }
 
-/// Whether values are shown as this text, a line for each.
+/// Whether `Display` writes this text for these values, one on each line.
 pub(crate) fn are_shown<T: Display>(
     alloc: Global,
     values: &[T],

@@ -1,4 +1,4 @@
-//! Packet lines, bands and transports over devices that fail, what a reader leaves that is given back, and texts of errors.
+//! Packet lines, sidebands and transports over failing devices, the rest of a reader that is returned, and texts of errors.
 
 mod bands;
 mod errors;

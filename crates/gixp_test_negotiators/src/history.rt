@@ -4,7 +4,6 @@ use gixp_doubles::{MemoryObjects, numbered_ids};
 use gixp_graph::{CommitData, Graph, Negotiator, NegotiatorError, Objects};
 use std::alloc::{AllocError, Global};
 
-/// Adds a commit.
 pub(crate) fn add(
     alloc: Global,
     objects: &mut MemoryObjects,
@@ -32,7 +31,7 @@ pub(crate) fn line(alloc: Global, last: u8) -> Result<MemoryObjects, AllocError>
     Ok(objects)
 }
 
-/// The numbers of the next haves, at most so many.
+/// The numbers of the next haves, up to this many.
 pub(crate) fn haves<N: Negotiator, O: Objects>(
     alloc: Global,
     negotiator: &mut N,

@@ -1,5 +1,5 @@
-//! Tests of git's negotiators over small histories: which commits they offer, in which order, and where they end; and of
-//! repositories in memory that are filled from what git writes. It has no function outside its tests.
+//! Tests of git's negotiators over small histories: which commits they offer, in which order, and where they end. Also
+//! tests of repositories in memory that are filled from the output of git commands. All functions are tests or serve tests.
 #![tactic(auto)]
 
 #[cfg(test)]

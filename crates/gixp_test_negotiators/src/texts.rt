@@ -1,4 +1,4 @@
-//! Repositories that are filled from what git writes.
+//! Repositories that are filled from the output of git commands.
 use crate::history::{haves, id};
 use bstr::BStr;
 use gixp_graph::{Find, Flags, Graph, Negotiator, ObjectKind, RefStore, Shared};
@@ -57,7 +57,7 @@ fn a_line_is_refused_by_its_number(rt: HostRuntime) -> Result<(), Fail> {
 fn parents_may_be_missing_or_lead_back(rt: HostRuntime) -> Result<(), Fail> {
     let alloc = rt.alloc();
     let mut objects = StoredObjects::new(alloc);
-    // 1 and 2 are each other's parents, and 3 isn't there; of two lines of 1 the later one counts.
+    // 1 and 2 are each other's parents, and 3 is missing. Of the two lines of 1 the later one counts.
     let text = format!(in alloc; "9 {ONE} {THREE}\n20 {ONE} {TWO}\n10 {TWO} {ONE} {THREE}\n")?;
     objects.read_commits(alloc, text.as_bytes())?;
     let mut graph = Graph::new(alloc, Shared::new(&objects));

@@ -1,4 +1,4 @@
-//! What the negotiators offer.
+//! The haves that the negotiators offer.
 use crate::history::{add, haves, id, line};
 use gixp_doubles::{Lenient, MemoryObjects};
 use gixp_graph::{Graph, Negotiator, NegotiatorError, ObjectError};
@@ -56,7 +56,7 @@ fn passes_over_more_and_more(rt: HostRuntime) -> Result<(), Fail> {
     let mut negotiator = Skipping::new(alloc);
     negotiator.add_tip(id(1), &mut graph)?;
     let offered = haves(alloc, &mut negotiator, &mut graph, 20)?;
-    // Distances of 1, 2, 4, 7 and 11 commits, and the last.
+    // The distances are 1, 2, 4, 7 and 11 commits; the last commit is offered too.
     assert!(rt; offered.as_slice() == [1, 3, 6, 11, 19, 31, 40].as_slice());
     Ok(())
 }

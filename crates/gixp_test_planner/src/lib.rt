@@ -1,6 +1,8 @@
-//! Tests of what rows of data can't say of a planner: what is read of a folder, and in which order, files that aren't there,
-//! writes and flushes that fail, and the texts of errors. It has no function outside its tests.
+//! Tests of a planner that neither a test vector nor a clause can express: listed answers, the files of a recorded session, writes and
+//! flushes that fail, and the texts of errors. The crate has no function outside its tests.
 #![tactic(auto)]
 
+#[cfg(test)]
+mod listing;
 #[cfg(test)]
 mod sessions;

@@ -1,4 +1,4 @@
-//! Recorded sessions in folders, and what is planned over them.
+//! Recorded sessions in folders, and plans over them.
 use bstr::BString;
 use gixp_doubles::Paper;
 use gixp_graph::{Graph, NoObjects};
@@ -40,7 +40,6 @@ fn unless_memory<T: Drop>(answer: Result<T, PlanError>) -> Result<Result<T, Plan
     }
 }
 
-// How many were read.
 fn counted<T: Drop>(answer: Result<Vec<T>, PlanError>) -> Result<Result<usize, PlanError>, Fail> {
     match unless_memory(answer)? {
         Ok(found) => Ok(Ok(found.len())),
@@ -48,7 +47,7 @@ fn counted<T: Drop>(answer: Result<Vec<T>, PlanError>) -> Result<Result<usize, P
     }
 }
 
-// A file that isn't there ends the bodies, or leaves no haves. One that can't be read is refused: no path has a NUL.
+// A missing file ends the bodies, or has no haves. A file that can't be read is an error: no path has a NUL.
 #[test]
 fn reads_a_folder_up_to_what_is_missing(rt: HostRuntime) -> Result<(), Fail> {
     for (folder, want) in [("no such folder", Ok(0)), ("\0", Err(UNREAD))] {
@@ -60,12 +59,11 @@ fn reads_a_folder_up_to_what_is_missing(rt: HostRuntime) -> Result<(), Fail> {
     Ok(())
 }
 
-// The text of a body.
 fn body_text(alloc: Global, number: usize) -> Result<String, AllocError> {
     format!(in alloc; "the body {number}\n")
 }
 
-// A folder of eleven bodies and three ids, of which the first is there twice.
+// A folder of eleven bodies and three ids, the first of which occurs twice.
 fn folder_of_eleven(rt: &HostRuntime) -> io::Result<String> {
     let folder = new_folder(rt, "eleven")?;
     for number in 0..11usize {
@@ -88,7 +86,7 @@ fn is_body(body: &Body, text: &str) -> bool {
     }
 }
 
-// Whether these are the eleven, in the order of their numbers.
+// Whether these are the eleven bodies, in the order of their numbers.
 fn are_eleven(alloc: Global, bodies: &[Body]) -> Result<bool, AllocError> {
     for (number, body) in bodies.iter().enumerate() {
         if !is_body(body, body_text(alloc, number)?.as_str()) {
@@ -131,7 +129,7 @@ fn folder_of_refs(rt: &HostRuntime, name: &str, refs: &str) -> io::Result<String
     Ok(folder)
 }
 
-// The same of two refs.
+// A session of version 2 with two refs.
 fn session_folder(rt: &HostRuntime, name: &str) -> io::Result<String> {
     let refs = "003d0123456789012345678901234567890123456789 refs/heads/main\n\
         003abbbbbbbbbbbbbbbbbbbbbbbbbbbbbbbbbbbbbbbb refs/tags/v1\n0000";
@@ -148,7 +146,6 @@ const PLANNED: &str =
     map 0123456789012345678901234567890123456789 refs/heads/main refs/remotes/origin/main\n\
     map bbbbbbbbbbbbbbbbbbbbbbbbbbbbbbbbbbbbbbbb refs/tags/v1 -\npack\n";
 
-// Two refspecs.
 fn specs(alloc: Global) -> Result<Vec<BString>, AllocError> {
     let mut specs = Vec::new(alloc);
     specs.push(BString::from_slice(alloc, "refs/heads/*:refs/remotes/origin/*")?)?;
@@ -177,7 +174,7 @@ fn plan_folder(
     )
 }
 
-// What a plan over the session returns, unless an allocation failed that isn't the paper's.
+// The result of a plan over the session, unless an allocation other than the paper's failed.
 fn planned(
     rt: &HostRuntime,
     folder: &str,
@@ -202,8 +199,7 @@ fn plans_over_a_folder(rt: HostRuntime) -> Result<(), Fail> {
     Ok(())
 }
 
-// A flush that fails after a whole text is told of, also where the session was refused: then, as by an allocation that failed, the
-// text is shorter.
+// A flush that fails after a whole text is reported, also where the session failed and the text is shorter.
 #[test]
 fn tells_of_a_flush_that_fails(rt: HostRuntime) -> Result<(), Fail> {
     let folder = session_folder(&rt, "flush")?;
@@ -237,8 +233,8 @@ fn thousand_branches(alloc: Global) -> Result<(String, String), AllocError> {
     Ok((refs, lines))
 }
 
-// Of a long text a piece is written that ends with the lines of 98 bytes by which it got long, those of up to 512 mappings. It
-// stands where the next write fails.
+// A piece of a long text ends with the lines, of 98 bytes each and of up to 512 mappings, that made it long. The piece stays written
+// where the next write fails.
 #[test]
 fn writes_a_long_text_in_pieces(rt: HostRuntime) -> Result<(), Fail> {
     let (refs, lines) = thousand_branches(rt.alloc())?;
@@ -257,7 +253,7 @@ fn writes_a_long_text_in_pieces(rt: HostRuntime) -> Result<(), Fail> {
     Ok(())
 }
 
-// Whether a plan whose write of this number fails by this kind is refused so, after a beginning of the text.
+// Whether a plan reports the failure of the write of this number with this kind, after a beginning of the text.
 fn breaks_off(
     rt: &HostRuntime,
     folder: &str,
@@ -292,7 +288,7 @@ fn tells_of_each_write_that_fails(rt: HostRuntime) -> Result<(), Fail> {
     Ok(())
 }
 
-// A write that is interrupted is made again.
+// An interrupted write is repeated.
 #[test]
 fn writes_on_where_a_write_is_interrupted(rt: HostRuntime) -> Result<(), Fail> {
     let folder = session_folder(&rt, "interrupted")?;

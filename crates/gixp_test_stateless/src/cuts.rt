@@ -1,10 +1,10 @@
-//! Answers that are cut anywhere, by how the bytes come and by how they are asked for.
+//! Responses that arrive in pieces and are read in pieces of any size.
 use gixp_stateless::Answers;
 use std::alloc::Global;
 use std::io::{self, ErrorKind, Read};
 use std::test::Fail;
 
-// Bytes that come in pieces of at most so many. Where `fails` is set, every other read fails.
+// Returns at most `most` bytes in each read. If `fails` is true, every other read fails.
 #[derive(Drop)]
 struct Pieces<'a> {
     bytes: &'a [u8],
@@ -27,7 +27,7 @@ impl Read for Pieces<'_> {
     }
 }
 
-// All that is read until so many bytes came, or the reader is at its end twice. So many are asked for at once.
+// Reads until `count` bytes came, or the reader was at its end twice. Each read requests at most `room` bytes.
 fn read_until(
     alloc: Global,
     pieces: &mut Pieces<'_>,
@@ -55,7 +55,7 @@ fn read_until(
 #[test]
 fn passes_on_whole_answers_however_cut(rt: HostRuntime) -> Result<(), Fail> {
     let cases: [(&[u8], &[u8]); 28] = [
-        // an advertisement, and answers
+        // an advertisement, and responses
         (b"", b""),
         (b"0000", b"0000"),
         (b"0006a\n0000", b"0006a\n0000"),
@@ -72,7 +72,7 @@ fn passes_on_whole_answers_however_cut(rt: HostRuntime) -> Result<(), Fail> {
             b"000a0002000000000c0000000200000002",
             b"000a0002000000000c000000020000",
         ),
-        // an answer without its flush packet, and what follows it
+        // a response without its flush packet, and more bytes after it
         (b"00000002", b"0000"),
         (b"000000020006b\n00000002", b"0000"),
         (b"00000006b\n000200000002", b"00000006b\n"),
@@ -94,7 +94,7 @@ fn passes_on_whole_answers_however_cut(rt: HostRuntime) -> Result<(), Fail> {
         (b"000000", b"000000"),
         (b"00090002", b"00090002"),
         (b"000000090002", b"000000090002"),
-        // what counts no packet line
+        // four bytes that begin no packet line
         (b"zzzz00000002", b"zzzz00000002"),
         (b"0000000zzzzz0002", b"0000000zzzzz0002"),
         (b"00040000000300000002", b"0004000000030000"),
@@ -121,7 +121,7 @@ fn passes_on_whole_answers_however_cut(rt: HostRuntime) -> Result<(), Fail> {
 #[test]
 fn reads_no_more_than_comes_next(rt: HostRuntime) -> Result<(), Fail> {
     let stream: &[u8] = b"0006a\n00000006b\n000000020006c\n00000002";
-    // so many bytes are passed on, once so many were read
+    // the number of bytes passed on, and the number of bytes read by then
     let cases = [(6, 6), (10, 10), (16, 16), (20, 24), (26, 30), (30, 38)];
     for (passed, read) in cases {
         for most in 1..14 {

@@ -1,11 +1,11 @@
-//! Sections `packfile-uris` that are cut anywhere, by how the bytes come and by how they are asked for.
+//! Sections `packfile-uris` that arrive in pieces and are read in pieces of any size.
 use gixp_packfile_uris::{PackfileUris, UriSink};
 use std::alloc::Global;
 use std::io::{self, ErrorKind, Read};
 use std::process::Abort;
 use std::test::Fail;
 
-// Bytes that come in pieces of at most so many. Where `fails` is set, every other read fails.
+// Returns at most `most` bytes in each read. If `fails` is true, every other read fails.
 #[derive(Drop)]
 struct Pieces<'a> {
     bytes: &'a [u8],
@@ -28,7 +28,7 @@ impl Read for Pieces<'_> {
     }
 }
 
-// The lines that were taken, each with a line end.
+// The lines received, each with an LF.
 #[derive(Drop)]
 struct Lines<'a>(&'a mut Vec<u8>);
 
@@ -39,7 +39,7 @@ impl UriSink for Lines<'_> {
     }
 }
 
-// What is read until so many bytes came, or the reader is at its end twice, or refuses a line twice.
+// The bytes read until this many came, or the reader was at its end twice, or returned an error twice.
 #[derive(Drop)]
 struct Came {
     passed: Vec<u8>,
@@ -86,7 +86,7 @@ fn read_until(
     })
 }
 
-// A stream, what is passed on of it, the lines, and whether a line is refused.
+// A stream, the bytes passed on, the lines of the sink, and whether a line is invalid.
 type Case<'a> = (&'a [u8], &'a [u8], &'a [u8], bool);
 
 fn expect<R: Abort + AllocGlobal>(rt: &R, case: Case<'_>) -> Result<(), Fail> {
@@ -120,7 +120,7 @@ fn takes_the_section_out(rt: HostRuntime) -> Result<(), Fail> {
             b"",
             false,
         ),
-        // one before the pack, with line ends and without them
+        // a section before the pack, with and without LFs
         (
             b"0012packfile-uris\n00370123456789012345678901234567890123456789 http://a/b0001000dpackfile\n0005x0000",
             b"000dpackfile\n0005x0000",
@@ -141,7 +141,7 @@ fn takes_the_section_out(rt: HostRuntime) -> Result<(), Fail> {
             b"0123456789012345678901234567890123456789 http://a/b\n",
             false,
         ),
-        // a second one of the same answer is passed on, and one of the next is taken out
+        // a second section of the same response is passed on, one of the next response is removed
         (
             b"0011packfile-uris00010011packfile-uris000100000011packfile-uris00010005x",
             b"0011packfile-uris000100000005x",
@@ -158,14 +158,14 @@ fn takes_the_section_out(rt: HostRuntime) -> Result<(), Fail> {
 #[test]
 fn leaves_other_sections(rt: HostRuntime) -> Result<(), Fail> {
     let cases: [Case<'_>; 4] = [
-        // not the first line of a section
+        // the header is not the first line of a section
         (
             b"0005x0011packfile-uris0001",
             b"0005x0011packfile-uris0001",
             b"",
             false,
         ),
-        // another name
+        // another header
         (
             b"0010packfile-uri00010012packfile-uris 0001",
             b"0010packfile-uri00010012packfile-uris 0001",
@@ -174,7 +174,7 @@ fn leaves_other_sections(rt: HostRuntime) -> Result<(), Fail> {
         ),
         // less than a packet line
         (b"0011packfile-ur", b"0011packfile-ur", b"", false),
-        // what counts no packet line
+        // four bytes that begin no packet line
         (
             b"zzzz0011packfile-uris0001",
             b"zzzz0011packfile-uris0001",
@@ -191,14 +191,14 @@ fn leaves_other_sections(rt: HostRuntime) -> Result<(), Fail> {
 #[test]
 fn refuses_other_lines(rt: HostRuntime) -> Result<(), Fail> {
     let cases: [Case<'_>; 6] = [
-        // no URI
+        // not a URI line
         (
             b"0005x00010011packfile-uris0005y0001",
             b"0005x0001",
             b"",
             true,
         ),
-        // a digit too few, and one that is none
+        // a digit too few, and a byte that is not a digit
         (
             b"0011packfile-uris0036123456789012345678901234567890123456789 http://a/b0001",
             b"",
@@ -224,7 +224,7 @@ fn refuses_other_lines(rt: HostRuntime) -> Result<(), Fail> {
             b"",
             true,
         ),
-        // a flush packet for the delimiter packet
+        // a flush packet in place of the delimiter packet
         (
             b"0011packfile-uris00370123456789012345678901234567890123456789 http://a/b0000",
             b"",
@@ -241,7 +241,7 @@ fn refuses_other_lines(rt: HostRuntime) -> Result<(), Fail> {
 #[test]
 fn reads_no_more_of_a_section_than_comes_next(rt: HostRuntime) -> Result<(), Fail> {
     let stream: &[u8] = b"0005x00010011packfile-uris00010006ab0000";
-    // so many bytes are passed on, once so many were read
+    // the number of bytes passed on, and the number of bytes read by then
     let cases = [(5, 5), (9, 9), (15, 36), (19, 40)];
     for (passed, read) in cases {
         for most in 1..14 {

@@ -1,5 +1,5 @@
-//! Tests of what becomes of local refs, over small repositories in memory. The expected modes are what git 2.39.5 does in
-//! the same repositories, in gitoxide's words. It has no function outside its tests.
+//! Tests of the updates of local refs, over small repositories in memory. The expected modes are what git 2.39.5 does in
+//! the same repositories, in gitoxide's terms. All functions are tests or serve tests.
 #![tactic(auto)]
 
 #[cfg(test)]

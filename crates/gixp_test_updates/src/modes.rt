@@ -1,4 +1,4 @@
-//! What becomes of one local ref.
+//! The update of one local ref.
 use crate::repository::{first_update, id, map, options, refs, text};
 use gixp_refmap::fetch::Tags;
 use gixp_updates::refs::update::Mode;
@@ -6,7 +6,7 @@ use gixp_updates::refs::{Edit, Update};
 use std::alloc::Global;
 use std::test::Fail;
 
-// The update of a ref that the refspec maps, where the server's leads to an object and the local one holds another.
+// The update of a ref that the refspec maps, where the server's ref has one object and the local ref another.
 fn update_of(alloc: Global, asked: &[u8], local: &[u8], old: u8, new: u8) -> Result<Update, Fail> {
     let map = map(alloc, asked, b"refs/heads/main", new)?;
     first_update(
@@ -122,7 +122,7 @@ fn leaves_unsafe_names_and_branches_of_work_trees(rt: HostRuntime) -> Result<(),
     Ok(())
 }
 
-// Whether an update of a ref that the server has at 3 and the repository at 1 fails, by the tags that were asked for.
+// Whether the update of a ref fails that is 3 on the server and 1 locally, by the tags of the fetch.
 fn fails(alloc: Global, asked: &[u8], name: &[u8], tags: Tags) -> Result<bool, Fail> {
     let map = map(alloc, asked, name, 3)?;
     let update = first_update(alloc, &map, &refs(alloc, name, 1)?, &options(tags, &[]))?;
@@ -132,7 +132,7 @@ fn fails(alloc: Global, asked: &[u8], name: &[u8], tags: Tags) -> Result<bool, F
     })
 }
 
-// As git 2.39.5 ends with status 0 or 1 where a tag moved on the server, and for a name that breaks the rules.
+// git 2.39.5 exits with 0 or 1 in the same cases: a tag moved on the server, or a name isn't valid.
 #[test]
 fn fails_where_git_does(rt: HostRuntime) -> Result<(), Fail> {
     let alloc = rt.alloc();

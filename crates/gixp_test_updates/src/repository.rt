@@ -16,7 +16,6 @@ use gixp_updates::refs::update::{Options, update};
 use std::alloc::{AllocError, Global};
 use std::test::Fail;
 
-/// Adds a commit.
 pub(crate) fn add(
     alloc: Global,
     objects: &mut StoredObjects,
@@ -28,7 +27,7 @@ pub(crate) fn add(
     objects.add_commit(id(number), CommitData { time, parents })
 }
 
-/// The commits 1, 2 and 3, each the parent of the next, and 4 beside 2; the blobs 11 and 12, the tag 14.
+/// The commits 1, 2 and 3, each the parent of the next; 4, a sibling of 2; the blobs 11 and 12, and the tag 14.
 pub(crate) fn objects(alloc: Global) -> Result<StoredObjects, AllocError> {
     let mut objects = StoredObjects::new(alloc);
     add(alloc, &mut objects, 1, 10, &[])?;
@@ -41,12 +40,10 @@ pub(crate) fn objects(alloc: Global) -> Result<StoredObjects, AllocError> {
     Ok(objects)
 }
 
-/// A text of its own.
 pub(crate) fn text(alloc: Global, bytes: &[u8]) -> Result<BString, AllocError> {
     BString::from_slice(alloc, bytes)
 }
 
-/// The refs that hold these ids.
 pub(crate) fn refs(alloc: Global, name: &[u8], number: u8) -> Result<StoredRefs, AllocError> {
     let mut refs = StoredRefs::new(alloc);
     if number > 0 {
@@ -55,13 +52,12 @@ pub(crate) fn refs(alloc: Global, name: &[u8], number: u8) -> Result<StoredRefs,
     Ok(refs)
 }
 
-/// A refspec of its own.
 pub(crate) fn spec(alloc: Global, bytes: &[u8]) -> Result<RefSpec, Fail> {
     let spec = parse(BStr::new(bytes), Operation::Fetch)?;
     Ok(spec.to_owned(alloc)?)
 }
 
-/// The map of one ref of a server, by this refspec, and the tags beside.
+/// The ref map of one ref of a server, by this refspec and the refspec of all tags.
 pub(crate) fn map(alloc: Global, asked: &[u8], name: &[u8], number: u8) -> Result<RefMap, Fail> {
     let mut fetch_refspecs = Vec::new(alloc);
     fetch_refspecs.push(spec(alloc, asked)?)?;
@@ -80,7 +76,6 @@ pub(crate) fn map(alloc: Global, asked: &[u8], name: &[u8], number: u8) -> Resul
     Ok(RefMap::from_refs(alloc, remote_refs, &capabilities, context)?)
 }
 
-/// What is said of the update.
 pub(crate) fn options(tags: Tags, checked_out: &[BString]) -> Options<'_> {
     Options {
         tags,
@@ -89,7 +84,7 @@ pub(crate) fn options(tags: Tags, checked_out: &[BString]) -> Options<'_> {
     }
 }
 
-/// The first update of a map in that repository.
+/// The first update of a map in the small repository.
 pub(crate) fn first_update(
     alloc: Global,
     map: &RefMap,

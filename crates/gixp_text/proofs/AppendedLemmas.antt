@@ -1,8 +1,8 @@
--- Texts that are appended one after the other.
+-- Texts that are appended piece by piece.
 use Rattle.std.proofs.Common.{◌≡◌, ℕ, ◌+◌, ◌<◌, List, [], ◌∷◌, ◌++◌, length, drop, flat_map, get_or, sym, ap, ◌∙◌, append_assoc, append-nil}
 use Rattle.std.proofs.lemmas.List.{drop_more}
 
--- of what is to come after a text some does, and the rest is left
+-- `now` is `old` with a first part of `all` appended; `left` is the rest of `all`
 pub record Partly (old now left all : List ℕ) : Type 0 where
   pub split : now ++ left ≡ old ++ all
 
@@ -13,7 +13,6 @@ partly-more old now new left rest all x h e k =
 partly-all : (old now left all : List ℕ) → Partly old now left all → left ≡ [] → now ≡ old ++ all
 partly-all old now left all h e = sym (append-nil now) ∙ ap (λ l. now ++ l) (sym e) ∙ h.split
 
--- one of a list more
 pub each-more : {X : Type 0} (show : X → List ℕ) (old now new : List ℕ) (left rest : List X) (x : X) (all : List ℕ)
     → Partly old now (flat_map show left) all → left ≡ x ∷ rest → new ≡ now ++ show x
     → Partly old new (flat_map show rest) all
@@ -23,7 +22,7 @@ pub each-end : {X : Type 0} (show : X → List ℕ) (old now : List ℕ) (left :
     → Partly old now (flat_map show left) all → left ≡ [] → now ≡ old ++ all
 each-end show old now left all h e = partly-all old now _ all h (ap (flat_map show) e)
 
--- what is left of a list begins with the element at that place
+-- the rest of a list from index i begins with the element at i
 pub left-at : {X : Type 0} (xs : List X) (i : ℕ) (x : X) → i < length xs → x ≡ get_or xs i x → drop i xs ≡ x ∷ drop (i + 1) xs
 left-at xs i x h e = drop_more xs i x h ∙ ap (λ y. y ∷ drop (i + 1) xs) (sym e)
 

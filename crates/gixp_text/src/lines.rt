@@ -1,4 +1,4 @@
-//! Lines and words.
+//! The lines of a text, and the words of a line.
 ghost use Rattle.std.specs.Prelude.{◌≡◌, IfOk, map};
 ghost use Rattle.std.specs.Io.BufRead.{strip_last};
 ghost use Rattle.bstr.specs.BStr.{bstr_bytes};
@@ -7,7 +7,7 @@ ghost use Rattle.gixp_text.specs.Lines.{text_pieces, text_lines, line_words};
 use bstr::BStr;
 use std::alloc::{AllocError, Global};
 
-/// The text without one ending LF.
+/// The text without its last LF, if it ends in one.
 pub fn without_line_end(text: &[u8]) -> &[u8]
     ensures { result.now ≡ strip_last 10 text.now }
 {
@@ -17,7 +17,6 @@ pub fn without_line_end(text: &[u8]) -> &[u8]
     }
 }
 
-// The pieces between LFs.
 fn text_pieces(alloc: Global, text: &[u8]) -> Result<Vec<BStr<'_>>, AllocError>
     ensures { IfOk result (λ found. map bstr_bytes found.items ≡ text_pieces text.now) }
 {
@@ -26,7 +25,7 @@ fn text_pieces(alloc: Global, text: &[u8]) -> Result<Vec<BStr<'_>>, AllocError>
         .collect(alloc)
 }
 
-/// The lines of a text, each without its LF, which the last one may lack.
+/// The lines of a text, each without its LF. The last line may lack it.
 ///
 /// # Errors
 ///
@@ -40,7 +39,7 @@ pub fn text_lines(alloc: Global, text: &[u8]) -> Result<Vec<BStr<'_>>, AllocErro
     text_pieces(alloc, without_line_end(text))
 }
 
-/// The words of a line, between single blanks: two blanks have an empty one between them.
+/// The words of a line, split at each single blank. Two blanks in a row have an empty word between them.
 ///
 /// # Errors
 ///

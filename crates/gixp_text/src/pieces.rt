@@ -3,11 +3,11 @@ ghost use Rattle.std.specs.Prelude.{ℕ, ◌≡◌, ◌++◌, OnOk, OnErr, flat_
 
 use std::alloc::AllocError;
 
-/// Appends pieces, one after the other.
+/// Appends these pieces to the text, one after the other.
 ///
 /// # Errors
 ///
-/// An allocation failure. The text then ends with the pieces before the one that failed.
+/// An allocation failure. The text then has the pieces before the one that failed.
 #[inline(always)]
 pub fn append(text: &mut Vec<u8>, pieces: &[&[u8]]) -> Result<(), AllocError>
     ensures all { OnOk result (text.new.items ≡ text.old.items ++ flat_map (λ piece. piece.now) pieces.now) }

@@ -1,4 +1,4 @@
--- Which ids the objects were asked for.
+-- Which ids were read.
 use Rattle.std.proofs.Common.{◌≡◌, ◌∙◌, ◌⊎◌, inl, inr, ⊎_elim, Bool, true, false, true≢false, List, [], ◌∷◌, ◌++◌, append_assoc, None, refl, sym, ap, subst}
 use Rattle.std.specs.Ordering.{eq_by_cmp}
 use Rattle.std.proofs.lemmas.Cmp.{eq_by_cmp_equiv}
@@ -16,7 +16,6 @@ use Rattle.gixp_graph.proofs.AskedLemmas.{asks_weaker}
 use Rattle.gixp_updates.specs.Search.{Search, LooksUp, KeepsAsked}
 use Rattle.gixp_updates.proofs.LookLemmas.{looks_on}
 
--- one more
 asks_more : (P Q : ObjectId → Type 0) → ((q : ObjectId) → P q → Q q) → (id : ObjectId) → Q id → ((q : ObjectId) → P q
     → eq_by_cmp id_cmp id q ≡ false) → (old mid new : List ObjectId) → new ≡ mid ++ id ∷ [] → AsksEach P old mid → AsksEach Q old new
 asks_more P Q weaker id own apart old mid new e a = record {
@@ -27,7 +26,7 @@ asks_more P Q weaker id own apart old mid new e a = record {
   each = All-push Q a.ids id (All-weaker P Q weaker a.ids a.each) own;
 }
 
--- what isn't held wasn't before
+-- a commit that isn't held wasn't held before
 unheld : (first g : GraphData) → LooksUp first g → (id : ObjectId) → finite.get g.held id ≡ None → finite.get first.held id ≡ None
 unheld first g l id u = ⊎_elim (λ e. sym e ∙ u) (λ e. e.0) (l.held id)
 
@@ -35,7 +34,7 @@ true_or_false : (b : Bool) → (b ≡ true) ⊎ (b ≡ false)
 true_or_false true = inl refl
 true_or_false false = inr refl
 
--- nothing more was asked for
+-- nothing more was read
 pub asked_same : (g : GraphData) (old new : Search) → ((q : ObjectId) → old.seen q ≡ true → new.seen q ≡ true)
     → (before after : List ObjectId) → after ≡ before → KeepsAsked g old new before after
 asked_same g old new keeps before after e first start l a =
@@ -43,7 +42,7 @@ asked_same g old new keeps before after e first start l a =
     (asks_weaker (λ q. (old.seen q ≡ true) × (finite.get first.held q ≡ None))
     (λ q. (new.seen q ≡ true) × (finite.get first.held q ≡ None)) (λ q p. (keeps q p.0, p.1)) start before a)
 
--- an id that wasn't looked for before
+-- an id that wasn't looked up before
 pub asked_one : (g : GraphData) (id : ObjectId) (old new : Search) → old.seen id ≡ false → new.seen id ≡ true
     → ((q : ObjectId) → old.seen q ≡ true → new.seen q ≡ true) → (before after : List ObjectId)
     → AsksWhere (finite.get g.held id ≡ None) id before after → KeepsAsked g old new before after
@@ -56,7 +55,7 @@ asked_one g id old new fresh here keeps before after asks first start l a = ⊎_
     start before after e.1 a)
     asks
 
--- and then others
+-- several steps in a row
 pub asked_on : (g h : GraphData) → LooksUp g h → (a b c : Search) (before between after : List ObjectId)
     → KeepsAsked g a b before between → KeepsAsked h b c between after → KeepsAsked g a c before after
 asked_on g h l a b c before between after k m first start f asked = m first start (looks_on first g h f l) (k first start f asked)

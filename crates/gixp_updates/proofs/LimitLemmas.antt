@@ -1,4 +1,4 @@
--- How many ids are asked for.
+-- How many ids are read.
 use Rattle.std.proofs.Common.{◌≡◌, ℕ, ◌+◌, ◌<◌, ◌≤◌, ◌∙◌, inl, inr, ⊎_elim, List, [], ◌∷◌, ◌++◌, length, get_or, append-nil, append_assoc, Option, Some, None, refl, sym, ap, subst, arith, add-one, true≢false}
 use Rattle.std.specs.Prelude.{Result, Ok, Err, true, false, Contains}
 use Rattle.std.proofs.lemmas.List.Elements.{All-contains, Contains-get_or}
@@ -15,16 +15,16 @@ use Rattle.gixp_updates.specs.Ancestors.{IsAncestor, IsBeyond}
 use Rattle.gixp_updates.specs.Search.{Search, SeesMore, HasAskedFor}
 use Rattle.gixp_updates.specs.Limits.{LooksWithin, LooksBy, AsksWithin, AsksFew, KeepsLimit, AsksFewEach, IsOfMapping}
 
--- ---- one look at the ancestors of a commit
+-- ---- one search of ancestors
 
--- what doesn't exceed a limit is at most that
+-- a number that isn't beyond a limit is at most the limit
 not_beyond : (seen most : ℕ) (limit : Option ℕ) → limit ≡ Some most → (IsBeyond seen limit → ⊥) → seen ≤ most
 not_beyond seen most limit e l =
     let f : (most < seen) → ⊥ = subst (λ o. IsBeyond seen o → ⊥) e l in
     ⊎_elim (λ h. absurd (f h)) (λ h. h) (cases_lt most seen)
 
 module _ (read : ObjectId → Option Commit) (start : ObjectId) where
-  -- of a search that has just begun
+  -- a search that has just begun
   pub within_begun : (most : ℕ) (none s : Search) → ((q : ObjectId) → none.seen q ≡ false) → SeesMore (start ∷ []) none s
       → LooksWithin read start most (λ q. s.seen q ≡ true)
   within_begun most none s unseen m = record {
@@ -35,7 +35,7 @@ module _ (read : ObjectId → Option Commit) (start : ObjectId) where
     covers = λ q h. ⊎_elim (λ e. absurd (true≢false (sym e ∙ unseen q))) (λ e. inr e) (m.only q h);
   }
 
-  -- of one whose commit has its parents looked for, which had come to no more before
+  -- a search that reached no more before, and now looks up the parents of a commit
   pub within_step : (most : ℕ) (limit : Option ℕ) (b c : Search) (keys : List ObjectId) (seen : ℕ) (id : ObjectId) (k : Commit)
       (ps : List ObjectId) → limit ≡ Some most → (IsBeyond seen limit → ⊥) → seen ≡ length keys
       → ((q : ObjectId) → b.seen q ≡ true → Contains keys q) → IsAncestor read start id → read id ≡ Some k → ps ≡ k.parents
@@ -48,7 +48,7 @@ module _ (read : ObjectId → Option Commit) (start : ObjectId) where
     covers = λ q h. ⊎_elim (λ s. inl (listed q s)) (λ s. inr s) (m.only q h);
   }
 
-  -- what was asked for was looked for
+  -- each id that was read was looked up
   pub asked_within : (g : GraphData) (limit : Option ℕ) (s : Search) (old new : List ObjectId) → ((most : ℕ) → limit ≡ Some most
       → LooksWithin read start most (λ q. s.seen q ≡ true)) → HasAskedFor g s old new → AsksWithin read start limit old new
   asked_within g limit s old new h a = record { ids = a.ids; asked = a.appended; within = by limit h }
@@ -66,11 +66,11 @@ module _ (read : ObjectId → Option Commit) (start : ObjectId) where
 -- ---- one mapping
 
 module _ (read : ObjectId → Option Commit) (IsStart : ObjectId → Type 0) (limit : Option ℕ) where
-  -- nothing is asked for
+  -- nothing is read
   pub limit_none : {T : Type 0} (most : ℕ) (x : T) (a : List ObjectId) → KeepsLimit read IsStart limit {T = T} most (Ok x) a a
   limit_none most x a = record { looked = []; few = omega arith; mid = a; asked = sym (append-nil a); walked = inl refl }
 
-  -- after one look-up
+  -- one look-up
   few_after : (most more : ℕ) → most + 1 ≤ more → (id : ObjectId) (a b c : List ObjectId) → AsksOnce id a b
       → AsksFew read IsStart limit most b c → AsksFew read IsStart limit more a c
   few_after most more l id a b c asks h = ⊎_elim
@@ -97,13 +97,13 @@ module _ (read : ObjectId → Option Commit) (IsStart : ObjectId → Type 0) (li
   limit_after most more l id (Err TooManyCommits) a b c asks h = h
   limit_after most more l id (Err Memory) a b c asks h = tt
 
-  -- one look at the ancestors of such a commit
+  -- one search of ancestors
   pub limit_walked : {T : Type 0} (most : ℕ) (x : T) (start : ObjectId) (a b : List ObjectId) → IsStart start
       → AsksWithin read start limit a b → KeepsLimit read IsStart limit {T = T} most (Ok x) a b
   limit_walked most x start a b is h =
       record { looked = []; few = omega arith; mid = a; asked = sym (append-nil a); walked = inr (start, is, h) }
 
-  -- such a commit is one of others
+  -- a commit of one mapping is a commit of several
   few_weaker : (Others : ObjectId → Type 0) → ((q : ObjectId) → IsStart q → Others q) → (most : ℕ) (a b : List ObjectId)
       → AsksFew read IsStart limit most a b → AsksFew read Others limit most a b
   few_weaker Others f most a b h = record {
@@ -122,7 +122,7 @@ module _ (read : ObjectId → Option Commit) (IsStart : ObjectId → Type 0) (li
       record { most = h.most; limited = h.limited; start = h.start; is_start = f h.start h.is_start; more = h.more }
   limit_weaker Others f most (Err Memory) a b h = tt
 
--- by what reads the same
+-- objects that read the same
 pub limit_read : {T : Type 0} (read same : ObjectId → Option Commit) → same ≡ read → (IsStart : ObjectId → Type 0) (limit : Option ℕ)
     (most : ℕ) (r : Result T Error) (a b : List ObjectId) → KeepsLimit same IsStart limit most r a b
     → KeepsLimit read IsStart limit most r a b
@@ -130,12 +130,10 @@ limit_read read same e IsStart limit most r a b h = subst (λ f. KeepsLimit f Is
 
 -- ---- each mapping
 
--- one of some is among them
 pub is_within : (ms : List Mapping) (k : ℕ) (m : Mapping) → m ≡ get_or ms k m → k < length ms → Contains ms m
 is_within ms k m e l = subst (Contains ms) (sym e) (Contains-get_or ms k m l)
 
 module _ (read : ObjectId → Option Commit) (ms : List Mapping) (limit : Option ℕ) where
-  -- one more
   pub each_more : {T : Type 0} (n : ℕ) (x : T) (a b c : List ObjectId) → AsksFewEach read (IsOfMapping ms) limit 2 n a b
       → KeepsLimit read (IsOfMapping ms) limit {T = T} 2 (Ok x) b c → AsksFewEach read (IsOfMapping ms) limit 2 (n + 1) a c
   each_more n x a b c h k = subst (λ m. AsksFewEach read (IsOfMapping ms) limit 2 m a c) (sym (add-one n)) (b, h, k)

@@ -1,4 +1,4 @@
--- One look for an id, and several.
+-- Looking up one id, and several.
 use Rattle.std.proofs.Common.{◌≡◌, ℕ, ℤ, ◌+◌, ◌≤◌, ◌<◌, ◌∙◌, ◌⊎◌, inl, inr, ⊎_elim, Bool, true, false, cond, not, ◌||◌, List, [], ◌∷◌, ◌++◌, take, drop, length, get_or, Option, Some, None, refl, sym, ap, subst, arith}
 use Rattle.std.specs.Prelude.{option_map, is_some, IsSome, IfSome, option_and_then, Contains}
 use Rattle.std.specs.Option.{option_or}
@@ -26,37 +26,32 @@ use Rattle.gixp_updates.specs.declared.refs.heap.Heap.{Heap}
 use Rattle.gixp_updates.specs.Pending.{pending_at}
 use Rattle.gixp_updates.specs.Search.{Search, WaitByTime, unseen, LooksUp, SeesMore, Explores, HoldsWaiting}
 
--- a test that chooses true is a disjunction
 pub as_or : (b x : Bool) → cond b true x ≡ (b || x)
 as_or true x = refl
 as_or false x = refl
 
--- what isn't so fails
 not_true : (b : Bool) → not b ≡ true → b ≡ false
 not_true true e = cc
 not_true false e = refl
 
--- a test of what stays true
 fewer : (a b : Bool) → (a ≡ true → b ≡ true) → not b ≡ true → not a ≡ true
 fewer true b k e = absurd (let t : b ≡ true = k refl in let f : b ≡ false = not_true b e in cc)
 fewer false b k e = refl
 
--- an id is equal to itself
 pub same_id : (id : ObjectId) → eq_by_cmp id_cmp id id ≡ true
 same_id id = (eq_by_cmp_equiv ids_total).refl id
 
--- a list of one has it
 pub one_has : (id q : ObjectId) → id ≡ q → Contains (id ∷ []) q
 one_has id q e = (0, omega arith, e)
 
--- what waited, by the one that was taken
+-- the queue with and without the commit that was taken
 pub popped : (o : Option Pending) (old new : List Pending) → IfSome o (λ x. IsPermutation old (x ∷ new))
     → IfSome o (λ x. (q : ObjectId) → list_any (λ (p : Pending). eq_by_cmp id_cmp q p.id) old
     ≡ (eq_by_cmp id_cmp q x.id || list_any (λ (p : Pending). eq_by_cmp id_cmp q p.id) new))
 popped None old new h = h
 popped (Some x) old new h = λ q. list_any-IsPermutation (λ (p : Pending). eq_by_cmp id_cmp q p.id) old (x ∷ new) h
 
--- one more waits under its time
+-- one more commit is queued under its time
 pub waits_by_time : (objects : Objects) (id : ObjectId) (t : ℤ) (old new : Heap)
     → IsPermutation (pending_at t id ∷ heap_items old.waiting) (heap_items new.waiting) → time_at objects id ≡ Some t
     → WaitByTime objects old → WaitByTime objects new
@@ -65,46 +60,46 @@ waits_by_time objects id t old new p e w =
     All-permutation P (pending_at t id ∷ heap_items old.waiting) (heap_items new.waiting) p
     (All-cons P (pending_at t id) (heap_items old.waiting) e w)
 
--- what shows no time isn't there
+-- a commit without a time doesn't exist
 pub absent : (o : Option Commit) → ◌≡◌ {A = Option ℤ} None (option_map (λ (c : Commit). c.time) o) → o ≡ None
 absent None e = refl
 absent (Some c) e = cc
 
--- what shows one is
+-- a commit with a time exists
 pub present : (t : ℤ) (o : Option Commit) → Some t ≡ option_map (λ (c : Commit). c.time) o → IsSome o
 present t None e = absurd (cc)
 present t (Some c) e = refl
 
--- and so is what is shown
+-- a commit that is shown is held
 pub shows : (x : ℤ × Flags) (o : Option HeldCommit) → Some x ≡ option_map shown o → IsSome o
 shows x None e = absurd (cc)
 shows x (Some h) e = refl
 
--- ---- what is looked for
+-- ---- which ids are looked up
 
--- one id more
+-- one more id
 module _ (id : ObjectId) (old new : Search) (noted : (q : ObjectId) → new.seen q ≡ (eq_by_cmp id_cmp id q || old.seen q)) where
-  -- what was looked for stays so
+  -- ids that were looked up stay so
   pub noted_keeps : (q : ObjectId) → old.seen q ≡ true → new.seen q ≡ true
   noted_keeps q h = noted q ∙ or_right (eq_by_cmp id_cmp id q) (old.seen q) h
 
-  -- the id is looked for
+  -- the id is looked up
   pub noted_here : new.seen id ≡ true
   noted_here = noted id ∙ or_left (eq_by_cmp id_cmp id id) (old.seen id) (same_id id)
 
-  -- and nothing else
+  -- no other id is
   noted_cases : (q : ObjectId) → new.seen q ≡ true → (id ≡ q) ⊎ (old.seen q ≡ true)
   noted_cases q h = ⊎_elim (λ e. inl (same_from id q e)) (λ e. inr e) (or_cases (eq_by_cmp id_cmp id q) (old.seen q) (sym (noted q) ∙ h))
 
   pub more_one : SeesMore (id ∷ []) old new
   more_one = record { keeps = noted_keeps; only = λ q h. ⊎_elim (λ e. inr (one_has id q e)) (λ e. inl e) (noted_cases q h) }
 
-  -- no more is left
+  -- no more ids are left
   unseen_le : (objects : Objects) → unseen objects new ≤ unseen objects old
   unseen_le objects = count_le (λ q. not (old.seen q)) (λ q. not (new.seen q)) (λ q. fewer (old.seen q) (new.seen q) (noted_keeps q))
       (finite.keys objects)
 
-  -- nothing more waits: it was looked for before, or it isn't there
+  -- no commit is queued: the id was looked up before, or doesn't exist
   pub explores_same : (objects : Objects) → ((old.seen id ≡ true) ⊎ (commit_at objects id ≡ None))
       → ((q : ObjectId) → new.waits q ≡ old.waits q) → new.waiting ≡ old.waiting → Explores objects (id ∷ []) old new
   explores_same objects why waits count = record {
@@ -119,10 +114,9 @@ module _ (id : ObjectId) (old new : Search) (noted : (q : ObjectId) → new.seen
     less = omega (arith, unseen_le objects);
   }
 
-  -- it is found and waits
+  -- the commit is found and queued
   module _ (objects : Objects) (before : old.seen id ≡ false) (there : IsSome (commit_at objects id))
       (waits : (q : ObjectId) → new.waits q ≡ (eq_by_cmp id_cmp q id || old.waits q)) (count : new.waiting ≡ old.waiting + 1) where
-    -- a commit is an object
     is_some_at : (o : Option Object) → IsSome (option_and_then (λ (k : Object). k.commit) o) → is_some o ≡ true
     is_some_at None e = e
     is_some_at (Some k) e = refl
@@ -147,11 +141,11 @@ module _ (id : ObjectId) (old new : Search) (noted : (q : ObjectId) → new.seen
       less = omega (arith, one_less);
     }
 
--- nothing more is looked for
+-- no more ids are looked up
 pub more_same : (ids : List ObjectId) (old new : Search) → ((q : ObjectId) → new.seen q ≡ old.seen q) → SeesMore ids old new
 more_same ids old new same = record { keeps = λ q h. same q ∙ h; only = λ q h. inl (sym (same q) ∙ h) }
 
--- and then these
+-- two steps in a row
 pub more_on : (ids others all : List ObjectId) (a b c : Search) → ((q : ObjectId) → Contains ids q → Contains all q)
     → ((q : ObjectId) → Contains others q → Contains all q) → SeesMore ids a b → SeesMore others b c → SeesMore all a c
 more_on ids others all a b c left right m n = record {
@@ -159,7 +153,7 @@ more_on ids others all a b c left right m n = record {
   only = λ q h. ⊎_elim (λ e. ⊎_elim (λ e. inl e) (λ e. inr (left q e)) (m.only q e)) (λ e. inr (right q e)) (n.only q h);
 }
 
--- of no ids
+-- no ids
 pub explores_none : (objects : Objects) (s : Search) → Explores objects [] s s
 explores_none objects s = record {
   more = more_same [] s s (λ q. refl);
@@ -170,7 +164,7 @@ explores_none objects s = record {
   less = omega arith;
 }
 
--- of one more
+-- one more id
 pub explores_on : (objects : Objects) (ids : List ObjectId) (id : ObjectId) (a b c : Search) → Explores objects ids a b
     → Explores objects (id ∷ []) b c → Explores objects (ids ++ id ∷ []) a c
 explores_on objects ids id a b c m n = record {
@@ -186,17 +180,16 @@ explores_on objects ids id a b c m n = record {
   less = omega (arith, m.less, n.less);
 }
 
--- ---- what is held
+-- ---- which commits are held
 
 -- nothing is looked up
 pub looks_none : (g : GraphData) → LooksUp g g
 looks_none g = record { objects = refl; held = λ id. inl refl }
 
--- nor where the graph is the same
 pub looks_same : (g h : GraphData) → h ≡ g → LooksUp g h
 looks_same g h e = subst (LooksUp g) (sym e) (looks_none g)
 
--- one look-up after another
+-- two look-ups in a row
 pub looks_on : (g h i : GraphData) → LooksUp g h → LooksUp h i → LooksUp g i
 looks_on g h i a b = record {
   objects = b.objects ∙ a.objects;
@@ -208,7 +201,6 @@ looks_on g h i a b = record {
       (b.held id);
 }
 
--- by what is held and what the objects have
 up_at : (g : GraphData) (id q : ObjectId) (o : Option HeldCommit) (p : Option Commit) → finite.get g.held id ≡ o
     → commit_at g.objects id ≡ p
     → (finite.get (put g.held id (option_or o (option_map unmarked p))) q ≡ finite.get g.held q) ⊎ ((finite.get g.held q ≡ None)
@@ -229,17 +221,17 @@ up_at g id q None (Some c) is has = at (eq_by_cmp id_cmp q id) refl
         )
     at false e = inl (get-insert ids_total g.held id (unmarked c) q ∙ ap (λ b. cond b (Some (unmarked c)) (finite.get g.held q)) e)
 
--- a look-up
+-- one look-up
 pub looks_up : (g h : GraphData) (id : ObjectId) → h ≡ graph_of g.objects (looked_up g id) → LooksUp g h
 looks_up g h id e = subst (LooksUp g) (sym e)
     (record { objects = refl; held = λ q. up_at g id q (finite.get g.held id) (commit_at g.objects id) refl refl })
 
--- what was held is held
+-- held commits stay held
 pub still_held : (g h : GraphData) → LooksUp g h → (q : ObjectId) → IsSome (finite.get g.held q) → IsSome (finite.get h.held q)
 still_held g h l q s = ⊎_elim (λ e. subst IsSome (sym e) s) (λ e. absurd (let t : is_some (finite.get g.held q) ≡ true = s in
     let f : is_some (finite.get g.held q) ≡ false = ap is_some e.0 in cc)) (l.held q)
 
--- what is found is held
+-- a commit that is found is held
 held_at : (g : GraphData) (id : ObjectId) (o : Option HeldCommit) → IsSome o → IsSome (finite.get (put g.held id o) id)
 held_at g id None s = absurd (let t : false ≡ true = s in cc)
 held_at g id (Some h) s =
@@ -249,22 +241,22 @@ pub held_here : (g h : GraphData) (id : ObjectId) → h ≡ graph_of g.objects (
     → IsSome (finite.get h.held id)
 held_here g h id e s = subst (λ (k : GraphData). IsSome (finite.get k.held id)) (sym e) (held_at g id (found_in g id) s)
 
--- what waits is held
+-- each queued commit is held
 pub holds_on : (g h : GraphData) (old new : Search) → LooksUp g h → ((q : ObjectId) → new.waits q ≡ true → (old.waits q ≡ true)
     ⊎ IsSome (finite.get h.held q)) → HoldsWaiting g old → HoldsWaiting h new
 holds_on g h old new l cases held q w = ⊎_elim (λ e. still_held g h l q (held q e)) (λ e. e) (cases q w)
 
--- ---- one of some ids
+-- ---- one of several ids
 
 module _ (ids : List ObjectId) (k : ℕ) (d : ObjectId) (l : k < length ids) where
-  -- the first of them, and the next
+  -- the first ids, and the next one
   pub explores_step : (objects same : Objects) → same ≡ objects → (a b c : Search) → Explores objects (take k ids) a b
       → Explores same (get_or ids k d ∷ []) b c → Explores objects (take (k + 1) ids) a c
   explores_step objects same e a b c m n =
       subst (λ xs. Explores objects xs a c) (sym (take_more ids k d l))
       (explores_on objects (take k ids) (get_or ids k d) a b c m (subst (λ o. Explores o (get_or ids k d ∷ []) b c) e n))
 
-  -- also where the look was refused
+  -- also if the look-up failed
   pub more_step : (a b c : Search) → SeesMore (take k ids) a b → SeesMore (get_or ids k d ∷ []) b c → SeesMore ids a c
   more_step a b c m n = more_on (take k ids) (get_or ids k d ∷ []) ids a b c
       (λ q h. subst (λ xs. Contains xs q) (take-append-drop k ids) (Contains-append_left (take k ids) (drop k ids) q h))

@@ -16,21 +16,19 @@ use Rattle.gixp_updates.specs.Modes.{LocalSide, IsUpdate}
 use Rattle.gixp_updates.specs.UpdateError.{TellsIfRefused, Consults}
 use Rattle.gixp_updates.proofs.LookLemmas.{looks_none, looks_on}
 
--- by a test that holds
 pub on_true : (b : Bool) (P Q : Type 0) → b ≡ true → P → MatchBool b P Q
 on_true true P Q e p = p
 on_true false P Q e p = absurd (cc)
 
--- and by one that doesn't
 pub on_false : (b : Bool) (P Q : Type 0) → b ≡ false → Q → MatchBool b P Q
 on_false true P Q e q = absurd (cc)
 on_false false P Q e q = q
 
--- a count that has risen since later has risen
+-- a count that rose from a later state on rose from an earlier one
 risen_on : (a b c : ℕ) → a ≤ b → HasRisen b c → HasRisen a c
 risen_on a b c l h = ⊎_elim (λ e. inl (omega (arith, e))) (λ e. inr e) h
 
--- what was told since nothing was refused
+-- an error has the same cause from a state on after which no call failed
 tells_on : {T : Type 0} (limit : Option ℕ) (r : Result T Error) (a b c : GraphValue) → b.refusals ≡ a.refusals → a.failures ≤ b.failures
     → TellsIfRefused limit r b c → TellsIfRefused limit r a c
 tells_on limit (Ok x) a b c e l t = t ∙ e
@@ -38,7 +36,7 @@ tells_on limit (Err (FindObject x)) a b c e l t = (t.0, t.1 ∙ ap (λ w. writin
 tells_on limit (Err TooManyCommits) a b c e l t = (t.0, t.1 ∙ e)
 tells_on limit (Err Memory) a b c e l t = subst (λ w. TellsRefusal no_memory w c.refusals) e t
 
--- one look-up after another
+-- two look-ups in a row
 pub consults_on : {S T : Type 0} (limit : Option ℕ) (x : S) (r : Result T Error) (a b c : GraphValue)
     → Consults {T = S} limit (Ok x) a b → Consults limit r b c → Consults limit r a c
 consults_on limit x r a b c m n = record {
@@ -47,33 +45,29 @@ consults_on limit x r a b c m n = record {
   tells = tells_on limit r a b c m.tells m.failures n.tells;
 }
 
--- another value
 pub consults_as : {S T : Type 0} (limit : Option ℕ) (x : S) (y : T) (a b : GraphValue) → Consults {T = S} limit (Ok x) a b
     → Consults {T = T} limit (Ok y) a b
 consults_as limit x y a b m = record { looks = m.looks; failures = m.failures; tells = m.tells }
 
--- an error of another value
 pub consults_err : {S T : Type 0} (limit : Option ℕ) (e : Error) (a b : GraphValue) → Consults {T = S} limit (Err e) a b
     → Consults {T = T} limit (Err e) a b
 consults_err limit e a b m = record { looks = m.looks; failures = m.failures; tells = m.tells }
 
--- nothing was looked up
+-- nothing is looked up
 pub consults_none : {T : Type 0} (limit : Option ℕ) (x : T) (a : GraphValue) → Consults {T = T} limit (Ok x) a a
 consults_none limit x a = record { looks = looks_none a.graph; failures = omega arith; tells = refl }
 
--- a property that follows from another
 pub ok_weaker : {T : Type 0} (r : Result T Error) (P Q : T → Type 0) → ((x : T) → P x → Q x) → IfOk r P → IfOk r Q
 ok_weaker (Ok x) P Q f p = f x p
 ok_weaker (Err e) P Q f p = p
 
--- an update by what is the same
+-- an update by equal parts
 pub update_moved : (l : LocalSide) (commits : Objects) → commits ≡ l.commits → (w v : Wanted) → w ≡ v → (n p : Option (List ℕ)) → n ≡ p
     → (u : Update) → IsUpdate (record l { commits = commits }) w n u → IsUpdate l v p u
 update_moved l commits same w v is n p name u h =
     subst (λ x. IsUpdate l v x u) name (subst (λ x. IsUpdate l x n u) is
     (subst (λ (o : Objects). IsUpdate (record l { commits = o }) w n u) same h))
 
--- one more on both sides
 pub pushed : {A B : Type 0} (R : A → B → Type 0) (xs : List A) (ys : List B) (x : A) (y : B) → AllZip R xs ys → R x y
     → AllZip R (xs ++ x ∷ []) (ys ++ y ∷ [])
 pushed R [] [] x y h r = (r, tt)

@@ -34,7 +34,7 @@ either_way true false = refl
 either_way false true = refl
 either_way false false = refl
 
--- a set with a name more
+-- a set with one more name
 pub name_added : (old new : BTreeSet (Bor (List ℕ))) (key : Bor (List ℕ)) (text : List ℕ)
     → Updates (λ x y. slice_cmp nat_cmp x.now y.now) old new key true → has_text new text ≡ (has_text old text || bytes_eq text key.now)
 name_added old new key text updates =
@@ -47,7 +47,7 @@ is_some-where : (b : Bool) → is_some (where_true b) ≡ b
 is_some-where true = refl
 is_some-where false = refl
 
--- an exact name is matched by the refs of that name
+-- an exact name matches the refs with that name
 pub exact_match : (name : Bor (List ℕ)) (refs : List Ref)
     → list_any (is_named name.now) refs ≡ list_any (is_match_with (the_exact name)) refs
 exact_match name [] = refl
@@ -97,7 +97,7 @@ short_here texts r =
     (λ candidate. turned (unpacked_name r) candidate) texts)
     ∙ and_any (is_some (unpacked_target r)) (λ candidate. bytes_eq candidate (unpacked_name r)) texts
 
--- a short name is matched by the refs of the names that it stands for
+-- a short name matches the refs with the names that it may mean
 pub short_match : (name : Bor (List ℕ)) (refs : List Ref) (names : BTreeSet (Bor (List ℕ))) → HasNames refs names
     → list_any (has_text names) (candidates name.now) ≡ list_any (is_match_with (the_short name)) refs
 short_match name refs names has =
@@ -108,7 +108,6 @@ short_match name refs names has =
 
 -- ---- the set of all names
 
--- no name is in an empty set
 pub no_names : (text : List ℕ) (names : BTreeSet (Bor (List ℕ))) → names.keys ≡ [] → has_text names text ≡ false
 no_names text names e = ap (λ keys. list_any (is_at (λ (key : Bor (List ℕ)). slice_cmp nat_cmp text key.now)) keys) e
 
@@ -122,7 +121,7 @@ names_more refs i r now new e l kept step text =
     ∙ ap (λ x. list_any (is_named text) (take i refs) || is_named text x) e
     ∙ sym (list_any_more (is_named text) refs i r l)
 
--- ---- what the kinds of sources match
+-- ---- the matches of each kind of source
 
 and_false : (a : Bool) → (a && false) ≡ false
 and_false true = refl
@@ -139,7 +138,7 @@ any_at p [] i d l = absurd (omega arith)
 any_at p (x ∷ xs) zero d l = refl
 any_at p (x ∷ xs) (suc i) d l = any_at p xs i d (omega arith)
 
--- one of those from a place on passes where that there does, or one after it
+-- an element from an index on passes if the one there does, or a later one
 pub any_step : {X : Type 0} (p : X → Bool) (xs : List X) (i : ℕ) (d : X) → i < length xs
     → list_any p (drop i xs) ≡ (p (get_or xs i d) || list_any p (drop (i + 1) xs))
 any_step p xs i d l = rw add-one (any_at p xs i d l)

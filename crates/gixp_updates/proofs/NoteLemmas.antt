@@ -14,7 +14,7 @@ use Rattle.gixp_refspec.specs.Matching.{middle_of, middle_by, between, where_tru
 use Rattle.gixp_refspec.specs.Needle.{IsNeedle, middle_with}
 use Rattle.gixp_updates.specs.Unmatched.{is_match_with, is_match}
 
--- the middle of a name is the same by the needle and by the source
+-- the needle and the source find the same middle of a name
 middle_with-needle : (source name : List ℕ) (needle : Needle) → IsNeedle source needle → middle_with needle name ≡ middle_of source name
 unfolding middle_of
 middle_with-needle source name the_id h = ap (λ k. middle_by k source name) (sym h)
@@ -24,7 +24,7 @@ middle_with-needle source name (the_exact text) h = ap (λ t. where_true (bytes_
 middle_with-needle source name (the_short text) h =
     ap (λ t. where_true (list_any (λ candidate. bytes_eq name candidate) (candidates t))) h.1 ∙ ap (λ k. middle_by k source name) (sym h.0)
 
--- what a needle matches of some refs
+-- the matches of a needle among some refs
 pub matched_by : (s : Spec) (needle : Needle) → IsNeedle s.source needle → (refs : List Ref) → list_any (is_match_with needle) refs
     ≡ list_any (is_match s) refs
 matched_by s needle h [] = refl
@@ -34,7 +34,6 @@ matched_by s needle h (r ∷ refs) =
     let t = matched_by s needle h refs in
     (cc)
 
--- an id is one by its bytes
 some_bytes : (o : Option ObjectId) → is_some o ≡ is_some (option_map (λ (id : ObjectId). id.bytes) o)
 some_bytes None = refl
 some_bytes (Some id) = refl

@@ -17,16 +17,14 @@ use Rattle.gixp_updates.specs.Search.{Search, SeesMore, Explores, HasAskedFor, I
 use Rattle.gixp_updates.proofs.LookLemmas.{same_id}
 use Rattle.gixp_graph.proofs.AskedLemmas.{asks_weaker}
 
--- what is in a list of one is that one
 is_one : (id q : ObjectId) → Contains (id ∷ []) q → id ≡ q
 is_one id q h = All-contains (λ x. id ≡ x) (id ∷ []) q (All-cons (λ x. id ≡ x) id [] refl (All-nil (λ x. id ≡ x))) h
 
--- an ancestor is there
+-- an ancestor exists
 pub ancestor_there : (read : ObjectId → Option Commit) (start q : ObjectId) → IsAncestor read start q → IsSome (read q)
 ancestor_there read start q (IsAncestor.itself s) = s
 ancestor_there read start q (IsAncestor.parent k r i s) = s
 
--- the commit of an id that is there
 pub the_commit : (o : Option Commit) → IsSome o → (c : Commit) × (o ≡ Some c)
 the_commit None s = absurd (let t : false ≡ true = s in cc)
 the_commit (Some c) s = (c, refl)
@@ -56,7 +54,7 @@ module _ (objects : Objects) (start target : ObjectId) (none s : Search) (unseen
 module _ (objects : Objects) (start target : ObjectId) (a b c : Search) (id : ObjectId)
     (search : IsSearch (commit_at objects) start target a) (taken : (q : ObjectId) → a.waits q ≡ (eq_by_cmp id_cmp q id || b.waits q))
     (same : (q : ObjectId) → b.seen q ≡ a.seen q) where
-  -- the one that is taken is an ancestor
+  -- the commit that is taken is an ancestor
   pub taken_ancestor : IsAncestor (commit_at objects) start id
   taken_ancestor = search.ancestors id (taken id ∙ or_left (eq_by_cmp id_cmp id id) (b.waits id) (same_id id))
 
@@ -72,7 +70,7 @@ module _ (objects : Objects) (start target : ObjectId) (a b c : Search) (id : Ob
         (λ e. IsReachedFrom.parent taken_ancestor its_commit.1 (is_parent q e)) (m.only q h)
 
     module _ (other : id ≢ target) (e : Explores objects ps b c) where
-      -- the one that is taken is passed
+      -- the parents of the commit that is taken were looked up, and it isn't the one that is searched for
       passes : (q : ObjectId) → q ≡ id → IsSeenThrough (commit_at objects) target c.seen q
       passes q is = record {
         other = λ t. other (sym is ∙ t);
@@ -104,19 +102,19 @@ module _ (objects : Objects) (start target : ObjectId) (a b c : Search) (id : Ob
 
 module _ (objects : Objects) (start target : ObjectId) (s : Search) (search : IsSearch (commit_at objects) start target s)
     (idle : (q : ObjectId) → s.waits q ≡ false) where
-  -- each ancestor was looked for
+  -- each ancestor was looked up
   all_seen : (q : ObjectId) → IsAncestor (commit_at objects) start q → s.seen q ≡ true
   all_seen q (IsAncestor.itself t) = search.begun
   all_seen q (IsAncestor.parent {child} {id} {c} k r i t) =
       ⊎_elim (λ w. absurd (true≢false (sym w ∙ idle child))) (λ p. p.parents c q r i)
       (search.closed child (all_seen child k) (ap is_some r))
 
-  -- and none of them is the one that is searched
+  -- none of the ancestors is the one that is searched for
   pub not_found : IsAncestor (commit_at objects) start target → ⊥
   not_found k = ⊎_elim (λ w. true≢false (sym w ∙ idle target)) (λ p. p.other refl)
       (search.closed target (all_seen target k) (ancestor_there (commit_at objects) start target k))
 
--- ---- what was asked for
+-- ---- which ids were read
 
 pub asked_reached : (g : GraphData) (read : ObjectId → Option Commit) (start : ObjectId) (s : Search) (before after : List ObjectId)
     → ((q : ObjectId) → s.seen q ≡ true → IsReachedFrom read start q) → HasAskedFor g s before after
@@ -125,7 +123,7 @@ asked_reached g read start s before after reached a =
     asks_weaker (λ q. (s.seen q ≡ true) × (finite.get g.held q ≡ None)) (λ q. (finite.get g.held q ≡ None) × IsReachedFrom read start q)
     (λ q p. (p.1, reached q p.0)) before after a
 
--- what was looked for is the same
+-- the same ids were looked up
 pub asked_seen : (g : GraphData) (a b : Search) (before after : List ObjectId) → ((q : ObjectId) → b.seen q ≡ a.seen q)
     → HasAskedFor g a before after → HasAskedFor g b before after
 asked_seen g a b before after same h =
@@ -134,20 +132,20 @@ asked_seen g a b before after same h =
 
 -- ---- small steps
 
--- the one that is taken waited
+-- the commit that is taken was queued
 pub taken_waits : (id : ObjectId) (w : Bool) → (eq_by_cmp id_cmp id id || w) ≡ true
 taken_waits id w = or_left (eq_by_cmp id_cmp id id) w (same_id id)
 
--- so did the others
+-- the other commits were queued
 pub others_wait : (q id : ObjectId) (w : Bool) → w ≡ true → (eq_by_cmp id_cmp q id || w) ≡ true
 others_wait q id w h = or_right (eq_by_cmp id_cmp q id) w h
 
--- by objects that are the same
+-- equal objects
 pub explored : (objects same : Objects) → same ≡ objects → (ids : List ObjectId) (a b : Search) → Explores same ids a b
     → Explores objects ids a b
 explored objects same e ids a b x = subst (λ o. Explores o ids a b) e x
 
--- more were looked for than are allowed
+-- more ids were looked up than allowed
 pub beyond : (read : ObjectId → Option Commit) (start : ObjectId) (allowed : Option ℕ) (ids : List ObjectId) (seen : ℕ)
     → seen ≡ length ids → IsBeyond seen allowed → IsDistinct (eq_by_cmp id_cmp) ids → All (IsReachedFrom read start) ids
     → (most : ℕ) × (allowed ≡ Some most) × ReachesMore read start most

@@ -1,4 +1,4 @@
--- The refs and objects of a repository, as what they mean.
+-- The refs and objects of a repository, as plain data.
 use Rattle.std.specs.Ordering.{nat_cmp}
 use Rattle.std.specs.Cmp.Lexicographic.{slice_cmp}
 use Rattle.std.specs.FinMap.{FinMap}
@@ -9,7 +9,7 @@ use Rattle.gixp_updates.specs.Modes.{LocalSide, is_among}
 use Rattle.gixp_updates.specs.declared.refs.mode.Local.{Local}
 use Rattle.gixp_updates.specs.declared.refs.update.Options.{Options}
 
--- by what their types mean
+-- the repository, by the meaning of its types
 abbrev pub local_of : {R O : Type 0} → (R → FinMap (slice_cmp nat_cmp) ObjectId) → (O → Objects) → Local R O → GraphData → LocalSide
 local_of refs contents l g = record {
   refs = refs l.refs.now;

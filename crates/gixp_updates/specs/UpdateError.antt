@@ -1,4 +1,4 @@
--- Why it isn't known what becomes of the local refs.
+-- Why updates can't be determined.
 use Rattle.std.specs.Prelude.{◌≡◌, ◌≢◌, ℕ, ◌≤◌, Option, IsSome, Result, Ok, Err}
 use Rattle.gixp_graph.specs.declared.objects.ObjectError.{ObjectError}
 use Rattle.gixp_graph.specs.declared.objects.ObjectError.TheVariants.{Io, Corrupt, Memory as no_memory}
@@ -9,14 +9,14 @@ use Rattle.gixp_updates.specs.LookUps.{LooksUp}
 use Rattle.gixp_updates.specs.declared.refs.error.Error.{Error}
 use Rattle.gixp_updates.specs.declared.refs.error.Error.TheVariants.{FindObject, TooManyCommits, Memory}
 
--- the error of objects that were refused
+-- the error of an update, by the objects' error
 abbrev pub from_object : ObjectError → Error
 from_object (Io kind) = FindObject (Io kind)
 from_object Corrupt = FindObject Corrupt
 from_object no_memory = Memory
 
--- the objects told this error, and a failure was counted; they were refused nothing, and the caller set a limit; or they were refused
--- nothing and an allocation failed, or they told that
+-- the cause of each error: the objects recorded it, and counted a failure; or no call of the objects failed, and the
+-- caller set a limit; or an allocation failed, in the objects or not
 abbrev pub TellsError : Option ℕ → Error → GraphValue → GraphValue → Type 0
 TellsError limit (FindObject e) old new = (e ≢ no_memory) × (new.refusals ≡ writing old.refusals e) × HasRisen old.failures new.failures
 TellsError limit TooManyCommits old new = IsSome limit × (new.refusals ≡ old.refusals)
@@ -26,7 +26,7 @@ abbrev pub TellsIfRefused : {T : Type 0} → Option ℕ → Result T Error → G
 TellsIfRefused limit (Ok x) old new = new.refusals ≡ old.refusals
 TellsIfRefused limit (Err e) old new = TellsError limit e old new
 
--- commits were looked up; where one couldn't be, the error tells why
+-- commits were looked up; if a look-up failed, the error shows why
 pub record Consults {T : Type 0} (limit : Option ℕ) (r : Result T Error) (old new : GraphValue) : Type 0 where
   pub looks : LooksUp old.graph new.graph
   pub failures : old.failures ≤ new.failures

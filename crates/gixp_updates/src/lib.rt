@@ -1,4 +1,4 @@
-//! What becomes of the local refs after a fetch.
+//! The local refs after a fetch: how each one is updated.
 #![tactic(auto)]
 
 pub mod refs;

@@ -5,35 +5,30 @@ use crate::refs::unmatched::UnmatchedSpec;
 use crate::refs::update::{Error, Mode};
 use crate::refs::{Edit, Update};
 
-// Two modes are equal exactly where they are one.
 fn is_same_mode(a: &Mode, b: &Mode) -> bool
     ensures { IsTrue result ↔ (a.now ≡ b.now) }
 {
     a == b
 }
 
-// Two edits are equal exactly where they are one.
 fn is_same_edit(left: &Edit, right: &Edit) -> bool
     ensures { IsTrue result ↔ (left.now ≡ right.now) }
 {
     left == right
 }
 
-// Two updates are equal exactly where they are one.
 fn is_same_update(one: &Update, other: &Update) -> bool
     ensures { IsTrue result ↔ (one.now ≡ other.now) }
 {
     one == other
 }
 
-// Two notes on refspecs are equal exactly where they are one.
 fn is_same_note(x: &UnmatchedSpec, y: &UnmatchedSpec) -> bool
     ensures { IsTrue result ↔ (x.now ≡ y.now) }
 {
     x == y
 }
 
-// Two errors are equal exactly where they are one.
 fn is_same_error(first: &Error, second: &Error) -> bool
     ensures { IsTrue result ↔ (first.now ≡ second.now) }
 {

@@ -1,7 +1,6 @@
--- Bytes that a URL writes as hexadecimal digits (RFC 3986, "Percent-Encoding").
+-- Percent-decoding (RFC 3986, "Percent-Encoding").
 use Rattle.std.specs.Prelude.{ℕ, ◌+◌, ◌-◌, ◌*◌, ◌==◌, ◌&&◌, nat_le, nat_lt, if◌then◌else◌, List, [], ◌∷◌, Option, Some, None}
 
--- the value of a hexadecimal digit
 abbrev pub digit : ℕ → Option ℕ
 digit b =
     if nat_le 48 b && nat_le b 57 then Some (b - 48)
@@ -9,20 +8,20 @@ digit b =
     else if nat_le 65 b && nat_le b 70 then Some (b - 65 + 10)
     else None
 
-abbrev pub joined : Option ℕ → Option ℕ → Option ℕ
-joined (Some high) (Some low) = if high == 0 && low == 0 then None else Some (16 * high + low)
-joined _ _ = None
+abbrev pub digits_by : Option ℕ → Option ℕ → Option ℕ
+digits_by (Some high) (Some low) = if high == 0 && low == 0 then None else Some (16 * high + low)
+digits_by _ _ = None
 
--- the byte that two digits write, unless it is NUL
+-- the byte that two digits encode; none for NUL
 abbrev pub digits : ℕ → ℕ → Option ℕ
-digits high low = joined (digit high) (digit low)
+digits high low = digits_by (digit high) (digit low)
 
--- the byte that a percent sign and two digits write at the front of a text
+-- the byte that a text begins with in percent-encoding
 abbrev pub escaped : List ℕ → Option ℕ
 escaped (percent ∷ high ∷ low ∷ rest) = if percent == 37 then digits high low else None
 escaped _ = None
 
--- a text with its escaped bytes as they are, behind so many bytes that are passed over
+-- the decoded text, after `skipped` bytes
 abbrev pub decoded : ℕ → List ℕ → List ℕ
 decoded skipped [] = []
 decoded skipped (b ∷ bytes) =

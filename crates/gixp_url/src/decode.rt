@@ -1,10 +1,9 @@
-//! Bytes that a URL writes as hexadecimal digits (RFC 3986, "Percent-Encoding").
+//! Percent-decoding (RFC 3986, "Percent-Encoding").
 ghost use Rattle.std.specs.Prelude.{◌≡◌, ◌<◌, IfOk, IfSome};
 ghost use Rattle.gixp_url.specs.Decoded.{digit, digits, escaped, decoded};
 
 use std::alloc::{AllocError, Global};
 
-// The value of a hexadecimal digit.
 fn digit(byte: u8) -> Option<u8>
     ensures value { result ≡ digit byte }
     ensures small { IfSome result (λ value. value < 16) }
@@ -17,7 +16,7 @@ fn digit(byte: u8) -> Option<u8>
     }
 }
 
-// The byte that two digits write, unless it is NUL.
+// The byte that two hexadecimal digits encode. `None` for NUL.
 fn digits(high: u8, low: u8) -> Option<u8>
     ensures { result ≡ digits high low }
 {
@@ -33,7 +32,7 @@ fn digits(high: u8, low: u8) -> Option<u8>
     }
 }
 
-// The byte that a percent sign and two digits write at the front of a text.
+// The byte that a text begins with in percent-encoding.
 fn escaped(text: &[u8]) -> Option<u8>
     ensures { result ≡ escaped text.now }
 {
@@ -49,14 +48,14 @@ fn escaped(text: &[u8]) -> Option<u8>
     }
 }
 
-// A text with its escaped bytes as they are. A percent sign that no two digits follow, or those of NUL, stays.
+// Decodes a text. A percent sign stays if two digits don't follow it, or if they encode NUL.
 pub(crate) fn decoded(alloc: Global, text: &[u8]) -> Result<Vec<u8>, AllocError>
     ensures { IfOk result (λ bytes. bytes.items ≡ decoded 0 text.now) }
 {
     let mut bytes = Vec::new(alloc);
     let mut skipped = 0u8;
     let mut rest = text;
-    'bytes: while let Some((first, behind)) = rest.split_first() {
+    'bytes: while let Some((first, after)) = rest.split_first() {
         if skipped > 0 {
             skipped -= 1;
         } else {
@@ -68,7 +67,7 @@ pub(crate) fn decoded(alloc: Global, text: &[u8]) -> Result<Vec<u8>, AllocError>
                 None => bytes.push(*first)?,
             }
         }
-        rest = behind;
+        rest = after;
     }
     Ok(bytes)
 }

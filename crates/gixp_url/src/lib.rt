@@ -1,4 +1,4 @@
-//! URLs as git reads them: which server they name, and the words that reach it (git-clone, "GIT URLS").
+//! Parses URLs as git does: the server and the path of a URL (git-clone, "GIT URLS").
 #![tactic(auto)]
 
 mod address;
@@ -7,5 +7,5 @@ mod host;
 mod password;
 mod text;
 
-pub use address::{Address, Transport, UrlError};
+pub use address::{Address, Scheme, UrlError};
 pub use password::redacted;

@@ -1,31 +1,30 @@
-//! A password in a URL (RFC 3986, "User Information").
+//! Passwords in URLs (RFC 3986, "User Information").
 ghost use Rattle.std.specs.Prelude.{◌≡◌, ◌<◌, ◌++◌, length, IfOk, IfSome, codes};
 ghost use Rattle.std.specs.List.{position};
 ghost use Rattle.std.specs.Option.{option_map};
 ghost use Rattle.bstr.specs.Owned.{bstring_bytes};
-ghost use Rattle.gixp_url.specs.Password.{ends_authority, authority_split, account_split, redacted_account, redacted_behind, redacted};
+ghost use Rattle.gixp_url.specs.Password.{ends_authority, authority_split, account_split, redacted_account, redacted_after_scheme, redacted};
 
 use crate::address::is_scheme;
 use crate::text::cut;
 use bstr::{BString, ByteSlice};
 use std::alloc::{AllocError, Global};
 
-// Whether a byte ends the authority of a URL.
 fn ends_authority(byte: u8) -> bool
     ensures { result ≡ ends_authority byte }
 {
     byte == b'/' || byte == b'?' || byte == b'#'
 }
 
-// Where the authority at the front of a text ends, if something follows it.
+// The offset after the authority, if anything follows it.
 fn end_of_authority(text: &[u8]) -> Option<usize>
-    ensures place { result ≡ position ends_authority text.now }
+    ensures offset { result ≡ position ends_authority text.now }
     ensures within { IfSome result (λ at. at < length text.now) }
 {
     text.iter().position(|b| ends_authority(*b))
 }
 
-// The authority at the front of a text, and what follows it.
+// The authority that a text begins with, and the text after it.
 fn authority_split(text: &[u8]) -> (&[u8], &[u8])
     ensures { (result.0.now, result.1.now) ≡ authority_split text.now }
 {
@@ -35,15 +34,15 @@ fn authority_split(text: &[u8]) -> (&[u8], &[u8])
     }
 }
 
-// The account of an authority, and the host.
+// The user and the password of an authority, and its host.
 fn account_split(authority: &[u8]) -> Option<(&[u8], &[u8])>
     ensures { option_map (λ p. (p.0.now, p.1.now)) result ≡ account_split authority.now }
 {
     authority.rsplit_once_str(b"@")
 }
 
-// A URL of these parts, with a mark in place of the password.
-fn joined(
+// A URL with `<redacted>` for its password.
+fn redacted_url(
     alloc: Global,
     scheme: &[u8],
     user: &[u8],
@@ -61,7 +60,7 @@ fn joined(
     Ok(BString::from(url))
 }
 
-// The URL of these parts, where its account has a password.
+// The redacted URL, if the account has a password.
 fn redacted_account(
     alloc: Global,
     scheme: &[u8],
@@ -75,36 +74,41 @@ fn redacted_account(
         return Ok(None);
     };
     match cut(account, b':') {
-        Some((user, _)) => Ok(Some(joined(alloc, scheme, user, host, path)?)),
+        Some((user, _)) => Ok(Some(redacted_url(alloc, scheme, user, host, path)?)),
         None => Ok(None),
     }
 }
 
-// The URL of a scheme and what follows its `://`.
-fn redacted_behind(alloc: Global, scheme: &[u8], rest: &[u8]) -> Result<Option<BString>, AllocError>
-    ensures { IfOk result (λ url. option_map bstring_bytes url ≡ redacted_behind scheme.now rest.now) }
+// The redacted URL, by the text after `://`.
+fn redacted_after_scheme(
+    alloc: Global,
+    scheme: &[u8],
+    rest: &[u8],
+) -> Result<Option<BString>, AllocError>
+    ensures { IfOk result (λ url. option_map bstring_bytes url ≡ redacted_after_scheme scheme.now rest.now) }
 {
     let (authority, path) = authority_split(rest);
     redacted_account(alloc, scheme, account_split(authority), path)
 }
 
-/// A URL with `<redacted>` in place of its password, as git shows it (git-config, "transfer.credentialsInUrl"). None where it has no
-/// password: that follows a colon before the `@` of a URL with a scheme.
+/// A URL with `<redacted>` in place of its password, as git shows it (git-config,
+/// "transfer.credentialsInUrl"). `None` if the URL has no password. A password follows the first
+/// colon of the account, in a URL with a scheme.
 ///
 /// # Errors
 ///
-/// An allocation failure alone.
+/// Only when an allocation fails.
 pub fn redacted(alloc: Global, url: &[u8]) -> Result<Option<BString>, AllocError>
     ensures { IfOk result (λ found. option_map bstring_bytes found ≡ redacted url.now) }
 {
-    let Some((scheme, behind)) = cut(url, b':') else {
+    let Some((scheme, after)) = cut(url, b':') else {
         return Ok(None);
     };
     if !is_scheme(scheme) {
         return Ok(None);
     }
-    match behind.strip_prefix(b"//") {
-        Some(rest) => redacted_behind(alloc, scheme, rest),
+    match after.strip_prefix(b"//") {
+        Some(rest) => redacted_after_scheme(alloc, scheme, rest),
         None => Ok(None),
     }
 }

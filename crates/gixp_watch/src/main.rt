@@ -1,10 +1,11 @@
-//! `gixp_watch FROM TO FOLDER` fetches one commit of each branch from a server that speaks over two files, as the two ends of
-//! `git upload-pack`.
+//! `gixp_watch FROM TO FOLDER` fetches one commit of each branch. The files FROM and TO are the two ends of a server, such as those
+//! of `git upload-pack`.
 //!
-//! The folder has the repository: `objects` and `refs`, in the forms that [`SortedObjects::read`] and [`SortedRefs::read`] read, and
-//! `shallow`; one that isn't there is empty. The pack goes into the file `pack` there, then the new boundary into `shallow`, and last the
-//! refs to standard output, as commands for `git update-ref --stdin`. Where the fetch fails the folder stays as it is, but for a part of
-//! a pack in `incoming`, and nothing is printed. The status is that of [`exit_status`], 1 for a file, and 64 for other words.
+//! The folder has the repository: `objects` and `refs`, in the forms that [`SortedObjects::read`] and [`SortedRefs::read`] read,
+//! and `shallow`. A missing file counts as empty. The program writes the pack into the file `pack` there, then the new boundary
+//! into `shallow`. Last, it prints the changes of refs as commands for `git update-ref --stdin`. If the fetch fails, the folder is
+//! unchanged, except for a part of a pack in `incoming`, and nothing is printed. The exit status is [`exit_status`] of a failed
+//! fetch, 1 if a file can't be read or written, and 64 for a wrong command line.
 #![tactic(auto)]
 
 use gix_protocol::client::{
@@ -20,10 +21,10 @@ use std::num::NonZeroU32;
 use std::process::ExitCode;
 use std::{env, fs, io};
 
-// How many bytes a pack may have.
+// The limit of a pack's bytes.
 const MOST: usize = 1 << 30;
 
-/// Why not all was done.
+/// The errors of the program.
 #[derive(Debug, Drop)]
 enum Failure {
     Usage,
@@ -69,7 +70,7 @@ impl<T: Drop> From<AllocFailed<T>> for Failure {
     }
 }
 
-// The bytes of a file; none where it isn't there.
+// The bytes of a file, empty if the file doesn't exist.
 fn read_file(rt: &HostRuntime, folder: &str, name: &str) -> Result<Vec<u8>, Failure> {
     let path = format!(in rt.alloc(); "{folder}/{name}")?;
     match fs::read(rt, path.as_str()) {
@@ -79,7 +80,7 @@ fn read_file(rt: &HostRuntime, folder: &str, name: &str) -> Result<Vec<u8>, Fail
     }
 }
 
-// What is fetched: one commit of each branch, and no tag.
+// Requests one commit of each branch, and no tags.
 fn request(alloc: Global) -> Result<Request, Error> {
     let mut request = Request::new(alloc);
     request.add_refspec(b"+refs/heads/*:refs/remotes/origin/*")?;
@@ -88,7 +89,7 @@ fn request(alloc: Global) -> Result<Request, Error> {
     Ok(request)
 }
 
-// The command of `git update-ref --stdin` for a change; an empty text where the ref stays.
+// The command of `git update-ref --stdin` for a change, empty if the ref is unchanged.
 fn command(alloc: Global, change: &LocalChange) -> Result<String, AllocError> {
     match change {
         LocalChange::Made { name, id } => format!(in alloc; "create {name} {id}\n"),
@@ -98,7 +99,7 @@ fn command(alloc: Global, change: &LocalChange) -> Result<String, AllocError> {
     }
 }
 
-// Keeps what came: the pack, then the boundary.
+// Stores the pack, then the boundary.
 fn keep(
     rt: &HostRuntime,
     folder: &str,
@@ -124,7 +125,7 @@ fn keep(
     Ok(())
 }
 
-// Fetches into the folder, and returns what is mapped and the refs from before.
+// Fetches into the folder. Returns the map and the refs before the fetch.
 fn fetch(
     rt: &HostRuntime,
     from: &str,
@@ -156,7 +157,7 @@ fn fetch(
     Ok((map, refs))
 }
 
-// Fetches, and prints what becomes of the refs.
+// Fetches, and prints the changes of refs.
 fn watch(rt: &HostRuntime, words: &[String]) -> Result<(), Failure> {
     let alloc = rt.alloc();
     let [_, from, to, folder] = words else {
@@ -170,7 +171,6 @@ fn watch(rt: &HostRuntime, words: &[String]) -> Result<(), Failure> {
     Ok(output.flush()?)
 }
 
-// The status of a failure.
 fn status(failure: &Failure) -> u8 {
     match failure {
         Failure::Usage => 64,
@@ -179,7 +179,7 @@ fn status(failure: &Failure) -> u8 {
     }
 }
 
-// Does what the words of the command line ask for.
+// Runs the command line.
 fn run(rt: &HostRuntime) -> Result<(), Failure> {
     let mut words = Vec::new(rt.alloc());
     for word in env::args(rt)? {

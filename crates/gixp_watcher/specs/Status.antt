@@ -1,4 +1,4 @@
--- The exit status by what kind of failure it is.
+-- The exit status for each class of error.
 use Rattle.std.specs.Prelude.{ℕ}
 use Rattle.gix_protocol.specs.ErrorClassType.{ErrorClass}
 use Rattle.gix_protocol.specs.ErrorClassType.TheVariants.{Server, Connection, Memory}

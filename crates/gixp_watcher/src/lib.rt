@@ -1,4 +1,5 @@
-//! A client with traits of its own: a repository in sorted lists, a listener that counts, and a consumer with a limit.
+//! A client with its own implementations of the traits: a repository in sorted lists, a listener that counts, and a consumer with a
+//! limit.
 #![tactic(auto)]
 
 mod listener;

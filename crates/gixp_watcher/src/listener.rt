@@ -1,17 +1,17 @@
-//! A listener of one's own.
+//! A listener that counts messages.
 use gix_protocol::client::Listener;
 
-/// Counts the messages of a server.
+/// Counts the server's messages.
 #[derive(Clone, Copy, Debug, Drop)]
 pub struct Counted {
-    /// How many were progress (band 2).
+    /// The number of progress messages (band 2).
     pub progress: u64,
-    /// How many were errors (band 3).
+    /// The number of error messages (band 3).
     pub errors: u64,
 }
 
 impl Counted {
-    /// None yet.
+    /// No messages yet.
     pub fn new() -> Counted {
         Counted {
             progress: 0,

@@ -27,12 +27,12 @@ impl SortedObjects {
     ghost use Rattle.std.specs.FinMap as finite;
     ghost use Rattle.gixp_watcher.specs.Sorted.{object_of, objects_of};
 
-    /// Reads a text with a line for each object, in the order of their ids: the id, its type, and of a commit the seconds of its
-    /// committer's clock and the ids of its parents, between single blanks.
+    /// Reads a text with one line per object, ordered by id. A line has the id and the type. For a commit the committer's time in
+    /// seconds and the ids of the parents follow. Single blanks separate them.
     ///
     /// # Errors
     ///
-    /// The number of the first line that is of another form or out of order, or an allocation failure.
+    /// The number of the first line that is malformed or out of order, or an allocation failure.
     pub fn read(alloc: Global, text: &[u8]) -> Result<SortedObjects, ReadError> {
         let mut objects = SortedObjects {
             rows: Vec::new(alloc),
@@ -53,7 +53,7 @@ impl SortedObjects {
         Ok(objects)
     }
 
-    // Adds an object whose id is above all others. Returns whether it is.
+    // Adds an object if its id is greater than all others. Returns whether it is.
     fn push(&mut self, row: ObjectRow) -> Result<bool, ReadError> {
         if !follows(&self.rows, &row) {
             return Ok(false);
@@ -62,7 +62,6 @@ impl SortedObjects {
         Ok(true)
     }
 
-    // The object of an id.
     fn get(&self, id: &ObjectId) -> Option<&ObjectRow>
         ensures { option_map object_of (option_copied result) ≡ finite.get (objects_of self.now.rows.items) id.now }
     {
@@ -76,7 +75,7 @@ impl SortedObjects {
     }
 }
 
-// Whether the id of a row is above that of the last one.
+// Whether the id of the row is greater than that of the last one.
 fn follows(rows: &[ObjectRow], row: &ObjectRow) -> bool
     ensures { result ≡ true → IsAboveLast id_cmp (λ (r : ObjectRow). r.id) rows.now row.now }
 {
@@ -86,7 +85,6 @@ fn follows(rows: &[ObjectRow], row: &ObjectRow) -> bool
     }
 }
 
-// A commit once more.
 fn copied(alloc: Global, commit: &Option<CommitData>) -> Result<Option<CommitData>, ObjectError>
     ensures { IfOk result (λ copy. option_map commit_of copy ≡ option_map commit_of commit.now) }
 {

@@ -1,4 +1,4 @@
-//! A consumer of a pack with a limit and an error of its own.
+//! A consumer of a pack, with a limit and its own error.
 ghost use Rattle.std.specs.Prelude.{◌≡◌, ℕ, List};
 ghost use Rattle.gix_protocol.specs.Bands.{side_reading};
 ghost use Rattle.gix_protocol.specs.Receive.{ReadsOn};
@@ -10,12 +10,12 @@ use std::alloc::Global;
 use std::io;
 use std::io::{ErrorKind, Write};
 
-/// Why a pack isn't taken.
+/// The error of the consumer.
 #[derive(Debug, Drop)]
 pub enum PackTooLarge {
-    /// It has more bytes than the limit, as the sentence says.
+    /// The pack exceeds the limit. The text is the message.
     TooLarge(String),
-    /// It can't be read or written.
+    /// The pack couldn't be read or written.
     Copy(CopyError),
     /// An allocation failed.
     Memory,
@@ -31,7 +31,7 @@ impl From<PackTooLarge> for Error {
     }
 }
 
-// A writer that takes so many bytes more, and no other.
+// A writer that accepts `left` more bytes.
 #[derive(Drop)]
 struct Limited<W> {
     writer: W,
@@ -55,7 +55,7 @@ impl<W: Write> Write for Limited<W> {
     }
 }
 
-/// Writes a pack of at most so many bytes.
+/// Writes a pack of limited size.
 #[derive(Drop)]
 pub struct LimitedPack<W> {
     alloc: Global,
@@ -63,7 +63,7 @@ pub struct LimitedPack<W> {
 }
 
 impl<W: Write> LimitedPack<W> {
-    /// A pack goes into this writer, up to so many bytes.
+    /// Writes a pack of at most `most` bytes into this writer.
     pub fn new(alloc: Global, writer: W, most: usize) -> LimitedPack<W> {
         let writer = Limited {
             writer,
@@ -76,7 +76,7 @@ impl<W: Write> LimitedPack<W> {
         }
     }
 
-    /// The writer, with the pack.
+    /// The writer, which has the pack.
     pub fn into_writer(self) -> W {
         let LimitedPack {
             alloc: _,
@@ -90,7 +90,7 @@ impl<W: Write> LimitedPack<W> {
         writer
     }
 
-    // Why the copy failed.
+    // The error of a failed copy.
     fn reason(&self, e: CopyError) -> PackTooLarge {
         if !self.copy.writer.is_over {
             return PackTooLarge::Copy(e);

@@ -1,4 +1,4 @@
-//! A fetch with all that the law `headline` promises of it, over the types of this crate.
+//! A fetch with all promises of the law `headline`, for the types of this crate.
 ghost use Rattle.std.specs.Prelude.{◌≡◌, ◌⊎◌, [], None, Ok, IfOk, codes};
 ghost use Rattle.gix_protocol.specs.Reading.{Reading};
 ghost use Rattle.gix_protocol.specs.Fetch.{parties_of};
@@ -18,8 +18,8 @@ use gix_protocol::transport::{Discard, Interrupt, NeverInterrupt, Transport};
 use std::alloc::Global;
 use std::io::Write;
 
-/// Fetches what a request asks for. Unless nothing is mapped it is one run of the law: its refs, its mappings, its requests and how
-/// many they are, and the bytes of its pack are those that `IsOneRun` says (`promise`).
+/// Fetches what a request asks for. Unless the map is empty, the fetch is one run of the law `headline`. The field `promise` of
+/// `IsOneRun` has the law's promises: about its refs, its mappings, its requests and their number, and the bytes of its pack.
 pub fn promised_fetch<'a, T: Transport + Drop, W: Write>(
     alloc: Global,
     transport: T,

@@ -27,12 +27,12 @@ impl SortedRefs {
     ghost use Rattle.std.specs.FinMap as finite;
     ghost use Rattle.gixp_watcher.specs.Sorted.{refs_of};
 
-    /// Reads a text with a line for each ref, in the order of their names: the name, the id that it holds, and the id that it leads to
-    /// after all tags, between single blanks.
+    /// Reads a text with one line per ref, ordered by name. A line has the name, the id that the ref holds, and that id peeled.
+    /// Single blanks separate them.
     ///
     /// # Errors
     ///
-    /// The number of the first line that is of another form or out of order, or an allocation failure.
+    /// The number of the first line that is malformed or out of order, or an allocation failure.
     pub fn read(alloc: Global, text: &[u8]) -> Result<SortedRefs, ReadError> {
         let mut refs = SortedRefs {
             rows: Vec::new(alloc),
@@ -53,7 +53,7 @@ impl SortedRefs {
         Ok(refs)
     }
 
-    // Adds a ref whose name is above all others. Returns whether it is.
+    // Adds a ref if its name is greater than all others. Returns whether it is.
     fn push(&mut self, row: RefRow) -> Result<bool, ReadError> {
         if !follows(&self.rows, &row) {
             return Ok(false);
@@ -62,7 +62,6 @@ impl SortedRefs {
         Ok(true)
     }
 
-    // The id that a ref holds.
     fn get(&self, name: &[u8]) -> Option<ObjectId>
         ensures { result ≡ finite.get (refs_of self.now.rows.items) name.now }
     {
@@ -76,7 +75,7 @@ impl SortedRefs {
     }
 }
 
-// Whether the name of a row is above that of the last one.
+// Whether the name of the row is greater than that of the last one.
 fn follows(rows: &[RefRow], row: &RefRow) -> bool
     ensures { result ≡ true → IsAboveLast (slice_cmp nat_cmp) name_of rows.now row.now }
 {
@@ -86,7 +85,6 @@ fn follows(rows: &[RefRow], row: &RefRow) -> bool
     }
 }
 
-// A ref as it is listed.
 fn listed(alloc: Global, row: &RefRow) -> Result<(BString, ObjectId), AllocError>
     ensures { IfOk result (λ e. listed_value e ≡ name_and_id row.now) }
 {

@@ -3,14 +3,14 @@ use bstr::BString;
 use gix_protocol::ObjectId;
 use gix_protocol::fetch::negotiate::{CommitData, ObjectKind};
 
-/// An object.
+/// One object.
 #[derive(Debug, Drop)]
 pub struct ObjectRow {
-    /// Its name.
+    /// Its id.
     pub id: ObjectId,
     /// Its type.
     pub kind: ObjectKind,
-    /// What is read of it where it is a commit.
+    /// Its commit data, if it is a commit.
     pub commit: Option<CommitData>,
 }
 
@@ -21,6 +21,6 @@ pub struct RefRow {
     pub name: BString,
     /// The id that it holds.
     pub id: ObjectId,
-    /// The object that it leads to after all tags.
+    /// That id peeled: the object after all tags.
     pub peeled: ObjectId,
 }

@@ -5,7 +5,7 @@ ghost use Rattle.gixp_watcher.specs.Status.{status_of};
 
 use gix_protocol::client::{Error, ErrorClass};
 
-/// 2 where the server reports an error, 3 where another try may help, and 1 where none does.
+/// 2 if the server reports an error, 3 if another try may help, otherwise 1.
 pub fn exit_status(e: &Error) -> u8
     ensures { result ≡ status_of (class_of e.now) }
 {

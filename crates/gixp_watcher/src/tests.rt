@@ -1,4 +1,4 @@
-//! Fetches over recorded streams, by the traits of this crate.
+//! Fetches over recorded streams, with the implementations of this crate.
 use crate::{Counted, LimitedPack, ReadError, SortedObjects, SortedRefs, exit_status, fetch_twice};
 use gix_protocol::client::{
     Error, ErrorClass, LocalChange, Request, Session, local_changes, over_streams,
@@ -7,7 +7,7 @@ use gix_protocol::fetch::Tags;
 use std::alloc::Global;
 use std::test::Fail;
 
-// A server of version 2: its capability advertisement, and twice its refs and its answer to a fetch, with a message.
+// A server of version 2: its capability advertisement, then twice its refs and its response to a fetch, with a message.
 const TWICE: &[u8] =
     b"000eversion 2\n0013ls-refs=unborn\n0012fetch=shallow\n0017object-format=sha1\n0000\
     003d7257effbd41e1233eaae5744e614c5c728e3c979 refs/heads/main\n0000\

@@ -1,4 +1,4 @@
-//! Two fetches over one session.
+//! Two fetches in one session.
 use crate::listener::Counted;
 use crate::objects::SortedObjects;
 use crate::pack::LimitedPack;
@@ -9,21 +9,21 @@ use gix_protocol::transport::Transport;
 use std::alloc::Global;
 use std::io::Write;
 
-/// What came of two fetches.
+/// The results of two fetches.
 #[derive(Drop)]
 pub struct Fetches {
-    /// The map and the outcome of the first.
+    /// The map and the result of the first.
     pub first: (RefMap, Fetched),
-    /// Those of the second.
+    /// The map and the result of the second.
     pub second: (RefMap, Fetched),
-    /// The messages of both.
+    /// The number of messages of both.
     pub messages: Counted,
 }
 
-/// Fetches what two requests ask for over one session, which takes version 2 of the protocol: the second one once the first is over. The
-/// repository is the one before both, so the second fetch may bring again what the first brought.
+/// Runs two fetches, one after the other, in one session of protocol version 2. The repository isn't updated in between, so the
+/// second fetch may transfer objects of the first again.
 ///
-/// Where the first fails the second isn't begun. Either writer may have a part of a pack then, which is to be thrown away.
+/// If the first fetch fails, the second isn't started. A writer may then have a part of a pack, which the caller must discard.
 pub fn fetch_twice<T: Transport + Drop, W: Write>(
     alloc: Global,
     transport: T,

@@ -5,10 +5,10 @@ use gix_protocol::ObjectId;
 use gix_protocol::fetch::negotiate::{CommitData, ObjectKind};
 use std::alloc::{AllocError, AllocFailed, Global};
 
-/// Why a text isn't read.
+/// The error of reading a store's text.
 #[derive(Clone, Copy, Debug, PartialEq, Eq, Drop)]
 pub enum ReadError {
-    /// The line of this number is of another form, or out of order.
+    /// The line of this number is malformed or out of order.
     Line(usize),
     /// An allocation failed.
     Memory,

@@ -1,4 +1,4 @@
--- What a server says first, read one step at a time.
+-- The server's advertisement, read step by step.
 use Rattle.std.proofs.Common.{◌≡◌, ℕ, ◌≤◌, ◌<◌, ◌⊎◌, inl, inr, Bool, true, false, List, [], ◌∷◌, ◌++◌, take, length, Option, Some, None, IfSome, Result, Ok, Err, refl, sym, ap, subst, ◌∙◌, arith, append_assoc, append-nil}
 use Rattle.std.specs.Prelude.{position, ◌==◌}
 use Rattle.std.proofs.lemmas.List.{map-append, length-take-le}
@@ -27,12 +27,12 @@ use Rattle.gixp_packetline.specs.Reading.{Reading, reset_to, ShowsLine, TakesLin
 use Rattle.gixp_wire.specs.CapabilityAdvertisement.{Advertised, Named, another, unnamed, version_named, trimmed, empty_advertisement, ref_line, from_ref_line, by_version, by_first, advertisement, by_lines, from_capability_lines, Answers, ReadsAdvertisement, FailsAdvertisement, IsFromDevice, IsOfSaid, IsCaused, LinesTaken, TakesNone, TakesAny, TakesFirst, one, two, behind_lines, StandsRefused, StandsIo, Stands, Advertises}
 use Rattle.gixp_packetline.proofs.LineLemmas.{gives_line, stops_here, refuses_here}
 
--- what one says of known pieces, the other says of those that are left
+-- `said` of the packet lines before is `then` of those after
 abbrev pub Turns : (Pieces → Result Advertised ClientRefusal) → (Pieces → Result Advertised ClientRefusal) → Option Pieces
     → Option Pieces → Type 0
 Turns said then old new = IfSome old (λ p. (q : Pieces) × (new ≡ Some q) × (said p ≡ then q))
 
--- nothing but these lines went
+-- only these lines were taken
 pub record Steps (said then : Pieces → Result Advertised ClientRefusal) (texts : List (List ℕ)) (old new : Reading) : Type 0 where
   pub turns : Turns said then old.to_come new.to_come
   pub lines : LinesTaken texts old.to_come new.to_come
@@ -110,7 +110,7 @@ refused-then xs None b P h k = tt
 refused-then xs (Some p) None P h k = absurd (let e = h.1 in cc)
 refused-then xs (Some p) (Some q) P h k = k
 
--- what comes after an error, from before lines were taken
+-- the state after an error, seen from before the lines that were taken
 stands-then : (xs ys : List (List ℕ)) (old mid new : Reading) (e : Error) → LinesTaken xs old.to_come mid.to_come → Stands ys mid new e
     → Stands (xs ++ ys) old new e
 stands-then xs ys old mid new (Io kind) h k = by (is_end kind) k
@@ -125,7 +125,7 @@ stands-then xs ys old mid new (UnsupportedProtocolVersion t) h k = (k.0, k.1, ta
 stands-then xs ys old mid new MissingDelimitingNullByte h k = (k.0, k.1, taken-then xs ys old.to_come mid.to_come new.to_come h k.2)
 stands-then xs ys old mid new Memory h k = taken-then xs ys old.to_come mid.to_come new.to_come h k
 
--- after such steps
+-- an advertisement that is read after such steps
 pub advertises-then : (said then : Pieces → Result Advertised ClientRefusal) (takes more : Protocol → List (List ℕ) → Type 0)
     (texts : List (List ℕ)) (old mid new : Reading)
     (r : Result SetServiceResponse Error) → ((v : Protocol) (ts : List (List ℕ)) → more v ts → takes v (texts ++ ts)) → Steps said
@@ -159,7 +159,7 @@ advertises-then said then takes more texts old mid new (Err e) f s h = record {
     caused (inl k) = inl (k.0, k.1 ∙ s.failures)
     caused (inr k) = inr (from_device old mid new e s.failures k)
 
--- the errors that failed reads and allocations bring
+-- the error of a failed read is `Io`
 is_io : (e : Error) (kind : ErrorKind) → client_refusal e ≡ failed kind → e ≡ Io kind
 is_io (Io k) kind h = let same : k ≡ kind = cc in ap Io same
 is_io (Read e) kind h = absurd (cc)
@@ -215,7 +215,7 @@ is_reader Memory x h P f = absurd (cc)
 stood : (old new : Reading) (x : Refusal) (e : Error) → client_refusal e ≡ reader x → StandsRefused old new x → Stands [] old new e
 stood old new x e is k = is_reader e x is (Stands [] old new) (λ y h. subst (StandsRefused old new) (sym h) k)
 
--- the refusal of a stream is what was said
+-- an error of the stream is one of the advertisement
 of-said : (new : Reading) (x : Refusal) (e : Error) → IsLasting x → IsPlain new x → client_refusal e ≡ client_from x → IsOfSaid e
 of-said new (io kind) e l p is = subst IsOfSaid (sym (is_io e kind is)) l
 of-said new (decode y) e l p is = is_reader e (decode y) is IsOfSaid (λ z h. subst IsLasting (sym h) tt)
@@ -226,7 +226,7 @@ of-said new (bad_band b) e l p is = absurd p
 of-said new interrupted e l p is = absurd p
 of-said new memory e l p is = absurd l
 
--- the refusal of a stream stands
+-- an error of the stream is sticky
 stands-lasting : (old new : Reading) (x : Refusal) (e : Error) → IsLasting x → IsPlain new x → client_refusal e ≡ client_from x
     → StandsRefused old new x → Stands [] old new e
 stands-lasting old new (io kind) e l p is k =
@@ -241,7 +241,7 @@ stands-lasting old new (bad_band b) e l p is k = absurd p
 stands-lasting old new interrupted e l p is k = absurd p
 stands-lasting old new memory e l p is k = absurd l
 
--- a fault loses nothing
+-- a transient error loses nothing
 stands-fault : (old new : Reading) (x : Refusal) (e : Error) → Faults old new x → IsPlain new x → client_refusal e ≡ client_from x
     → Stands [] old new e
 stands-fault old new (io kind) e k p is =
@@ -266,7 +266,7 @@ always : (o : Option Pieces) (P : Type 0) → P → IfSome o (λ p. P)
 always None P h = tt
 always (Some p) P h = h
 
--- a reader that is refused refuses what was said
+-- an error of the reader is the error of the advertisement
 pub fails-reading : (said : Pieces → Result Advertised ClientRefusal) (takes : Protocol → List (List ℕ) → Type 0) (old new : Reading)
     (x : Refusal) (e : Error) → takes old.version [] → Failing old new x
     → IsPlain new x → client_refusal e ≡ client_from x
@@ -305,7 +305,7 @@ fails-reading said takes old new x e m (inr (inr k)) p is f =
       held = k.held;
     }
 
--- a reader that isn't at a stop and comes to one takes it
+-- a reader that was not at a stop and is at one after the call took it
 pub takes-stop : (old new : Reading) → old.stopped ≡ None → AtStop old new → (kind : MessageKind) × TakesStop old new kind
 takes-stop old new run (inl k) = absurd (let e = rw run at k.was in cc)
 takes-stop old new run (inr k) = k
@@ -338,7 +338,7 @@ reads-empty_advertisement said v old new kind found version is k f = record {
   held = k.held;
 }
 
--- these lines were read of those that come first
+-- these capability lines were read so far
 pub record Gathers (old now : Reading) (texts : List (List ℕ)) : Type 0 where
   pub next : IfSome old.to_come (λ p. (q : Pieces) × (now.to_come ≡ Some q) × (lines_of V2 p ≡ before texts (lines_of V2 q)))
   pub lines : LinesTaken texts old.to_come now.to_come
@@ -378,7 +378,6 @@ behind_line (Some p) (Some q) c texts text w v h k =
           ∙ (rw append_assoc refl),
     )
 
--- one more line
 pub gathers-line : (old mid new : Reading) (texts : List (List ℕ)) → Gathers old mid texts → TakesLine mid new
     → Gathers old new (texts ++ new.line ∷ [])
 gathers-line old mid new texts h k = record {
@@ -392,7 +391,7 @@ gathers-line old mid new texts h k = record {
   held = k.held ∙ h.held;
 }
 
--- after these lines the rest is read as they and the others
+-- the advertisement after these lines: they and the lines to come
 abbrev said_behind : List (List ℕ) → Pieces → Result Advertised ClientRefusal
 said_behind texts p = let l = lines_of V2 p in by_lines (texts ++ l.lines) l.ending
 
@@ -435,7 +434,7 @@ reads-lines old mid new texts found h at is =
       held = k.held;
     })
 
--- a refusal among them
+-- an error among them
 pub fails-lines : (old mid new : Reading) (texts : List (List ℕ)) (x : Refusal) (e : Error) → Gathers old mid texts → Failing mid new x
     → IsPlain new x
     → client_refusal e ≡ client_from x → FailsAdvertisement from_capability_lines TakesAny old new e
@@ -467,7 +466,7 @@ pub capabilities-push : (texts : List (List ℕ)) (text : List ℕ) → capabili
     ++ capability_of_line text ∷ [] ≡ capabilities_of_lines (texts ++ text ∷ [])
 capabilities-push texts text = sym (map-append capability_of_line texts (text ∷ []))
 
--- reading under another version leaves the pieces where they are
+-- reading under another version takes no packet line
 pub reset-steps : (said : Pieces → Result Advertised ClientRefusal) (r : Reading) (v : Protocol) → Steps said said [] r (reset_to v r)
 reset-steps said r v = record { turns = at r.to_come; lines = none-taken r.to_come; failures = refl; left = omega arith; held = refl }
   where
@@ -475,7 +474,7 @@ reset-steps said r v = record { turns = at r.to_come; lines = none-taken r.to_co
     at None = tt
     at (Some p) = (p, refl, refl)
 
--- to peek leaves them too
+-- to peek takes no packet line
 pub shows-steps : (said : Pieces → Result Advertised ClientRefusal) (old new : Reading) → ShowsLine old new → Steps said said [] old new
 shows-steps said old new k = record {
   turns = at old.to_come new.to_come k.next;
@@ -490,7 +489,7 @@ shows-steps said old new k = record {
     at None b h = tt
     at (Some p) b h = (p, h.1, refl)
 
--- after a line that was taken, where what was said turns on it
+-- after a line that was taken, on which the advertisement depends
 pub takes-steps : (said then : Pieces → Result Advertised ClientRefusal) (old new : Reading) → TakesLine old new
     → ((p q : Pieces) → next_of old.version p ≡ gives new.line q → said p ≡ then q) → Steps said then (new.line ∷ []) old new
 takes-steps said then old new k f =
@@ -507,7 +506,7 @@ takes-steps said then old new k f =
     at None b h = tt
     at (Some p) b h = (h.0, h.1, f p h.0 h.2)
 
--- a place that is peeked at
+-- a reader that has peeked at a line
 pub peeked-place : (place : Place) → is_peeked place ≡ true → place ≡ Peeked
 peeked-place Open h = cc
 peeked-place Peeked h = refl
@@ -518,12 +517,12 @@ abbrev place_of : Option (List CapabilityValue × ℕ) → ℕ
 place_of None = 0
 place_of (Some found) = found.1
 
--- what was found is the definition's
+-- the capabilities found are those of the definition
 pub found-is : (o : Option (List CapabilityValue × ℕ)) (found : List CapabilityValue × ℕ) → IsOfLine o (Ok found) → o ≡ Some found
 found-is None found h = absurd h
 found-is (Some x) found h = ap Some (sym h)
 
--- a line with a NUL is as long as its place
+-- the NUL is in the line
 pub place-within : (text : List ℕ) (cs : List CapabilityValue) (place : ℕ) → capabilities_of_line text ≡ Some (cs, place)
     → place < length text
 place-within text cs place h = at (position (λ b. b == 0) text) refl h
@@ -536,7 +535,6 @@ place-within text cs place h = at (position (λ b. b == 0) text) refl h
         rw same at within
 
 module _ {R : Type 0} where
-  -- the line that it lends, cut
   abbrev pub shortened : Packets R → ℕ → Packets R
   shortened p n = record p { window = record p.window { lent = take n p.window.lent } }
 
@@ -590,7 +588,7 @@ module _ {R : Type 0} where
         },
       )
 
-  -- it has no NUL
+  -- the first ref line has no NUL
   pub fails-cut : (rem : R → Option (List ℕ)) (p : Packets R) (v : Protocol) (e : Error) → p.place ≡ Peeked → p.version ≡ v
       → IsOfLine (capabilities_of_line p.window.lent) (Err e)
       → FailsAdvertisement (from_ref_line v) (TakesNone v) (packets_reading rem p) (packets_reading rem p) e
@@ -655,7 +653,7 @@ module _ {R : Type 0} where
       at None = tt
       at (Some q) = (with_piece (line p.window.lent) q, refl, ap (λ n. by_version n (with_piece (line p.window.lent) q) q) is)
 
-  -- one that names another version is refused
+  -- a first line that names an unknown version is an error
   pub fails-another : (rem : R → Option (List ℕ)) (p : Packets R) (e : Error) → p.version ≡ V0 → p.place ≡ Peeked
       → version_named p.window.lent ≡ another (trimmed p.window.lent)
       → (client_refusal e ≡ unsupported_version (trimmed p.window.lent))
@@ -706,7 +704,7 @@ module _ {R : Type 0} where
     held = refl;
   }
 
--- after a line that names a version, which was peeked at and taken, and the version
+-- a line that names a version was peeked at and taken, and the version was set
 pub named-steps : (then : Pieces → Result Advertised ClientRefusal) (named : Named) (v : Protocol) (old mid new : Reading)
     (text : List ℕ) → old.version ≡ V0 → old.peeked ≡ true
     → old.line ≡ text → version_named text ≡ named → ((p q : Pieces) → by_version named p q ≡ then q) → TakesLine old mid
@@ -724,7 +722,7 @@ named-steps then named v old mid new text version peeked is names turns k reset 
       held = taken.held;
     })
 
--- the lines that were taken, after the first one
+-- which lines were taken, the first one included
 pub first-none : (v : Protocol) (texts : List (List ℕ)) → TakesNone V0 v texts → TakesFirst v texts
 first-none v texts h = subst (λ w. TakesFirst w texts) (sym h.0) h.1
 

@@ -1,4 +1,4 @@
--- What a transport over memory reads after the body that it took.
+-- The packet lines that a transport over memory reads after it took a response.
 use Rattle.std.proofs.Common.{◌≡◌, ℕ, false, List, [], ◌∷◌, ◌++◌, length, map, reverse, Some, Vec, refl, sym, ap, subst, arith}
 use Rattle.std.proofs.lemmas.List.{reverse-append}
 use Rattle.std.specs.declared.alloc.Global.{Global}
@@ -13,22 +13,22 @@ use Rattle.gixp_packetline.specs.Pieces.{io, no_pieces, stream_pieces}
 use Rattle.gixp_wire.specs.Bodies.{answer_of, bodies_held, bodies_reading}
 use Rattle.gixp_wire.specs.Transport.{TakesAnswer, answer_pieces, first_answer, later_answers}
 
--- no bytes are a stream that ends at once
+-- an empty stream ends at once
 pub no_bytes : stream_pieces [] ≡ no_pieces (io UnexpectedEof)
 unfolding frames_of frames_within
 no_bytes = refl
 
--- the last body is the first answer
+-- the last body is the next response
 pub answers-popped : (old more : List Body) (x : Body) → old ≡ more ++ x ∷ [] → map answer_of (reverse old) ≡ answer_of x
     ∷ map answer_of (reverse more)
 answers-popped old more x h = rw (h, reverse-append more (x ∷ [])) refl
 
--- packets of another reader
+-- `Packets` that were restarted with another reader
 abbrev pub restarted : Packets (Cursor (Vec ℕ Global)) → Cursor (Vec ℕ Global) → ℕ → Packets (Cursor (Vec ℕ Global))
 restarted p reader failures =
     record p { reader = reader; window = record { pending = []; lent = [] }; place = Open; ended = false; failures = failures }
 
--- the body is what is read
+-- the body is the response that is read
 pub takes-answer : (b : Bodies) (reader : Cursor (Vec ℕ Global)) (more : Vec Body Global) (failures : ℕ) (bytes : List ℕ)
     → reader.pos ≡ 0 → reader.inner.items ≡ bytes
     → stream_pieces bytes ≡ answer_pieces (first_answer (bodies_held b).answers) → later_answers (bodies_held b).answers
@@ -44,7 +44,7 @@ takes-answer b reader more failures bytes at is first later = record {
   held = rw later refl;
 }
 
--- packets that were restarted are what is read
+-- restarted `Packets` read the response
 pub takes-packets : (b : Bodies) (p : Packets (Cursor (Vec ℕ Global))) (reader : Cursor (Vec ℕ Global)) (more : Vec Body Global)
     (bytes : List ℕ)
     → p ≡ restarted b.packets reader p.failures → reader.pos ≡ 0 → reader.inner.items ≡ bytes
@@ -55,7 +55,6 @@ takes-packets b p reader more bytes is at holds first later =
     subst (λ q. TakesAnswer (bodies_reading b) (bodies_reading (record b { packets = q; later = more }))) (sym is)
     (takes-answer b reader more p.failures bytes at holds first later)
 
--- no body is left
 pub no_answers : (old more : List Body) → old ≡ more ++ [] → length old ≡ 0 → (map answer_of (reverse old) ≡ [])
     × (map answer_of (reverse more) ≡ [])
 no_answers [] [] h n = (refl, refl)

@@ -1,4 +1,4 @@
--- Whether the lines of a command can be sent.
+-- Whether the lines of a command fit into packet lines.
 use Rattle.std.proofs.Common.{◌≡◌, ℕ, Bool, true, false, List, [], ◌∷◌, ◌++◌, Option, refl, ap, ◌∙◌, map, ◌&&◌}
 use Rattle.std.specs.Prelude.{codes, String, string_bytes}
 use Rattle.std.specs.List.{list_all}
@@ -10,7 +10,7 @@ use Rattle.bstr.specs.declared.bstring.BString.{BString}
 use Rattle.bstr.specs.Owned.{bstring_bytes}
 use Rattle.gixp_wire.specs.Message.{MessageValue, text, flush, fits, value_fits, lines_fit, feature_line, feature_lines, argument_values, command_fits}
 
--- tests in a row, of which the last is true
+-- regrouping of a conjunction that ends in true
 and_parts : (a b c : Bool) → (((a && b) && c) && true) ≡ (a && (b && c))
 and_parts false b c = refl
 and_parts true false c = refl

@@ -1,4 +1,4 @@
--- What is said first over a connection.
+-- The first message of a handshake.
 use Rattle.std.proofs.Common.{◌≡◌, ℕ, true, List, Some, None, refl, sym, subst, ◌∙◌, append-nil, Result, Ok, Err}
 use Rattle.gixp_capabilities.specs.declared.client.Error.{Error}
 use Rattle.gixp_capabilities.specs.declared.client.Error.TheVariants.{Io, Read, LineTooLong, AuthenticationUnsupported, UnsupportedProtocolVersion, MissingDelimitingNullByte, Memory}
@@ -11,7 +11,6 @@ use Rattle.gixp_wire.specs.Handshake.{GreetsBy}
 use Rattle.gixp_wire.specs.Transport.{Wrote, Writes, EndsBy}
 use Rattle.gixp_wire.proofs.TransportLemmas.{wrote_nothing, broke_then}
 
--- nothing is said
 pub greets-none : (service : Service) (ps : List Parameter) (old new : Reading) (r : Result Unit Error) → EndsBy true old new r
     → GreetsBy None service ps old new r
 greets-none service ps old new (Ok x) k = (refl, (old, wrote_nothing old k.whole, k))
@@ -23,7 +22,7 @@ greets-none service ps old new (Err (UnsupportedProtocolVersion t)) k = k
 greets-none service ps old new (Err MissingDelimitingNullByte) k = k
 greets-none service ps old new (Err Memory) k = absurd k
 
--- a greeting was written, and then the writer flushed
+-- the first message was written and the writer flushed
 pub greets-some : (g : Greeting) (service : Service) (ps : List Parameter) (old mid new : Reading) (r : Result Unit Error)
     → greeting_fits (Some g) service ps ≡ true
     → Wrote old mid (payload_text (greeting_text g service ps)) → EndsBy true mid new r → GreetsBy (Some g) service ps old new r
@@ -37,7 +36,6 @@ greets-some g service ps old mid new (Err (UnsupportedProtocolVersion t)) fit w 
 greets-some g service ps old mid new (Err MissingDelimitingNullByte) fit w k = k
 greets-some g service ps old mid new (Err Memory) fit w k = absurd k
 
--- it couldn't be written
 pub greets-refused : (g : Greeting) (service : Service) (ps : List Parameter) (old new : Reading) (bytes : List ℕ) (e : Error)
     → old.held.persists ≡ true
     → greeting_fits (Some g) service ps ≡ true → Writes old new bytes (Err e) → GreetsBy (Some g) service ps old new (Err e)

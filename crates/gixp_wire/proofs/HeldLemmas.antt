@@ -1,4 +1,4 @@
--- What a call that reads does, beside whatever is held.
+-- A reading call does the same whatever the state of the transport is.
 use Rattle.std.proofs.Common.{◌≡◌, ℕ, List, Bool, true, false, ◌⊎◌, inl, inr, refl, Option, Some, None, IfSome, Result, Ok, Err}
 use Rattle.gixp_packetline.specs.declared.read.Error.{Error}
 use Rattle.gixp_packetline.specs.declared.protocol.Protocol.{Protocol}

@@ -1,4 +1,4 @@
--- Writes one after another.
+-- Several writes, one after another.
 use Rattle.std.proofs.Common.{◌≡◌, ℕ, List, [], ◌∷◌, ◌++◌, Option, Some, None, IfSome, refl, sym, ap, subst, ◌∙◌, append_assoc, append-nil, Result, map, ◌&&◌}
 use Rattle.std.specs.List.{list_all}
 use Rattle.std.specs.Io.KnownBytes.{Appends}
@@ -20,11 +20,10 @@ appends_both (Some x) None c xs ys h k = absurd h
 appends_both (Some x) (Some y) None xs ys h k = absurd k
 appends_both (Some x) (Some y) (Some z) xs ys h k = rw (k, h, append_assoc) refl
 
--- nothing was written yet
 pub wrote_nothing : (r : Reading) → r.held.broken ≡ None → Wrote r r []
 wrote_nothing r h = record { whole = h; written = appends_none r.held.written; rest = refl }
 
--- and then more
+-- then more was written
 pub wrote_more : (old mid new : Reading) (xs ys : List ℕ) → Wrote old mid xs → Wrote mid new ys → Wrote old new (xs ++ ys)
 wrote_more old mid new xs ys h k = record {
   whole = h.whole;
@@ -32,7 +31,7 @@ wrote_more old mid new xs ys h k = record {
   rest = k.rest ∙ ap (λ m. with_written m new.held.written) h.rest;
 }
 
--- and then a write failed
+-- then a write failed
 pub broke_then : (old mid new : Reading) (xs : List ℕ) (kind : ErrorKind) → Wrote old mid xs → WriteBroke mid new kind
     → WriteBroke old new kind
 broke_then old mid new xs kind h k =
@@ -44,13 +43,13 @@ broke_then old mid new xs kind h k =
       rest = b.rest;
     }
 
--- and then memory ran out
+-- then an allocation failed
 pub unfinished_then : (old mid new : Reading) (xs : List ℕ) → Wrote old mid xs → Unwritten mid new → Unfinished old new
 unfinished_then old mid new xs h k =
     let b = subst (λ m. Unwritten m new) h.rest k in
     record { alone = b.alone; rest = k.rest ∙ h.rest ∙ ap (with_written old) (ap (λ (r : Reading). r.held.written) (sym k.rest)) }
 
--- frames and fit of messages, by what they mean
+-- the packet lines of messages, and whether they fit, depend only on their values
 fit-values : (messages : List Message) → all_fit messages ≡ list_all value_fits (map message_value messages)
 fit-values [] = refl
 fit-values (m ∷ ms) = ap (λ b. message_fits m && b) (fit-values ms)
@@ -59,7 +58,7 @@ frames-values : (messages : List Message) → request_frames messages ≡ map va
 frames-values [] = refl
 frames-values (m ∷ ms) = ap (λ fs. message_frame m ∷ fs) (frames-values ms)
 
--- a request is sent by what its messages mean
+-- a sent request depends only on the values of its messages
 pub sends-values : (old new : Reading) (messages : List Message) (values : List MessageValue) (r : Result Unit Error)
     → map message_value messages ≡ values
     → Sends old new (all_fit messages) (texts_of (request_frames messages)) r

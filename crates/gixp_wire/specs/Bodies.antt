@@ -1,4 +1,4 @@
--- What a transport over memory means: each handshake and each request has an answer of its own.
+-- The state of a transport over memory: each handshake and each request has its own response.
 use Rattle.std.specs.Prelude.{◌≡◌, ℕ, ◌-◌, ◌*◌, ◌^◌, false, List, [], map, reverse, Some, None, vec_items}
 use Rattle.std.specs.Option.{option_map}
 use Rattle.bstr.specs.Owned.{bstring_bytes}
@@ -14,7 +14,7 @@ use Rattle.gixp_wire.specs.Handshake.{account_value}
 use Rattle.gixp_packetline.specs.Reading.{Reading}
 use Rattle.gixp_packetline.specs.Packets.{packets_reading, memory_remaining}
 
--- the answer that a body is
+-- a body as a response: its bytes as packet lines, or an error
 abbrev pub answer_of : Body → Answer
 answer_of (Bytes bytes) = body (stream_pieces bytes.items)
 answer_of (Fail kind) = fails kind
@@ -36,7 +36,7 @@ bodies_held b = record {
 abbrev pub bodies_reading : Bodies → Reading
 bodies_reading b = record (packets_reading memory_remaining b.packets) { held = bodies_held b }
 
--- before the first handshake: nothing is to come, and nothing was sent
+-- before the first handshake nothing is to come, and nothing was sent
 pub record IsNewBodies (bodies : List Body) (at : List ℕ) (versions : List Protocol) (b : Bodies) : Type 0 where
   pub to_come : (bodies_reading b).to_come ≡ Some (no_pieces (io UnexpectedEof))
   pub refused : (bodies_reading b).refused ≡ None

@@ -1,5 +1,6 @@
--- What a server says first: its version, its capabilities, and under versions 0 and 1 its refs (gitprotocol-pack, "Reference Discovery"
--- and "Extra Parameters"; gitprotocol-v2, "Capability Advertisement").
+-- The server's advertisement: its version, its capabilities, and under versions 0 and 1 its refs (gitprotocol-pack,
+-- "Reference Discovery" and "Extra Parameters"; gitprotocol-v2, "Capability Advertisement"). A stop is a flush packet,
+-- or under version 2 a delimiter packet.
 use Rattle.std.specs.Prelude.{◌≡◌, ℕ, ◌≤◌, ◌⊎◌, Bool, true, false, nat_eq, List, [], ◌∷◌, take, codes, if◌then◌else◌, Option, Some, None, Result, Ok, Err, IfSome, IsSome, ⊤}
 use Rattle.std.specs.Char.{is_whitespace}
 use Rattle.bstr.specs.Trim.{trim_end_by}
@@ -20,18 +21,18 @@ use Rattle.gixp_capabilities.specs.Capabilities.{CapabilityValue, capabilities_o
 use Rattle.gixp_capabilities.specs.Client.{ClientRefusal, client_refusal, client_from, no_null_byte, unsupported_version}
 use Rattle.gixp_packetline.specs.Reading.{Reading, Rose, IsLasting, refusal_of, is_end}
 
--- what a server said, and where its reader then is
+-- an advertisement, and where it leaves the reader
 pub record Advertised : Type 0 where
   pub version : Protocol
   pub capabilities : List CapabilityValue
-  -- whether its refs are the lines that come next
+  -- whether the lines that come next are the refs
   pub has_refs : Bool
-  -- the pieces after it
+  -- the packet lines after it
   pub rest : Pieces
   -- the stop that the reader is at
   pub stopped : Option MessageKind
 
--- which version a first line names, if it names one; another one is the line's text
+-- the version that the first line names: 1, 2, another one, or none
 pub data Named : Type 0 where
   one : Named
   two : Named
@@ -49,11 +50,11 @@ version_named text =
     else if starts_with nat_eq text (codes "version ") then another (trimmed text)
     else unnamed
 
--- a stop in place of the first ref line: no refs, and no capabilities
+-- a stop in place of the first ref line: no refs and no capabilities
 abbrev pub empty_advertisement : Protocol → MessageKind → Pieces → Advertised
 empty_advertisement version kind rest = record { version = version; capabilities = []; has_refs = true; rest = rest; stopped = Some kind }
 
--- the first ref line is still to come, cut before its NUL; the capabilities come after that
+-- the first ref line has the capabilities after its NUL; the part before the NUL is still to come
 abbrev pub ref_line : Protocol → List ℕ → Pieces → Option (List CapabilityValue × ℕ) → Result Advertised ClientRefusal
 ref_line version text rest None = Err no_null_byte
 ref_line version text rest (Some found) =
@@ -70,7 +71,7 @@ by_ref_line version (gives text rest) = ref_line version text rest (capabilities
 by_ref_line version (stops kind rest) = Ok (empty_advertisement version kind rest)
 by_ref_line version (refuses e) = Err (client_from e)
 
--- the first ref line of version 0 or 1
+-- the first ref line of version 0 or 1, or the stop in its place
 abbrev pub from_ref_line : Protocol → Pieces → Result Advertised ClientRefusal
 from_ref_line version p = by_ref_line version (next_of version p)
 
@@ -83,7 +84,7 @@ by_lines texts (refusal e) = Err (client_from e)
 abbrev pub from_capability_lines : Pieces → Result Advertised ClientRefusal
 from_capability_lines p = let l = lines_of V2 p in by_lines l.lines l.ending
 
--- what comes after a first line that names a version; one that names none is the first ref line of version 0
+-- the advertisement by its first line; a line that names no version is the first ref line of version 0
 abbrev pub by_version : Named → Pieces → Pieces → Result Advertised ClientRefusal
 by_version one all rest = from_ref_line V1 rest
 by_version two all rest = from_capability_lines rest
@@ -95,11 +96,11 @@ by_first all (gives text rest) = by_version (version_named text) all rest
 by_first all (stops kind rest) = Ok (empty_advertisement V0 kind rest)
 by_first all (refuses e) = Err (client_from e)
 
--- what a server says first, read under the stops of version 0 up to where a version is named
+-- the advertisement of a server; it is read under version 0 until its first line names a version
 abbrev pub advertisement : Pieces → Result Advertised ClientRefusal
 advertisement p = by_first p (next_of V0 p)
 
--- the answer says what the server said
+-- the call returned this advertisement, and the reader is where the advertisement leaves it
 pub record Answers (a : Advertised) (new : Reading) (found : SetServiceResponse) : Type 0 where
   pub version : found.actual_protocol ≡ a.version
   pub capabilities : found.capabilities ≡ a.capabilities
@@ -107,20 +108,20 @@ pub record Answers (a : Advertised) (new : Reading) (found : SetServiceResponse)
   pub rest : new.to_come ≡ Some a.rest
   pub stopped : new.stopped ≡ a.stopped
 
--- capability lines, and a stop after them
+-- the advertisement had these capability lines, and a stop after them
 pub record SaysLines (new : Reading) (found : SetServiceResponse) : Type 0 where
   pub texts : List (List ℕ)
   pub capabilities : found.capabilities ≡ capabilities_of_lines texts
   pub has_refs : found.has_refs ≡ false
   pub stopped : IsSome new.stopped
 
--- a stop in place of the first ref line
+-- the advertisement had a stop in place of the first ref line
 pub record SaysNothing (new : Reading) (found : SetServiceResponse) : Type 0 where
   pub capabilities : found.capabilities ≡ []
   pub has_refs : found.has_refs ≡ true
   pub stopped : IsSome new.stopped
 
--- a first ref line with a NUL, of which what comes before it is peeked at
+-- the advertisement had a first ref line with a NUL; the part before the NUL is peeked at
 pub record SaysRefs (new : Reading) (found : SetServiceResponse) : Type 0 where
   pub text : List ℕ
   pub place : ℕ
@@ -130,11 +131,11 @@ pub record SaysRefs (new : Reading) (found : SetServiceResponse) : Type 0 where
   pub peeked : new.peeked ≡ true
   pub stopped : new.stopped ≡ None
 
--- what was said is one of these, whether the bytes are known or not
+-- the advertisement is one of these three, whether the bytes are known or not
 abbrev pub Says : Reading → SetServiceResponse → Type 0
 Says new found = SaysLines new found ⊎ SaysNothing new found ⊎ SaysRefs new found
 
--- what was said was read
+-- the advertisement was read
 pub record ReadsAdvertisement (said : Pieces → Result Advertised ClientRefusal) (old new : Reading)
     (found : SetServiceResponse) : Type 0 where
   pub value : IfSome old.to_come (λ p. (a : Advertised) × (said p ≡ Ok a) × Answers a new found)
@@ -150,7 +151,7 @@ IsFromDevice old new (Io kind) = Rose old.failures new.failures
 IsFromDevice old new Memory = new.failures ≡ old.failures
 IsFromDevice old new _ = ⊥
 
--- an error that what was said brings: the stream's end or another refusal of it, another version, or a first ref line without a NUL
+-- an error of the advertisement: the end or another error of the stream, an unknown version, or a first ref line without a NUL
 abbrev pub IsOfSaid : Error → Type 0
 IsOfSaid (Io kind) = kind ≡ UnexpectedEof
 IsOfSaid (Read e) = IsLasting (refusal_of e)
@@ -158,44 +159,45 @@ IsOfSaid (UnsupportedProtocolVersion text) = ⊤
 IsOfSaid MissingDelimitingNullByte = ⊤
 IsOfSaid _ = ⊥
 
--- such an error counts no failure, and any other one is of a failed read or write, or of an allocation
+-- an error of the advertisement counts no failure; any other error is a failed read or write, or an allocation failure
 abbrev pub IsCaused : Reading → Reading → Error → Type 0
 IsCaused old new e = (IsOfSaid e × (new.failures ≡ old.failures)) ⊎ IsFromDevice old new e
 
--- pieces after these lines
+-- these packet lines after these lines
 abbrev pub behind_lines : List (List ℕ) → Pieces → Pieces
 behind_lines [] p = p
 behind_lines (text ∷ texts) p = with_piece (line text) (behind_lines texts p)
 
--- these lines were taken of these pieces, and nothing else
+-- exactly these lines were taken
 abbrev pub LinesTaken : List (List ℕ) → Option Pieces → Option Pieces → Type 0
 LinesTaken texts old new = IfSome old (λ p. (q : Pieces) × (new ≡ Some q) × (p ≡ behind_lines texts q))
 
--- which lines a call took that is refused, by the version that its reader then knows: of a first ref line, none
+-- a failed call for the first ref line took no line, and the reader has this version
 abbrev pub TakesNone : Protocol → Protocol → List (List ℕ) → Type 0
 TakesNone version v texts = (v ≡ version) × (texts ≡ [])
 
--- of capability lines, any number
+-- a failed call for capability lines took any number of them, and the reader has version 2
 abbrev pub TakesAny : Protocol → List (List ℕ) → Type 0
 TakesAny v texts = v ≡ V2
 
--- of what a server says first, none, the line that names version 1, or the one that names version 2 and capability lines
+-- the lines that a failed handshake took: under version 0 none, under version 1 the line that names it, under version 2 the line that
+-- names it and capability lines
 abbrev pub TakesFirst : Protocol → List (List ℕ) → Type 0
 TakesFirst V0 texts = texts ≡ []
 TakesFirst V1 texts = (first : List ℕ) × (version_named first ≡ one) × (texts ≡ first ∷ [])
 TakesFirst V2 texts = (first : List ℕ) × (more : List (List ℕ)) × (version_named first ≡ two) × (texts ≡ first ∷ more)
 
--- this refusal stands next, and nothing after it
+-- every later read returns this error
 abbrev pub StandsRefused : Reading → Reading → Refusal → Type 0
 StandsRefused old new e = (new.refused ≡ Some e) × IfSome old.to_come (λ p. new.to_come ≡ Some (no_pieces e))
 
--- after a failed read no line is peeked at, and one as at the end of the stream stands
+-- after a failed read no line is peeked at; after `UnexpectedEof` every later read returns it
 abbrev pub StandsIo : Bool → List (List ℕ) → Reading → Reading → ErrorKind → Type 0
 StandsIo true texts old new kind = StandsRefused old new (io kind)
 StandsIo false texts old new kind = (new.peeked ≡ false) × LinesTaken texts old.to_come new.to_come
 
--- what comes after an error: a refusal of the stream, or what is left behind the lines that were taken. The line that names another
--- version, and a first ref line without a NUL, are still to come
+-- what comes after an error: the same error, or the packet lines after the lines taken. A line that names an unknown
+-- version, and a first ref line without a NUL, are still to come.
 abbrev pub Stands : List (List ℕ) → Reading → Reading → Error → Type 0
 Stands texts old new (Io kind) = StandsIo (is_end kind) texts old new kind
 Stands texts old new (Read e) = StandsRefused old new (refusal_of e)
@@ -206,7 +208,7 @@ Stands texts old new MissingDelimitingNullByte = (new.peeked ≡ true) × (capab
 Stands texts old new Memory = LinesTaken texts old.to_come new.to_come
 Stands texts old new _ = ⊥
 
--- the first refusal of what was said, or that of a failed read or write, or of an allocation
+-- the call failed with the first error of the advertisement, a failed read or write, or an allocation failure
 pub record FailsAdvertisement (said : Pieces → Result Advertised ClientRefusal) (takes : Protocol → List (List ℕ) → Type 0)
     (old new : Reading) (e : Error) : Type 0 where
   pub why : (IfSome old.to_come (λ p. said p ≡ Err (client_refusal e)) × (new.failures ≡ old.failures)) ⊎ IsFromDevice old new e
@@ -218,7 +220,7 @@ pub record FailsAdvertisement (said : Pieces → Result Advertised ClientRefusal
   pub left : new.left ≤ old.left
   pub held : new.held ≡ old.held
 
--- a call that reads what a server says first
+-- a call that reads an advertisement
 abbrev pub Advertises : (Pieces → Result Advertised ClientRefusal) → (Protocol → List (List ℕ) → Type 0) → Reading → Reading
     → Result SetServiceResponse Error → Type 0
 Advertises said takes old new (Ok found) = ReadsAdvertisement said old new found

@@ -1,4 +1,4 @@
--- What a transport over a reader and a writer means: the answers stand one after another.
+-- The state of a transport over a reader and a writer: all responses follow one another.
 use Rattle.std.specs.Prelude.{◌≡◌, ℕ, ◌-◌, ◌*◌, ◌^◌, true, false, List, [], Option, None}
 use Rattle.std.specs.Option.{option_map}
 use Rattle.bstr.specs.Owned.{bstring_bytes}
@@ -11,11 +11,11 @@ use Rattle.gixp_packetline.specs.TransportState.{TransportState, Greeting}
 use Rattle.gixp_packetline.specs.Reading.{Reading}
 use Rattle.gixp_packetline.specs.Packets.{packets_reading}
 
--- what is said first
+-- the first message of the handshake, for this version
 abbrev pub greeting_of : Protocol → Opening → Greeting
 greeting_of version o = record { path = bstring_bytes o.path; host = option_map bstring_bytes o.host; version = version }
 
--- before the first call: nothing was read, and what the writer holds is as it was
+-- before the first call nothing was read, and the writer is unchanged
 pub record IsNewConnection (known : Option (List ℕ)) (holds : Option (List ℕ)) (at : List ℕ) (asked : Protocol)
     (versions : List Protocol) (opening : Option Opening) (r : Reading) : Type 0 where
   pub to_come : r.to_come ≡ option_map stream_pieces known
@@ -56,7 +56,6 @@ module _ {R W : Type 0} where
   abbrev pub connection_reading : (R → Option (List ℕ)) → (W → Option (List ℕ)) → Connection R W → Reading
   connection_reading remaining contents c = record (packets_reading remaining c.packets) { held = connection_held contents c }
 
-  -- the reader and the writer that it was made of
   abbrev pub connection_reader : Connection R W → R
   connection_reader c = c.packets.reader
 

@@ -11,11 +11,11 @@ use Rattle.gixp_wire.specs.declared.message.Message.{Message}
 use Rattle.gixp_wire.specs.declared.message.Message.TheVariants.{Line, Flush, Delimiter}
 use Rattle.gixp_packetline.specs.Frames.{Frame, payload, special}
 
--- the frame of a text line, which ends in LF
+-- the packet line of a text line, with its LF
 abbrev pub line_frame : List ℕ → Frame
 line_frame line = payload (line ++ 10 ∷ [])
 
--- whether a text line fits into a frame
+-- whether a text line fits into a packet line with its LF
 abbrev pub fits : List ℕ → Bool
 fits line = nat_le (length line) 65515
 
@@ -25,13 +25,13 @@ pub data MessageValue : Type 0 where
   flush : MessageValue
   delimiter : MessageValue
 
--- the frame that it is written as
+-- the packet line of a message
 abbrev pub value_frame : MessageValue → Frame
 value_frame (text line) = line_frame line
 value_frame flush = special FlushKind
 value_frame delimiter = special DelimiterKind
 
--- whether it can be written
+-- whether a message fits into a packet line
 abbrev pub value_fits : MessageValue → Bool
 value_fits (text line) = fits line
 value_fits flush = true
@@ -48,32 +48,31 @@ message_frame message = value_frame (message_value message)
 abbrev pub message_fits : Message → Bool
 message_fits message = value_fits (message_value message)
 
--- the frames of a request
+-- the packet lines of a request
 abbrev pub request_frames : List Message → List Frame
 request_frames messages = map message_frame messages
 
--- whether each of its lines can be written
+-- whether each message of a request fits into a packet line
 abbrev pub all_fit : List Message → Bool
 all_fit messages = list_all message_fits messages
 
--- whether each of some lines can be written
+-- whether each of these lines fits into a packet line
 abbrev pub lines_fit : List BString → Bool
 lines_fit lines = list_all (λ line. fits (bstring_bytes line)) lines
 
--- a feature as a line: its name, and its value after an equals sign
+-- a feature as a line: its name, with `=` and its value if it has one
 abbrev pub feature_line : List ℕ → Option (List ℕ) → List ℕ
 feature_line name None = name
 feature_line name (Some value) = name ++ codes "=" ++ value
 
--- the features as lines
 abbrev pub feature_lines : List (Bor (List ℕ) × Option (String Global)) → List (List ℕ)
 feature_lines features = map (λ (f : Bor (List ℕ) × Option (String Global)). feature_line f.0.now (option_map string_bytes f.1)) features
 
--- the lines in front of the arguments of a command
+-- the lines before the arguments of a command
 abbrev pub command_lines : List ℕ → List (List ℕ) → List (List ℕ)
 command_lines command features = (codes "command=" ++ command) ∷ features
 
--- the arguments come after a delimiter, if there are any
+-- a delimiter packet and the arguments, if there are any
 abbrev pub argument_values : List (List ℕ) → List MessageValue
 argument_values [] = []
 argument_values (a ∷ more) = delimiter ∷ map text (a ∷ more)
@@ -82,10 +81,10 @@ argument_values (a ∷ more) = delimiter ∷ map text (a ∷ more)
 abbrev pub command_values : List ℕ → List (List ℕ) → List (List ℕ) → List MessageValue
 command_values command features arguments = map text (command_lines command features) ++ argument_values arguments ++ flush ∷ []
 
--- the frames of a command with its features and arguments
+-- the packet lines of a command with its features and arguments
 abbrev pub command_frames : List ℕ → List (List ℕ) → List (List ℕ) → List Frame
 command_frames command features arguments = map value_frame (command_values command features arguments)
 
--- whether each line of a command can be written
+-- whether each line of a command fits into a packet line
 abbrev pub command_fits : List ℕ → List (List ℕ) → List (List ℕ) → Bool
 command_fits command features arguments = list_all value_fits (command_values command features arguments)

@@ -1,4 +1,4 @@
--- Which version a line names, as the code finds it.
+-- The version that a line names, as the code represents it.
 use Rattle.std.specs.Prelude.{ℕ, List}
 use Rattle.gixp_wire.specs.declared.advertisement.Named.{Named as Found}
 use Rattle.gixp_wire.specs.declared.advertisement.Named.TheVariants.{One, Two, Another, Unnamed}

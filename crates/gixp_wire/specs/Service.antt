@@ -1,4 +1,4 @@
--- The names of services, and for which repository one is asked (gitprotocol-pack, "Git Transport").
+-- The names of services, and the repository that a handshake names (gitprotocol-pack, "Git Transport").
 use Rattle.std.specs.Prelude.{ℕ, List, Option, option_map, codes}
 use Rattle.bstr.specs.Owned.{bstring_bytes}
 use Rattle.gixp_wire.specs.declared.service.Service.{Service}

@@ -1,4 +1,4 @@
--- Errors that may pass when the same is tried again: those of a connection.
+-- Errors after which a retry may succeed.
 use Rattle.std.specs.Prelude.{Bool, true, false}
 use Rattle.std.specs.declared.io.ErrorKind.{ErrorKind}
 use Rattle.std.specs.declared.io.ErrorKind.TheVariants.{Interrupted, UnexpectedEof, TimedOut, BrokenPipe, AddrInUse, ConnectionAborted, ConnectionReset, ConnectionRefused}
@@ -7,7 +7,7 @@ use Rattle.gixp_packetline.specs.declared.read.Error.TheVariants as reader
 use Rattle.gixp_capabilities.specs.declared.client.Error.{Error as ClientError}
 use Rattle.gixp_capabilities.specs.declared.client.Error.TheVariants as client
 
--- the kinds with which a connection fails that may be there again
+-- the I/O errors of a connection that may work again later
 abbrev pub is_spurious_kind : ErrorKind → Bool
 is_spurious_kind Interrupted = true
 is_spurious_kind UnexpectedEof = true
@@ -19,12 +19,12 @@ is_spurious_kind ConnectionReset = true
 is_spurious_kind ConnectionRefused = true
 is_spurious_kind _ = false
 
--- a reader's error, by the kind that it holds
+-- a reader's error is one of these if its I/O error is
 abbrev pub is_spurious_read : ReadError → Bool
 is_spurious_read (reader.Io kind) = is_spurious_kind kind
 is_spurious_read _ = false
 
--- one of a call that speaks to a server, by the kind or the reader's error that it holds
+-- an error of a call to a server is one of these if its I/O error or reader's error is
 abbrev pub is_spurious_client : ClientError → Bool
 is_spurious_client (client.Io kind) = is_spurious_kind kind
 is_spurious_client (client.Read e) = is_spurious_read e

@@ -1,4 +1,4 @@
-//! The capability advertisement.
+//! The server's advertisement.
 ghost use Rattle.std.specs.Prelude.{◌≡◌, ◌⊎◌, None, [], true};
 ghost use Rattle.gixp_packetline.specs.declared.protocol.Protocol.TheVariants.{V0, V2};
 ghost use Rattle.gixp_capabilities.specs.declared.client.Error.TheVariants.{Memory};
@@ -17,7 +17,7 @@ use gixp_packetline::{ExtendedBufRead, Protocol};
 use std::alloc::Global;
 use std::io::Read;
 
-/// Which version a first line names.
+/// The version that the first line names.
 #[derive(Clone, Copy)]
 pub(crate) enum Named {
     One,
@@ -42,7 +42,7 @@ fn version_named(line: &[u8]) -> Named
     Named::Unnamed
 }
 
-// The refusal of a line that names another version.
+// The error for a line that names an unknown version.
 fn unsupported(alloc: Global, line: &[u8]) -> Error
     ensures { (client_refusal result ≡ unsupported_version (trimmed line.now)) ⊎ (result ≡ Memory) }
 {
@@ -52,7 +52,7 @@ fn unsupported(alloc: Global, line: &[u8]) -> Error
     }
 }
 
-// A stop in place of the first ref line.
+// The advertisement for a flush packet in place of the first ref line.
 fn empty_advertisement(alloc: Global, version: Protocol) -> SetServiceResponse
     ensures { result ≡ record { actual_protocol = version; capabilities = []; has_refs = true } }
 {
@@ -63,8 +63,8 @@ fn empty_advertisement(alloc: Global, version: Protocol) -> SetServiceResponse
     }
 }
 
-/// Reads what a server says first: the line that names a version, and the capabilities. Under
-/// versions 0 and 1 the first ref line is then still to come, cut before its NUL.
+/// Reads the advertisement: the line that names a version, and the capabilities. Under versions 0 and 1 the first ref
+/// line is then still to come, cut before its NUL.
 pub(crate) fn advertisement<R: Read>(
     packets: &mut Packets<R>,
     alloc: Global,
@@ -80,7 +80,7 @@ pub(crate) fn advertisement<R: Read>(
     }
 }
 
-// What comes after the line that was peeked at, or from it on.
+// Reads the advertisement from the first line on, which was peeked at.
 fn by_first_line<R: Read>(
     packets: &mut Packets<R>,
     alloc: Global,
@@ -106,7 +106,6 @@ fn by_first_line<R: Read>(
     }
 }
 
-// Takes the line that was peeked at.
 fn take_peeked<R: Read>(packets: &mut Packets<R>)
     requires { is_peeked packets.old.place ≡ true }
     ensures { TakesLine (packets_reading R.remaining packets.old) (packets_reading R.remaining packets.new) }
@@ -114,7 +113,7 @@ fn take_peeked<R: Read>(packets: &mut Packets<R>)
     let _ = packets.next_line();
 }
 
-// The first ref line of version 0 or 1.
+// Reads the first ref line of version 0 or 1.
 fn ref_line<R: Read>(
     packets: &mut Packets<R>,
     alloc: Global,
@@ -132,7 +131,7 @@ fn ref_line<R: Read>(
     }
 }
 
-// Cuts the line that was peeked at, a first ref line, before its NUL.
+// Cuts the first ref line, which was peeked at, before its NUL.
 fn cut_ref_line<R: Read>(
     packets: &mut Packets<R>,
     alloc: Global,
@@ -156,7 +155,7 @@ fn cut_ref_line<R: Read>(
     }
 }
 
-// The capability lines of version 2, up to the stop.
+// Reads the capability lines of version 2, up to a flush or delimiter packet.
 fn capability_lines<R: Read>(
     packets: &mut Packets<R>,
     alloc: Global,

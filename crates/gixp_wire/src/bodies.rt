@@ -17,30 +17,29 @@ use std::alloc::{AllocError, Global};
 use std::io::{Cursor, ErrorKind};
 use std::mem;
 
-/// The answer to one handshake or request.
+/// The response to one handshake or request.
 #[derive(Debug, Drop)]
 pub enum Body {
     /// The bytes that the server sends.
     Bytes(Vec<u8>),
-    /// The call that takes it fails with this kind, and it reads as empty.
+    /// An I/O error of this kind. The call that takes the response returns it, and the response reads as empty.
     Fail(ErrorKind),
 }
 
-/// A transport over memory, for tests and recorded answers: each handshake and each request has a
-/// body of its own, and what was left of the one before is dropped. It doesn't persist.
+/// A transport over memory, for tests and recorded responses. Each handshake and each request has its own response; the
+/// rest of the previous one is dropped. It doesn't persist.
 ///
-/// Before the first handshake it reads as empty, and so does a body that is missing. Its stops are
-/// version 2's until a `handshake` or `reset`. A body is freed at a stop after which it has
-/// no more.
+/// Before the first handshake it reads as empty, and so does a missing response. It begins under version 2, until a
+/// `handshake` or `reset`. A body is freed once it was read to its end, at a flush or delimiter packet.
 #[derive(Drop)]
 pub struct Bodies {
     alloc: Global,
     packets: Packets<Cursor<Vec<u8>>>,
-    // The bodies to come, the next one last.
+    // The responses to come, the next one last.
     later: Vec<Body>,
-    // The requests that are ended.
+    // The finished requests.
     sent: Vec<Vec<u8>>,
-    // The request that is being written.
+    // The unfinished request.
     request: Vec<u8>,
     url: BString,
     accepted: Vec<Protocol>,
@@ -50,12 +49,12 @@ pub struct Bodies {
 impl Bodies {
     ghost use Rattle.gixp_wire.specs.Bodies.{bodies_reading, IsNewBodies};
 
-    /// A transport that answers with these bodies, in their order, as if it spoke to this URL and
-    /// accepted these versions. It takes one buffer of 65,520 bytes.
+    /// A transport that returns these responses in their order, with this URL and these accepted versions. It allocates
+    /// one buffer of 65,520 bytes.
     ///
     /// # Errors
     ///
-    /// The buffer could not be allocated. What was handed in is dropped.
+    /// The buffer could not be allocated. The arguments are dropped.
     pub fn new(
         alloc: Global,
         mut bodies: Vec<Body>,
@@ -78,28 +77,28 @@ impl Bodies {
         })
     }
 
-    /// The requests that were sent, each as its bytes.
+    /// The finished requests as bytes.
     pub fn sent(&self) -> &[Vec<u8>]
         ensures { map vec_items result.now ≡ (bodies_reading self.now).held.sent }
     {
         &self.sent
     }
 
-    /// How many reads and answers failed, up to 2^64 - 1.
+    /// How many reads and responses failed, up to 2^64 - 1.
     pub fn failures(&self) -> u64
         ensures { result ≡ (bodies_reading self.now).failures }
     {
         self.packets.failures()
     }
 
-    /// The account that it was given last.
+    /// The account that was set last.
     pub fn identity(&self) -> Option<&Account>
         ensures { option_map (λ a. account_value a.now) result ≡ (bodies_reading self.now).held.identity }
     {
         self.identity.as_ref()
     }
 
-    // Answers from the next body from here on.
+    // Starts reading the next response.
     fn take_answer(&mut self) -> Result<(), Error>
         ensures { TakesBody (bodies_reading self.old) (bodies_reading self.new) result }
     {
@@ -174,7 +173,7 @@ impl Transport for Bodies {
         &self.accepted
     }
 
-    /// Keeps the account: it is never refused.
+    /// Stores the account. It never fails.
     fn set_identity(&mut self, account: Account) -> Result<(), Error>
         ensures identifies { Identifies (bodies_reading self.old) (bodies_reading self.new) account result }
         ensures kept { result ≡ Ok tt }

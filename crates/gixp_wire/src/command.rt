@@ -9,14 +9,12 @@ use crate::message::{Feature, MAX_LINE, Message, lines_fit};
 use bstr::BString;
 use std::alloc::{AllocError, Global};
 
-// Whether the line of a command's name can be sent.
 fn name_fits(command: &str) -> bool
     ensures { result ≡ fits (codes "command=" ++ command.now) }
 {
     command.len() <= MAX_LINE - 8
 }
 
-// Whether a feature's line can be sent.
 fn feature_fits(name: &str, value: &Option<String>) -> bool
     ensures { result ≡ fits (feature_line name.now (option_map string_bytes value.now)) }
 {
@@ -26,7 +24,6 @@ fn feature_fits(name: &str, value: &Option<String>) -> bool
     }
 }
 
-// Whether each feature's line can be sent.
 fn features_fit(features: &[Feature]) -> bool
     ensures { result ≡ list_all (λ f. fits (feature_line f.0.now (option_map string_bytes f.1))) features.now }
 {
@@ -35,7 +32,7 @@ fn features_fit(features: &[Feature]) -> bool
         .all(|feature| feature_fits(feature.0, &feature.1))
 }
 
-/// Whether each line of a command with its features and arguments can be sent.
+/// Whether each line of a command with its features and arguments fits into a packet line.
 #[tactic(auto, using(crate::proofs::CommandLemmas::command_fits_parts))]
 pub(crate) fn command_fits(command: &str, features: &[Feature], arguments: &[BString]) -> bool
     ensures { result ≡ command_fits command.now (feature_lines features.now) (map bstring_bytes arguments.now) }
@@ -43,7 +40,6 @@ pub(crate) fn command_fits(command: &str, features: &[Feature], arguments: &[BSt
     name_fits(command) && features_fit(features) && lines_fit(arguments)
 }
 
-// A feature as a line.
 fn feature_line(alloc: Global, name: &str, value: &Option<String>) -> Result<BString, AllocError>
     ensures { IfOk result (λ line. bstring_bytes line ≡ feature_line name.now (option_map string_bytes value.now)) }
 {
@@ -55,7 +51,7 @@ fn feature_line(alloc: Global, name: &str, value: &Option<String>) -> Result<BSt
     Ok(BString::from(line))
 }
 
-/// The lines in front of the arguments: the command's name and its features.
+/// The lines before the arguments: the command's name and its features.
 pub(crate) fn command_lines(
     alloc: Global,
     command: &str,
@@ -73,7 +69,7 @@ pub(crate) fn command_lines(
     Ok(lines)
 }
 
-// Appends the lines as messages.
+// Appends these lines as messages.
 fn push_lines<'a>(messages: &mut Vec<Message<'a>>, lines: &'a [BString]) -> Result<(), AllocError>
     ensures { OnOk result (map message_value messages.new.items ≡ map message_value messages.old.items
         ++ map text (map bstring_bytes lines.now)) }
@@ -84,7 +80,7 @@ fn push_lines<'a>(messages: &mut Vec<Message<'a>>, lines: &'a [BString]) -> Resu
     Ok(())
 }
 
-/// The messages of a command whose lines these are, with its arguments.
+/// The messages of a command with these lines and arguments.
 pub(crate) fn command_messages<'a>(
     alloc: Global,
     lines: &'a [BString],

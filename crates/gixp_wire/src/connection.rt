@@ -22,37 +22,36 @@ use std::alloc::{AllocError, Global};
 use std::io;
 use std::io::{ErrorKind, Read, Write};
 
-/// A transport over a reader and a writer, as a socket or the two ends of a program (gitprotocol-pack,
-/// "Transports"). It persists: requests go out one after another, and so come their answers.
+/// A transport over a reader and a writer, such as a socket or the two ends of a process (gitprotocol-pack,
+/// "Transports"). It persists: all requests use one connection, and so do their responses.
 ///
-/// A line is written in three pieces, and the writer is flushed at the end of each request: a
-/// buffered writer saves calls of the system. After a failed write nothing is said of what went
-/// out, and every later request returns the same fault.
+/// A line is written in three pieces, and the writer is flushed at the end of each request, so a buffered writer saves
+/// system calls. After a failed write it is unknown which bytes were sent, and every later request returns the same
+/// error.
 #[derive(Drop)]
 pub struct Connection<R, W> {
     packets: Packets<R>,
     writer: W,
     url: BString,
-    // The version that is asked for.
+    // The requested version.
     version: Protocol,
-    // The versions that are accepted.
     accepted: Vec<Protocol>,
-    // What is said first.
+    // The repository for the first message, if there is one.
     opening: Option<Opening>,
-    // The fault of a write.
+    // The error of a failed write.
     broken: Option<ErrorKind>,
 }
 
 impl<R: Read + Drop, W: Write + Drop> Connection<R, W> {
     ghost use Rattle.gixp_wire.specs.Connection.{connection_reading, IsNewConnection};
 
-    /// A transport over these two, at this URL. Its handshake begins with the opening, if there is
-    /// one, and asks for this version; these versions are accepted, or all where none is named. It
-    /// takes one buffer of 65,520 bytes, and reads and writes nothing yet.
+    /// A transport over this reader and writer, with this URL. Its handshake sends a first message with `opening`, if
+    /// there is one, and requests this version. It accepts these versions, or all if the list is empty. It allocates
+    /// one buffer of 65,520 bytes, and reads and writes nothing yet.
     ///
     /// # Errors
     ///
-    /// The buffer could not be allocated. What was handed in is dropped.
+    /// The buffer could not be allocated. The arguments are dropped.
     pub fn new(
         alloc: Global,
         reader: R,
@@ -82,8 +81,8 @@ impl<R: Read + Drop, W: Write + Drop> Connection<R, W> {
 impl<R: Read, W: Write> Connection<R, W> {
     ghost use Rattle.gixp_wire.specs.Connection.{connection_reading, connection_reader, connection_writer};
 
-    /// Takes it apart: the reader, the writer, and the bytes that were read of the reader and not taken,
-    /// which come before those that it gives next. A line that was peeked at counts as taken.
+    /// Returns the reader, the writer, and the bytes that were read from the reader but not taken. These bytes precede
+    /// those that the reader returns next. A line that was peeked at counts as taken.
     pub fn into_parts(self) -> (R, W, Vec<u8>)
         ensures reader { result.0 ≡ connection_reader self }
         ensures writer { result.1 ≡ connection_writer self }
@@ -103,14 +102,14 @@ impl<R: Read, W: Write> Connection<R, W> {
         (reader, writer, ahead)
     }
 
-    /// The writer, with all that was written.
+    /// The writer, with everything that was written.
     pub fn writer(&self) -> &W
         ensures { W.contents result.now ≡ (connection_reading R.remaining W.contents self.now).held.written }
     {
         &self.writer
     }
 
-    // Notes that a write failed with this kind.
+    // Records that a write failed with this kind.
     fn break_off(&mut self, kind: ErrorKind) -> Error
         ensures { IsBroken (connection_reading R.remaining W.contents self.old)
             (connection_reading R.remaining W.contents self.new) kind result }
@@ -120,8 +119,7 @@ impl<R: Read, W: Write> Connection<R, W> {
         Error::Io(kind)
     }
 
-    // Notes that a write or flush failed with this error: its kind is what every later request
-    // answers.
+    // Records that a write or flush failed with this error. Every later request returns its kind.
     fn write_failed(&mut self, e: io::Error) -> Error
         ensures { IsBroken (connection_reading R.remaining W.contents self.old) (connection_reading R.remaining W.contents self.new)
             (error_kind e) result }
@@ -129,7 +127,7 @@ impl<R: Read, W: Write> Connection<R, W> {
         self.break_off(e.kind())
     }
 
-    // Writes these bytes, unless a write failed before.
+    // Writes these bytes, unless an earlier write failed.
     fn write_bytes(&mut self, bytes: &[u8]) -> Result<(), Error>
         ensures { Writes (connection_reading R.remaining W.contents self.old)
             (connection_reading R.remaining W.contents self.new) bytes.now result }
@@ -143,7 +141,7 @@ impl<R: Read, W: Write> Connection<R, W> {
         }
     }
 
-    // Flushes the writer, and goes on after the stop.
+    // Flushes the writer. The reader goes on after its flush or delimiter packet.
     fn go_on(&mut self) -> Result<(), Error>
         ensures { EndsBy true (connection_reading R.remaining W.contents self.old)
             (connection_reading R.remaining W.contents self.new) result }
@@ -161,7 +159,7 @@ impl<R: Read, W: Write> Connection<R, W> {
         }
     }
 
-    // Writes a payload as a frame.
+    // Writes this payload as a packet line.
     fn write_payload(&mut self, payload: &[u8]) -> Result<(), Error>
         requires { length payload.now ≤ 65516 }
         ensures { Writes (connection_reading R.remaining W.contents self.old) (connection_reading R.remaining W.contents self.new)
@@ -171,7 +169,7 @@ impl<R: Read, W: Write> Connection<R, W> {
         self.write_bytes(payload)
     }
 
-    // Says what is said first, if anything is.
+    // Sends the first message, if there is one.
     fn greet(
         &mut self,
         alloc: Global,
@@ -242,7 +240,7 @@ impl<R: Read, W: Write> Transport for Connection<R, W> {
         &self.accepted
     }
 
-    /// Takes no account.
+    /// This transport doesn't support authentication.
     ///
     /// # Errors
     ///

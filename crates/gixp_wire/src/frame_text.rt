@@ -1,4 +1,4 @@
-//! The texts of frames.
+//! Packet lines as text.
 ghost use Rattle.std.specs.Prelude.{◌≡◌, ◌≤◌, ◌+◌, ◌++◌, OnOk, OnErr, length};
 ghost use Rattle.std.specs.Io.{StartsWith};
 ghost use Rattle.gixp_packetline.specs.FrameText.{digits_of, message_text, frame_text};
@@ -8,7 +8,7 @@ use crate::message::MAX_LINE;
 use gixp_packetline::{MessageKind, digits};
 use std::alloc::AllocError;
 
-/// The four digits in front of a line of this many bytes and the LF after it.
+/// The four digits before a line of this many bytes and its LF.
 pub(crate) fn line_digits(len: usize) -> [u8; 4]
     requires { len ≤ MAX_LINE }
     ensures { result ≡ digits_of (len + 5) }
@@ -16,7 +16,7 @@ pub(crate) fn line_digits(len: usize) -> [u8; 4]
     digits::encode_number(len + 5)
 }
 
-/// The four digits in front of a payload of this many bytes.
+/// The four digits before a payload of this many bytes.
 pub(crate) fn payload_digits(len: usize) -> [u8; 4]
     requires { len ≤ 65516 }
     ensures { result ≡ digits_of (4 + len) }
@@ -24,7 +24,7 @@ pub(crate) fn payload_digits(len: usize) -> [u8; 4]
     digits::encode_number(4 + len)
 }
 
-/// The text of a message without a text of its own.
+/// The digits of a flush, delimiter or response-end packet. `Text` has none.
 pub(crate) fn of_message(kind: MessageKind) -> &'static [u8]
     ensures { result.now ≡ message_text kind }
 {
@@ -36,7 +36,7 @@ pub(crate) fn of_message(kind: MessageKind) -> &'static [u8]
     }
 }
 
-// The digits, the line and an LF after the rest.
+// Appends the digits, the line and an LF.
 fn push_line(out: &mut Vec<u8>, line: &[u8]) -> Result<(), AllocError>
     requires { length line.now ≤ MAX_LINE }
     ensures front { StartsWith out.new.items out.old.items }
@@ -47,7 +47,7 @@ fn push_line(out: &mut Vec<u8>, line: &[u8]) -> Result<(), AllocError>
     out.extend_from_slice(b"\n")
 }
 
-/// Appends the frame of a line. Where its allocation fails nothing is changed.
+/// Appends the packet line of a line. If its allocation fails, nothing changes.
 pub(crate) fn append_line(out: &mut Vec<u8>, line: &[u8]) -> Result<(), AllocError>
     requires { length line.now ≤ MAX_LINE }
     ensures ok { OnOk result (out.new.items ≡ out.old.items ++ frame_text (line_frame line.now)) }

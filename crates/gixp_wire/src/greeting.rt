@@ -1,4 +1,4 @@
-//! What a client says first over a connection.
+//! The first message of a client on a connection, git-proto-request (gitprotocol-pack, "Git Transport").
 ghost use Rattle.std.specs.Prelude.{◌≡◌, [], ◌++◌, IfOk, OnOk, Some, length, min, flat_map, string_bytes};
 ghost use Rattle.std.specs.Option.{option_map};
 ghost use Rattle.bstr.specs.Owned.{bstring_bytes};
@@ -10,10 +10,10 @@ use bstr::BString;
 use gixp_packetline::Protocol;
 use std::alloc::{AllocError, Global};
 
-// The number of bytes of the longest payload of a frame (gitprotocol-common, "pkt-line Format").
+// The number of bytes of the longest payload of a packet line (gitprotocol-common, "pkt-line Format").
 const MAX_PAYLOAD: usize = 65516;
 
-// How many bytes the host takes, up to the greatest number.
+// The number of bytes of the host, at most `usize::MAX`.
 fn host_len(host: &Option<BString>) -> usize
     ensures { result ≡ min (length (host_text (option_map bstring_bytes host.now))) usize.MAX }
 {
@@ -23,7 +23,7 @@ fn host_len(host: &Option<BString>) -> usize
     }
 }
 
-// How many bytes a parameter takes, up to the greatest number.
+// The number of bytes of a parameter, at most `usize::MAX`.
 fn parameter_len(key: &String, value: &Option<String>) -> usize
     ensures { result ≡ min (length (parameter_text (string_bytes key.now, option_map string_bytes value.now))) usize.MAX }
 {
@@ -33,7 +33,7 @@ fn parameter_len(key: &String, value: &Option<String>) -> usize
     }
 }
 
-// How many bytes the parameters that a caller adds take, up to the greatest number.
+// The number of bytes of the caller's extra parameters, at most `usize::MAX`.
 fn parameters_len(parameters: &[(String, Option<String>)]) -> usize
     ensures { result ≡ min (length (flat_map parameter_text (parameters_of parameters.now))) usize.MAX }
 {
@@ -44,8 +44,7 @@ fn parameters_len(parameters: &[(String, Option<String>)]) -> usize
     len
 }
 
-// How many bytes the version that is asked for and the caller's parameters take, up to the greatest
-// number.
+// The number of bytes of the requested version and the caller's extra parameters, at most `usize::MAX`.
 fn extra_len(version: Protocol, parameters: &[(String, Option<String>)]) -> usize
     ensures { result ≡ min (length (parameters_text (version_parameters version ++ parameters_of parameters.now))) usize.MAX }
 {
@@ -61,7 +60,7 @@ fn extra_len(version: Protocol, parameters: &[(String, Option<String>)]) -> usiz
     }
 }
 
-/// Whether what is said first fits into a frame.
+/// Whether the first message fits into a packet line.
 pub(crate) fn greeting_fits(
     opening: &Opening,
     service: Service,
@@ -80,7 +79,6 @@ pub(crate) fn greeting_fits(
     len <= MAX_PAYLOAD
 }
 
-// Appends the host, if there is one.
 fn push_host(out: &mut Vec<u8>, host: &Option<BString>) -> Result<(), AllocError>
     ensures { OnOk result (out.new.items ≡ out.old.items ++ host_text (option_map bstring_bytes host.now)) }
 {
@@ -92,7 +90,6 @@ fn push_host(out: &mut Vec<u8>, host: &Option<BString>) -> Result<(), AllocError
     Ok(())
 }
 
-// Appends a parameter.
 fn push_parameter(out: &mut Vec<u8>, key: &String, value: &Option<String>) -> Result<(), AllocError>
     ensures { OnOk result (out.new.items ≡ out.old.items ++ parameter_text (string_bytes key.now, option_map string_bytes value.now)) }
 {
@@ -104,7 +101,6 @@ fn push_parameter(out: &mut Vec<u8>, key: &String, value: &Option<String>) -> Re
     out.extend_from_slice(b"\0")
 }
 
-// Appends the parameters that a caller adds.
 fn push_parameters(
     out: &mut Vec<u8>,
     parameters: &[(String, Option<String>)],
@@ -117,8 +113,7 @@ fn push_parameters(
     Ok(())
 }
 
-// Appends the version that is asked for and the caller's parameters, after one more NUL if there
-// is any.
+// Appends the requested version and the caller's extra parameters, after one more NUL if there are any.
 fn push_extra(
     out: &mut Vec<u8>,
     version: Protocol,
@@ -139,8 +134,7 @@ fn push_extra(
     push_parameters(out, parameters)
 }
 
-/// What is said first for this opening: the service, the path, the host, and the parameters, of
-/// which the version is the first.
+/// The first message for this repository: the service, the path, the host, and the extra parameters with the version first.
 pub(crate) fn greeting(
     alloc: Global,
     opening: &Opening,

@@ -1,5 +1,5 @@
-//! The transports of git's fetch protocol: over a reader and a writer, and over memory; what a server
-//! says first over them, and the messages of which a request is made.
+//! The transports of git's fetch protocol, over a reader and a writer, and over memory; the server's advertisement; the
+//! messages of a request.
 #![tactic(auto)]
 
 mod advertisement;

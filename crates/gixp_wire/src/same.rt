@@ -5,21 +5,18 @@ ghost use Rattle.gixp_wire.specs.Service.{opening_value};
 
 use crate::service::{Account, Opening, Service};
 
-// Two services are equal exactly where they are one.
 fn is_same_service(a: &Service, b: &Service) -> bool
     ensures { IsTrue result ↔ (a.now ≡ b.now) }
 {
     a == b
 }
 
-// Two accounts are equal exactly where their names and passwords are.
 fn is_same_account(left: &Account, right: &Account) -> bool
     ensures { IsTrue result ↔ (account_value left.now ≡ account_value right.now) }
 {
     left == right
 }
 
-// Two openings are equal exactly where their paths and hosts are.
 fn is_same_opening(one: &Opening, other: &Opening) -> bool
     ensures { IsTrue result ↔ (opening_value one.now ≡ opening_value other.now) }
 {

@@ -1,4 +1,4 @@
-//! What a handshake names, and what it returns.
+//! The arguments and the result of a handshake.
 ghost use Rattle.std.specs.Prelude.{◌≡◌};
 ghost use Rattle.gixp_wire.specs.Service.{service_name};
 
@@ -6,17 +6,17 @@ use bstr::BString;
 use gixp_capabilities::Capabilities;
 use gixp_packetline::Protocol;
 
-/// What is asked of the server's side (gitprotocol-pack, "Git Transport").
+/// The service that a client requests from the server (gitprotocol-pack, "Git Transport").
 #[derive(Clone, Copy, Debug, PartialEq, Eq)]
 pub enum Service {
-    /// To send objects to the client.
+    /// The server sends objects to the client.
     UploadPack,
-    /// To receive objects from the client.
+    /// The server receives objects from the client.
     ReceivePack,
 }
 
 impl Service {
-    /// The name by which the server is asked for it.
+    /// The name of the service in a request, such as `git-upload-pack`.
     pub fn as_str(&self) -> &'static str
         ensures { result.now ≡ service_name self.now }
     {
@@ -27,31 +27,31 @@ impl Service {
     }
 }
 
-/// Who a user is to a server (gitcredentials).
+/// The credentials of a user at a server (gitcredentials).
 #[derive(Clone, Debug, PartialEq, Eq, Drop)]
 pub struct Account {
     /// The user's name.
     pub username: String,
-    /// The password, or what the server takes for one.
+    /// The password, or a token that the server takes for one.
     pub password: String,
 }
 
-/// For which repository a handshake asks first (gitprotocol-pack, "Git Transport").
+/// The repository that the first message of a handshake names (gitprotocol-pack, "Git Transport").
 #[derive(Clone, Debug, PartialEq, Eq, Drop)]
 pub struct Opening {
     /// The path of the repository.
     pub path: BString,
-    /// The host, with its port where that isn't the usual one.
+    /// The host, with its port where it isn't the default one.
     pub host: Option<BString>,
 }
 
-/// What a server answered to a handshake.
+/// The server's response to a handshake.
 #[derive(Debug, Drop)]
 pub struct SetServiceResponse {
-    /// The version that it speaks.
+    /// The version that the server speaks.
     pub actual_protocol: Protocol,
-    /// What it says that it can do.
+    /// The capabilities that the server advertises.
     pub capabilities: Capabilities,
-    /// Whether its refs are the lines that its reader gives next, as under versions 0 and 1.
+    /// Whether the lines that the transport returns next are the refs, as under versions 0 and 1.
     pub has_refs: bool,
 }

@@ -1,4 +1,4 @@
-//! Errors that may pass when the same is tried again.
+//! Errors after which a retry may succeed.
 ghost use Rattle.std.specs.Prelude.{◌≡◌, Bool};
 ghost use Rattle.gixp_wire.specs.Spurious.{is_spurious_kind, is_spurious_read, is_spurious_client};
 
@@ -6,12 +6,12 @@ use gixp_capabilities::client;
 use gixp_packetline::read;
 use std::io::ErrorKind;
 
-/// An error that may come from a connection that will be there again.
+/// An error that may come from a connection that works again later.
 pub trait IsSpuriousError {
     /// Whether it may.
     ghost spurious: { Self → Bool };
 
-    /// Whether to try again makes sense: for a read or write that failed as one over a network does.
+    /// Whether a retry may succeed: a read or write failed as it does when a network connection is lost.
     fn is_spurious(&self) -> bool
         ensures { result ≡ spurious self.now };
 }

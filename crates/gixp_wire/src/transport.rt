@@ -1,4 +1,4 @@
-//! Transports: what speaks to a server.
+//! Transports.
 ghost use Rattle.std.specs.Prelude.{◌≡◌, ◌≤◌, true, None, Err, length, map};
 ghost use Rattle.bstr.specs.BStr.{bstr_bytes};
 ghost use Rattle.bstr.specs.Owned.{bstring_bytes};
@@ -17,50 +17,51 @@ use gixp_capabilities::client::Error;
 use gixp_packetline::{ExtendedBufRead, MessageKind, Protocol};
 use std::alloc::Global;
 
-/// What speaks to a server: it sends requests, and its lines are the answers (gitprotocol-pack,
-/// "Packfile Transfer"; gitprotocol-v2, "Command Request").
+/// A transport sends requests to a server, and reads the responses as lines (gitprotocol-pack, "Packfile Transfer";
+/// gitprotocol-v2, "Command Request").
 ///
-/// A request is begun, written and ended; its answer is then read from the transport itself. Over
-/// a connection that persists, the answers stand one after another, and after a failed write
-/// nothing is said of what went out: every later request returns the same `Io`. Else each request
-/// has an answer of its own.
+/// A request is begun, written and ended; its response is then read from the transport. On a transport that persists,
+/// all responses follow one another on one connection; after a failed write it is unknown which bytes were sent, and
+/// every later request returns the same `Io`. On one that doesn't persist each request has its own response.
 pub trait Transport: ExtendedBufRead {
-    /// Whether all requests go over one connection, so that the server remembers the earlier ones.
+    /// Whether all requests use one connection, so that the server remembers earlier ones.
     fn connection_persists_across_multiple_requests(&self) -> bool
         ensures { result ≡ (Self.reading self.now).held.persists };
 
-    /// Where the server is, as this transport has it.
+    /// The URL of the server, as the caller passed it to the transport.
     fn to_url(&self) -> BStr<'_>
         ensures { bstr_bytes result ≡ (Self.reading self.now).held.url };
 
-    /// The versions of the protocol that are accepted. None named are all.
+    /// The accepted versions of the protocol. An empty list accepts all.
     fn supported_protocol_versions(&self) -> &[Protocol]
         ensures { result.now ≡ (Self.reading self.now).held.accepted };
 
-    /// Hands over the account for which the next handshake asks.
+    /// Sets the account that the next handshake uses.
     ///
     /// # Errors
     ///
-    /// `AuthenticationUnsupported`, always, where a transport takes no account.
+    /// `AuthenticationUnsupported`, always, where the transport doesn't support authentication.
     fn set_identity(&mut self, account: Account) -> Result<(), Error>
         ensures identifies { Identifies (Self.reading self.old) (Self.reading self.new) account result };
 
-    /// Asks for a service with these extra parameters, and reads what the server says first: its
-    /// version and its capabilities (gitprotocol-pack, "Git Transport" and "Extra Parameters").
-    /// Under versions 0 and 1 its refs are the lines that come next, up to the stop; the first of
-    /// them is cut before its NUL. A stop in their place means no refs and no capabilities.
+    /// Requests a service with these extra parameters, and reads the server's advertisement: its version and its
+    /// capabilities (gitprotocol-pack, "Git Transport" and "Extra Parameters"). Under versions 0 and 1 the refs are the
+    /// lines that come next, up to the flush packet; the first of them is cut before its NUL. A flush packet in their
+    /// place means that there are no refs and no capabilities.
     ///
     /// # Errors
     ///
-    /// `LineTooLong` where what is to be written first doesn't fit into a frame, before anything is
-    /// written or allocated. `Io` where a write or read failed, an earlier write failed, the stream ended
-    /// (`UnexpectedEof`), or the answer is one that fails. `Read` where the reader is refused
-    /// otherwise. `UnsupportedProtocolVersion` for a version other than 1 and 2.
-    /// `MissingDelimitingNullByte` where the first ref line has no NUL. `Memory`. After
-    /// `UnsupportedProtocolVersion` and `MissingDelimitingNullByte` the line that it is about is still
-    /// to come. A refusal of the reader stands, and the stream's end: every later read returns it.
-    /// After `Memory`, and `Io` of a read that failed, only lines that were taken are gone: none, the
-    /// line that names version 1, or the line that names version 2 and capability lines after it.
+    /// - `LineTooLong`: the first message doesn't fit into a packet line. Nothing was written or allocated.
+    /// - `Io`: a read or write failed, an earlier write failed, the stream ended (`UnexpectedEof`), or the response is a failing one.
+    /// - `Read`: another error of the reader.
+    /// - `UnsupportedProtocolVersion`: the server named a version other than 1 and 2.
+    /// - `MissingDelimitingNullByte`: the first ref line has no NUL.
+    /// - `Memory`: an allocation failed.
+    ///
+    /// After `UnsupportedProtocolVersion` and `MissingDelimitingNullByte` the line in question is still to come. The
+    /// end of the stream and each other error of the stream are sticky: every later read returns the same error. After
+    /// `Memory`, and after `Io` of a failed read, only lines that were taken are lost: none, the line that names
+    /// version 1, or the line that names version 2 and capability lines after it.
     fn handshake(
         &mut self,
         alloc: Global,
@@ -70,8 +71,7 @@ pub trait Transport: ExtendedBufRead {
         ensures handshakes { Handshakes service (parameters_of extra_parameters.now) (Self.reading self.old)
             (Self.reading self.new) result };
 
-    /// Begins a request. What was written of one that isn't ended is dropped, unless it went out
-    /// already.
+    /// Begins a request. What was written of an unfinished one is dropped, unless it was sent already.
     ///
     /// # Errors
     ///
@@ -79,16 +79,16 @@ pub trait Transport: ExtendedBufRead {
     fn begin_request(&mut self) -> Result<(), Error>
         ensures begins { Begins (Self.reading self.old) (Self.reading self.new) result };
 
-    /// Writes a line of text, of at most 65,515 bytes, and an LF after it, as one frame.
+    /// Writes a line of text of at most 65,515 bytes, with an LF after it, as one packet line.
     ///
     /// # Errors
     ///
-    /// `Io` where this write or an earlier one failed. `Memory`, after which nothing is changed.
+    /// `Io` where this write or an earlier one failed. `Memory`, which changes nothing.
     fn write_text(&mut self, line: &[u8]) -> Result<(), Error>
         requires { length line.now ≤ MAX_LINE }
         ensures writes { Writes (Self.reading self.old) (Self.reading self.new) (frame_text (line_frame line.now)) result };
 
-    /// Writes a message without a text. For `Text` nothing is written.
+    /// Writes a flush, delimiter or response-end packet. Writes nothing for `Text`.
     ///
     /// # Errors
     ///
@@ -96,17 +96,16 @@ pub trait Transport: ExtendedBufRead {
     fn write_message(&mut self, kind: MessageKind) -> Result<(), Error>
         ensures writes { Writes (Self.reading self.old) (Self.reading self.new) (message_text kind) result };
 
-    /// Ends a request: what was written goes out, and the reader goes on after its stop, to the
-    /// answer.
+    /// Ends a request: sends what was written, and moves the reader after its flush or delimiter packet, to the response.
     ///
     /// # Errors
     ///
-    /// `Io` where a write failed, or where the answer is one that fails: the request is then sent,
-    /// and its answer reads as empty. `Memory`, after which nothing is changed.
+    /// `Io` where a write failed. `Io` also where the response is a failing one; the request is then sent, and its
+    /// response reads as empty. `Memory`, which changes nothing.
     fn end_request(&mut self) -> Result<(), Error>
         ensures ends { Ends (Self.reading self.old) (Self.reading self.new) result };
 
-    /// Writes one message, whose line fits into a frame.
+    /// Writes one message. Its line must fit into a packet line.
     ///
     /// # Errors
     ///
@@ -124,11 +123,11 @@ pub trait Transport: ExtendedBufRead {
         }
     }
 
-    /// Writes the messages of a request that is begun, one after another. Their lines fit.
+    /// Writes the messages of a request that was begun. Their lines must fit into packet lines.
     ///
     /// # Errors
     ///
-    /// As `write_text`; some of the messages may be written.
+    /// As `write_text`. Some of the messages may be written.
     final fn write_all(&mut self, messages: &[Message<'_>]) -> Result<(), Error>
     where
         Self: Sized,
@@ -146,8 +145,8 @@ pub trait Transport: ExtendedBufRead {
     ///
     /// # Errors
     ///
-    /// `LineTooLong` where a line doesn't fit into a packet line, before anything is written. Else as
-    /// `write_text` and `end_request`; after `Memory` the request counts for nothing.
+    /// `LineTooLong` where a line doesn't fit into a packet line; nothing was written. Otherwise as `write_text` and
+    /// `end_request`. After `Memory` the request was not sent.
     final fn request(&mut self, messages: &[Message<'_>]) -> Result<(), Error>
     where
         Self: Sized,
@@ -163,8 +162,8 @@ pub trait Transport: ExtendedBufRead {
         self.end_request()
     }
 
-    /// Sends a command of version 2: its name, the features as `name` or `name=value`, then after
-    /// a delimiter the arguments, if there are any (gitprotocol-v2, "Command Request").
+    /// Sends a command of version 2: its name, the features as `name` or `name=value`, and the arguments after a
+    /// delimiter packet, if there are any (gitprotocol-v2, "Command Request").
     ///
     /// # Errors
     ///

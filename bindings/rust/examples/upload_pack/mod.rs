@@ -2,7 +2,7 @@
 use std::io::{self, Write};
 use std::process::{Command, Stdio};
 
-/// What `git upload-pack` answers to a request, or says first where there is none.
+/// The response of `git upload-pack` to a request, or its advertisement without a request.
 pub fn upload_pack(path: &str, request: Option<&[u8]>) -> io::Result<Vec<u8>> {
     let mut git = Command::new("git");
     git.env("GIT_PROTOCOL", "version=2").args(["upload-pack", "--stateless-rpc"]);

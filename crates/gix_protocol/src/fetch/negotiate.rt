@@ -1,4 +1,4 @@
-//! Which commits both sides have, round by round.
+//! The negotiation: which commits client and server have in common.
 pub use gixp_fetch::again::NamesCommons;
 pub use gixp_fetch::mapped::NegotiatesMap;
 pub use gixp_graph::{

@@ -1,4 +1,4 @@
-//! What a client knows of a server: its capabilities, and the errors of a transport.
+//! The capabilities of a server, and the errors of a transport.
 pub use gixp_capabilities::client::Error;
 pub use gixp_capabilities::{Capabilities, Capability, CapabilityIter};
 pub use gixp_packetline::{ExtendedBufRead, MessageKind};

@@ -1,4 +1,4 @@
-//! Consumers that are at hand.
+//! Consumers of a pack.
 ghost use Rattle.std.specs.Prelude.{◌≡◌, None, IfSome};
 ghost use Rattle.gixp_packetline.specs.Reading.{refusal_of};
 ghost use Rattle.gixp_sidebands.specs.Sidebands.{side};
@@ -13,13 +13,13 @@ use gixp_sidebands::Interrupt;
 use std::io::{self, BufRead, ErrorKind, Write};
 use thiserror::Error as DeriveError;
 
-/// Why a pack wasn't copied.
+/// Why a pack can't be copied.
 #[derive(Debug, Drop, DeriveError)]
 pub enum CopyError {
-    /// Reading from the sideband failed. `server_message` has the server's words, where it is those.
+    /// Reading from the sideband failed. `server_message` has the server's message, if that was the reason.
     #[error("Read")]
     Read(read::Error),
-    /// The writer failed with this kind. Nothing is said of what it wrote.
+    /// The writer failed with this kind. How much it wrote isn't known.
     #[error("Write")]
     Write(ErrorKind),
 }
@@ -37,7 +37,7 @@ impl ServerMessage for CopyError {
     }
 }
 
-// Takes the error of a read that failed out of the reader.
+// Takes the error of a failed read out of the reader.
 fn read_error<T: ExtendedBufRead, Q: Progress + Drop, I: Interrupt>(
     reader: &mut WithSidebands<'_, T, Q, I>,
     shown: &io::Error,
@@ -51,21 +51,21 @@ fn read_error<T: ExtendedBufRead, Q: Progress + Drop, I: Interrupt>(
     }
 }
 
-/// Copies a pack into a writer as it comes, up to its stop, in pieces that are lent from the buffer of
-/// the connection. It allocates nothing, and doesn't flush the writer.
+/// Copies a pack to a writer while it is received, up to its flush packet, in pieces borrowed from the buffer of the
+/// connection. It allocates nothing, and doesn't flush the writer.
 #[derive(Debug, Drop)]
 pub struct CopyPack<W> {
-    /// Where the pack goes.
+    /// The writer that gets the pack.
     pub writer: W,
 }
 
 impl<W: Write> CopyPack<W> {
-    /// Copies the pack, up to its stop (gitprotocol-pack, "Packfile Data").
+    /// Copies the pack, up to its flush packet (gitprotocol-pack, "Packfile Data").
     ///
     /// # Errors
     ///
-    /// A read or a write failed. The writer has what was read before, of the piece at a failed write it
-    /// may have some.
+    /// A read or a write failed. The writer has all bytes that were read before. At a failed write it may have a part of
+    /// the last piece.
     pub fn copy<T: ExtendedBufRead, Q: Progress + Drop, I: Interrupt>(
         &mut self,
         reader: &mut WithSidebands<'_, T, Q, I>,
@@ -107,7 +107,7 @@ impl<W: Write, P> ConsumePack<P> for CopyPack<W> {
     ghost owes = { λ c s p r d t q h. copies_owes (W.contents c.writer) (W.contents d.writer) s t r h };
 }
 
-/// Reads a pack to its stop, and keeps nothing of it.
+/// Reads a pack up to its flush packet, and drops it.
 #[derive(Clone, Copy, Debug)]
 pub struct ReadToEnd;
 

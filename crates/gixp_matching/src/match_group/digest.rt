@@ -1,5 +1,5 @@
-//! Hashes of keys, by SipHash-2-4 under a fixed key. A server can choose names, but hardly names of one hash: the rounds aren't
-//! linear, so that no pieces make names of one hash however they are put together.
+//! Hashes of keys, by SipHash-2-4 with a fixed key. A server chooses names, but can hardly find several with one hash:
+//! the rounds aren't linear, so names can't be put together from pieces that collide.
 ghost use Rattle.std.specs.Prelude.{◌≡◌};
 ghost use Rattle.std.specs.List.{fold};
 ghost use Rattle.gixp_matching.specs.Apart.{key_parts};
@@ -8,7 +8,7 @@ ghost use Rattle.gixp_matching.specs.MatchGroup.{key_bytes, key_source};
 
 use crate::match_group::key::{Key, KeyBytes, KeySource};
 
-/// What the bytes so far have made.
+/// The state after the bytes so far.
 #[derive(Clone, Copy)]
 pub(crate) struct State {
     pub(crate) a: u64,
@@ -17,14 +17,14 @@ pub(crate) struct State {
     pub(crate) d: u64,
 }
 
-/// The number with one byte more at its low end.
+/// Appends a byte at the low end of a number.
 pub(crate) fn step(number: u64, byte: u8) -> u64
     ensures { result ≡ step number byte }
 {
     number.wrapping_mul(256).wrapping_add(u64::from(byte))
 }
 
-// The number with some bytes more.
+// Appends bytes at the low end of a number.
 fn packed(number: u64, bytes: &[u8]) -> u64
     ensures { result ≡ fold step number bytes.now }
 {
@@ -43,7 +43,7 @@ pub(crate) fn tail(name: &[u8]) -> u64
     packed(0, &name[name.len().saturating_sub(8)..])
 }
 
-// A sum, and the second of its parts turned and mixed with it.
+// The sum of two words, and the second word rotated and mixed with it.
 #[tactic(auto, unfolding(crate::specs::Digest::turned))]
 fn turned(x: u64, y: u64, count: u32) -> (u64, u64)
     ensures { result ≡ turned x y count }
@@ -52,7 +52,7 @@ fn turned(x: u64, y: u64, count: u32) -> (u64, u64)
     (sum, y.rotate_left(count) ^ sum)
 }
 
-// One round over the four words.
+// One round on the four words.
 #[tactic(auto, unfolding(crate::specs::Digest::round))]
 fn round(state: State) -> State
     ensures { result ≡ round state }
@@ -69,7 +69,7 @@ fn round(state: State) -> State
     }
 }
 
-// The state after one word more.
+// The state after one more word.
 #[tactic(auto, unfolding(crate::specs::Digest::absorbed))]
 fn absorb(state: State, word: u64) -> State
     ensures { result ≡ absorbed state word }
@@ -89,7 +89,7 @@ fn absorb(state: State, word: u64) -> State
     }
 }
 
-// The state after some words more.
+// The state after more words.
 fn absorb_words(state: State, words: &[[u8; 8]]) -> State
     ensures { result ≡ fold with_word state words.now }
 {
@@ -100,7 +100,7 @@ fn absorb_words(state: State, words: &[[u8; 8]]) -> State
     now
 }
 
-// The state after some bytes more, and their count.
+// The state after these bytes and their count.
 #[tactic(auto, unfolding(crate::specs::Digest::with_bytes))]
 fn absorb_bytes(state: State, bytes: &[u8]) -> State
     ensures { result ≡ with_bytes state bytes.now }
@@ -110,7 +110,7 @@ fn absorb_bytes(state: State, bytes: &[u8]) -> State
     absorb(state, packed(bytes.len() as u64, rest))
 }
 
-// The state before any bytes.
+// The state before the first byte.
 fn start() -> State
     ensures { result ≡ start }
 {
@@ -137,14 +137,12 @@ fn number_of(state: State) -> u64
     last.a ^ last.b ^ last.c ^ last.d
 }
 
-/// The hash of a name.
 pub(crate) fn name_digest(name: &KeyBytes<'_>) -> u64
     ensures { result ≡ digest (key_bytes name.now) }
 {
     number_of(absorb_bytes(start(), name.bytes))
 }
 
-// The bytes of a source.
 fn source_bytes<'a>(source: &KeySource<'a>) -> KeyBytes<'a>
     ensures { key_bytes result ≡ bytes_of (key_source source.now) }
 {

@@ -1,4 +1,4 @@
-//! Of equal mappings the first.
+//! Keeps the first of equal mappings.
 ghost use Rattle.std.specs.Prelude.{◌≡◌, ◌∷◌, ◌++◌, IfOk, IsTrue, OnOk, [], map};
 ghost use Rattle.std.specs.List.{list_all};
 ghost use Rattle.gixp_matching.specs.Apart.{parts, key_parts};
@@ -13,10 +13,10 @@ use crate::match_group::sorted::{are_distinct, rises};
 use gixp_repeats::first_flags;
 use std::alloc::{AllocError, Global};
 
-// A source and a local name behind their number, so that mostly the numbers are compared.
+// A source and a local name after their hash, so that mostly only hashes are compared.
 type Numbered<'k, 'a> = (u64, &'k Key<'a>);
 
-// Whether the source and the local name of each mapping are above those of the one before, so that no two are equal.
+// Whether the source and the local name of each mapping are above the previous mapping's, so that no two are equal.
 fn are_in_order<M: AsMapping>(mappings: &[M]) -> bool
     ensures { IsTrue result → firsts (map M.mapped mappings.now) ≡ map M.mapped mappings.now }
 {
@@ -29,7 +29,7 @@ fn are_in_order<M: AsMapping>(mappings: &[M]) -> bool
     true
 }
 
-// The number of the source and the local name of each mapping.
+// The hash of the source and the local name of each mapping.
 fn key_digests<M: AsMapping>(alloc: Global, mappings: &[M]) -> Result<Vec<u64>, AllocError>
     ensures { IfOk result (λ digests. digests.items ≡ map (λ m. parts_digest (parts m)) (map M.mapped mappings.now)) }
 {
@@ -40,7 +40,7 @@ fn key_digests<M: AsMapping>(alloc: Global, mappings: &[M]) -> Result<Vec<u64>, 
     Ok(digests)
 }
 
-// Whether the numbers of the mappings tell that no two have the same source and local name.
+// Whether all hashes differ, so that no two mappings have the same source and local name.
 fn are_apart<M: AsMapping>(alloc: Global, mappings: &[M]) -> Result<bool, AllocError>
     ensures { IfOk result (λ d. IsTrue d → firsts (map M.mapped mappings.now) ≡ map M.mapped mappings.now) }
 {
@@ -48,7 +48,6 @@ fn are_apart<M: AsMapping>(alloc: Global, mappings: &[M]) -> Result<bool, AllocE
     Ok(are_distinct(digests))
 }
 
-// Appends the source and the local name of a mapping.
 fn push_key<'a, M: AsMapping>(mapping: &'a M, keys: &mut Vec<Key<'a>>) -> Result<(), AllocError>
     ensures { OnOk result (map key_parts keys.new.items ≡ map key_parts keys.old.items ++ parts (M.mapped mapping.now) ∷ []) }
 {
@@ -56,7 +55,6 @@ fn push_key<'a, M: AsMapping>(mapping: &'a M, keys: &mut Vec<Key<'a>>) -> Result
     Ok(())
 }
 
-// The source and the local name of each mapping.
 fn keys_of<M: AsMapping>(alloc: Global, mappings: &[M]) -> Result<Vec<Key<'_>>, AllocError>
     ensures { IfOk result (λ keys. map key_parts keys.items ≡ map parts (map M.mapped mappings.now)) }
 {
@@ -67,7 +65,7 @@ fn keys_of<M: AsMapping>(alloc: Global, mappings: &[M]) -> Result<Vec<Key<'_>>, 
     Ok(keys)
 }
 
-// Appends a key with its number and its place.
+// Appends a key with its hash and its index.
 fn push_row<'k, 'a>(
     rows: &mut Vec<(Numbered<'k, 'a>, usize)>,
     place: usize,
@@ -80,7 +78,7 @@ fn push_row<'k, 'a>(
     Ok(())
 }
 
-// The keys with their numbers and their places.
+// The keys with their hashes and indices.
 fn rows_of<'k, 'a>(
     alloc: Global,
     keys: &'k [Key<'a>],
@@ -95,8 +93,8 @@ fn rows_of<'k, 'a>(
     Ok(rows)
 }
 
-// For each mapping, whether it is the first of its source and local name. None where the order of these, or their
-// numbers, tell that each is, for which no list of keys is made.
+// For each mapping, whether it is the first with its source and local name. None where their order or their hashes
+// show that each is; no list of keys is made then.
 fn flags_of<M: AsMapping>(alloc: Global, mappings: &[M]) -> Result<Option<Vec<bool>>, AllocError>
     ensures { IfOk result (TellsFirsts (map M.mapped mappings.now)) }
 {
@@ -112,7 +110,7 @@ fn flags_of<M: AsMapping>(alloc: Global, mappings: &[M]) -> Result<Option<Vec<bo
     Ok(Some(flags))
 }
 
-// The mappings whose flag is true.
+// The mappings whose flag is set.
 fn flagged<M: Drop>(alloc: Global, mappings: Vec<M>, flags: Vec<bool>) -> Result<Vec<M>, AllocError>
     ensures { IfOk result (λ kept. kept.items ≡ flagged mappings.items flags.items) }
 {
@@ -124,18 +122,18 @@ fn flagged<M: Drop>(alloc: Global, mappings: Vec<M>, flags: Vec<bool>) -> Result
         .collect(alloc)
 }
 
-// Whether all flags are true.
+// Whether all flags are set.
 fn are_all(flags: &[bool]) -> bool
     ensures { result ≡ list_all (λ flag. flag) flags.now }
 {
     flags.iter().all(|flag| *flag)
 }
 
-/// Of mappings with equal source and local name the first. Mostly no two are equal, and then none is moved.
+/// Keeps the first of the mappings with equal source and local name. Mostly no two are equal; then no mapping is moved.
 ///
 /// # Errors
 ///
-/// Only when an allocation fails. The mappings are dropped then.
+/// Only an allocation failure. The mappings are dropped then.
 pub fn firsts<M: AsMapping + Drop>(alloc: Global, mappings: Vec<M>) -> Result<Vec<M>, AllocError>
     ensures values { IfOk result (λ kept. map M.mapped kept.items ≡ firsts (map M.mapped mappings.items)) }
     ensures flags { IfOk result (λ kept. kept.items ≡ flagged mappings.items (first_flags [] (map M.mapped mappings.items))) }

@@ -1,4 +1,4 @@
-//! What is compared of mappings, in the order of their bytes.
+//! The keys by which mappings are compared, ordered by bytes.
 ghost use Rattle.std.specs.Prelude.{◌≡◌, IfOk};
 ghost use Rattle.std.specs.Option.{option_map};
 ghost use Rattle.bstr.specs.Owned.{bstring_bytes};
@@ -9,17 +9,17 @@ use crate::match_group::{Mapping, SourceRef};
 use bstr::BString;
 use std::alloc::AllocError;
 
-/// What can be looked at as a mapping: a source, a local name and a refspec.
+/// A value with the parts of a mapping: a source, a local name and a refspec.
 pub trait AsMapping {
     ghost use Rattle.gixp_matching.specs.Mappings.{Mapped};
 
     ghost mapped: { Self → Mapped };
 
-    /// The source and the local name.
+    /// The source and the local name, as a key.
     fn key(&self) -> Key<'_>
         ensures { key_parts result ≡ parts (mapped self.now) };
 
-    /// The place of the refspec in its group, from 0.
+    /// The index of the refspec in its group, from 0.
     fn spec_index(&self) -> usize
         ensures { result ≡ (mapped self.now).spec };
 
@@ -53,7 +53,7 @@ pub struct KeyBytes<'a> {
 /// The source of a mapping, as a key.
 #[derive(Clone, Copy, PartialEq, Eq, PartialOrd, Ord)]
 pub enum KeySource<'a> {
-    /// The whole name of a ref.
+    /// The full name of a ref.
     FullName(KeyBytes<'a>),
     /// The bytes of an id.
     ObjectId(KeyBytes<'a>),
@@ -71,7 +71,6 @@ pub(crate) fn name_key(name: &BString) -> KeyBytes<'_>
     }
 }
 
-/// The source.
 pub(crate) fn source_key(source: &SourceRef) -> KeySource<'_>
     ensures { key_source result ≡ source_of source.now }
 {
@@ -83,7 +82,7 @@ pub(crate) fn source_key(source: &SourceRef) -> KeySource<'_>
     }
 }
 
-/// The local name, where there is one.
+/// The local name, where the mapping has one.
 pub(crate) fn local_key(local: &Option<BString>) -> Option<KeyBytes<'_>>
     ensures { option_map key_bytes result ≡ option_map bstring_bytes local.now }
 {

@@ -13,7 +13,7 @@ use gixp_refspec::spec::RefSpecRef;
 use gixp_refspec::text::joined;
 use std::alloc::{AllocError, Global};
 
-// A destination that is no pattern, as the whole name of a ref.
+// The destination of a refspec without a pattern, as the full name of a ref.
 #[tactic(auto, unfolding(gixp_refspec::specs::Matching::full_local))]
 fn full_local(alloc: Global, destination: &[u8]) -> Result<BString, AllocError>
     ensures { IfOk result (λ name. bstring_bytes name ≡ full_local destination.now) }
@@ -30,7 +30,7 @@ fn full_local(alloc: Global, destination: &[u8]) -> Result<BString, AllocError>
     }
 }
 
-// The local name of a destination, for the middle of what matched.
+// The local name that a destination makes of the middle of a match.
 #[inline(always)]
 #[tactic(auto, unfolding(gixp_refspec::specs::Matching::local_in))]
 fn local_in(alloc: Global, middle: &[u8], destination: &[u8]) -> Result<BString, AllocError>
@@ -42,7 +42,7 @@ fn local_in(alloc: Global, middle: &[u8], destination: &[u8]) -> Result<BString,
     }
 }
 
-/// The local name, where there is a destination.
+/// The local name. None without a destination.
 #[inline(always)]
 pub(crate) fn local_of(
     alloc: Global,
@@ -57,7 +57,7 @@ pub(crate) fn local_of(
     }
 }
 
-/// The local name that a refspec gives the ref of this whole name, where there is one and it matches.
+/// The local name that a refspec makes of the ref with this full name. None where it doesn't match or has no destination.
 #[inline(always)]
 pub(crate) fn local_of_name(
     alloc: Global,
@@ -76,7 +76,7 @@ pub(crate) fn local_of_name(
     }
 }
 
-/// The local name that a refspec gives the id that it names, where there is one.
+/// The local name that a refspec makes of the id that it names. None without a destination.
 pub(crate) fn local_of_id(
     alloc: Global,
     spec: Option<&RefSpecRef<'_>>,

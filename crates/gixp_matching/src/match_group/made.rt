@@ -1,4 +1,4 @@
-//! Mappings made of the places that they come from.
+//! Makes mappings from their places.
 ghost use Rattle.std.specs.Prelude.{◌≡◌, ◌++◌, IfOk, OnOk, map, option_to_list};
 ghost use Rattle.std.specs.Option.{option_map};
 ghost use Rattle.std.specs.List.{slice_get};
@@ -11,7 +11,7 @@ use crate::match_group::{Item, Mapping, MatchGroup, Place, SourceRef};
 use bstr::BString;
 use std::alloc::{AllocError, Global};
 
-// The name of the ref at a place, where there is one.
+// The name of the ref at this index.
 fn name_at(alloc: Global, items: &[Item<'_>], index: usize) -> Result<Option<SourceRef>, AllocError>
     ensures { IfOk result (λ found. option_map source_of found ≡ option_map FullName (slice_get (names items.now) index)) }
 {
@@ -24,7 +24,7 @@ fn name_at(alloc: Global, items: &[Item<'_>], index: usize) -> Result<Option<Sou
     }
 }
 
-// What the mapping of a place takes.
+// The source of the mapping at a place.
 fn source_at(
     alloc: Global,
     group: &MatchGroup<'_>,
@@ -40,7 +40,7 @@ fn source_at(
     }
 }
 
-// The local name that the refspec at a place gives the source.
+// The local name that the refspec at this index makes of the source.
 fn local_at(
     alloc: Global,
     group: &MatchGroup<'_>,
@@ -56,7 +56,7 @@ fn local_at(
     }
 }
 
-// The mapping of a place, where there are such a ref and such a refspec.
+// The mapping at a place. None where the ref or the refspec doesn't exist.
 fn mapping_at(
     alloc: Global,
     group: &MatchGroup<'_>,
@@ -77,7 +77,7 @@ fn mapping_at(
     }))
 }
 
-// Appends a mapping, where one was found.
+// Appends a mapping, if there is one.
 fn push_found(out: &mut Vec<Mapping>, found: Option<Mapping>) -> Result<(), AllocError>
     ensures { OnOk result (mapped_in out.new ≡ mapped_in out.old ++ option_to_list (option_map mapped_of found)) }
 {
@@ -87,7 +87,7 @@ fn push_found(out: &mut Vec<Mapping>, found: Option<Mapping>) -> Result<(), Allo
     Ok(())
 }
 
-// The mappings of some places.
+// The mappings at these places.
 fn mappings_at(
     alloc: Global,
     group: &MatchGroup<'_>,
@@ -104,7 +104,7 @@ fn mappings_at(
     Ok(made)
 }
 
-/// The mappings of the refs, also those that are equal to an earlier one in source and local name.
+/// The mappings of the refs, including those that repeat the source and local name of an earlier one.
 pub(crate) fn repeated_mappings(
     alloc: Global,
     group: &MatchGroup<'_>,

@@ -1,4 +1,4 @@
-//! The negative refspecs of a group, looked at once and compared with many names.
+//! The negative refspecs of a group, prepared once and then compared with many names.
 ghost use Rattle.std.specs.Prelude.{ℕ, List, ◌≡◌, ◌||◌, IfOk, OnOk, is_some};
 ghost use Rattle.std.specs.List.{list_any};
 ghost use Rattle.gixp_matching.specs.Mappings.{excludes, is_excluded};
@@ -12,18 +12,18 @@ use gixp_refspec::needle::Needle;
 use gixp_refspec::spec::{RefSpecRef, is_negative};
 use std::alloc::{AllocError, Global};
 
-/// A group of refspecs whose negative ones were looked at.
+/// A group of refspecs with its negative refspecs prepared.
 #[derive(Drop)]
 pub(crate) struct Prepared<'s> {
     /// All refspecs of the group.
     pub(crate) specs: &'s [RefSpecRef<'s>],
-    /// The names that negative refspecs name exactly, in byte order.
+    /// The exact names of negative refspecs, in byte order.
     pub(crate) names: Vec<Row<'s>>,
     /// The sources of the other negative refspecs.
     pub(crate) others: Vec<Needle<'s>>,
 }
 
-// AddsConflicts the source of a negative refspec.
+// Adds the source of a negative refspec.
 fn push_negative<'s>(
     names: &mut Vec<Row<'s>>,
     others: &mut Vec<Needle<'s>>,
@@ -44,7 +44,7 @@ fn push_negative<'s>(
     Ok(())
 }
 
-/// Looks at the negative refspecs.
+/// Prepares the negative refspecs.
 pub(crate) fn prepare<'s>(
     alloc: Global,
     specs: &'s [RefSpecRef<'s>],
@@ -65,7 +65,7 @@ pub(crate) fn prepare<'s>(
     })
 }
 
-// Whether the name is one of these.
+// Whether the names contain this one.
 fn has_name(names: &[Row<'_>], name: &[u8]) -> bool
     requires { AreByName names.now }
     ensures { result ≡ list_any (is_row_of name.now) names.now }
@@ -73,14 +73,14 @@ fn has_name(names: &[Row<'_>], name: &[u8]) -> bool
     !rows_named(names, name).is_empty()
 }
 
-// Whether some needle matches the name.
+// Whether a needle matches the name.
 fn has_match(needles: &[Needle<'_>], name: &[u8]) -> bool
     ensures { result ≡ list_any (λ needle. is_some (middle_with needle name.now)) needles.now }
 {
     needles.iter().any(|needle| needle.middle(name).is_some())
 }
 
-/// Whether some negative refspec matches the name.
+/// Whether a negative refspec matches the name.
 pub(crate) fn is_excluded(prepared: &Prepared<'_>, name: &[u8]) -> bool
     requires { IsPrepared prepared.now }
     ensures { result ≡ is_excluded (values prepared.now.specs.now) name.now }

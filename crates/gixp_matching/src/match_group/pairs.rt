@@ -1,4 +1,4 @@
-//! Where the mappings of refspecs and refs come from, in their order and with repeats.
+//! The places of the mappings, in their order and with repeats.
 ghost use Rattle.std.specs.Prelude.{◌≡◌, ◌++◌, OnOk, map, option_to_list};
 ghost use Rattle.std.specs.Option.{option_map};
 ghost use Rattle.std.specs.List.{flat_map};
@@ -16,7 +16,7 @@ use gixp_refspec::needle::Needle;
 use gixp_refspec::spec::{RefSpecRef, id_in, is_negative};
 use std::alloc::{AllocError, Global};
 
-// Appends a place, where one was found.
+// Appends a place, if there is one.
 fn push_found(out: &mut Vec<Place>, found: Option<Place>) -> Result<(), AllocError>
     ensures { OnOk result (places_in out.new ≡ places_in out.old ++ option_to_list (option_map place_value found)) }
 {
@@ -26,7 +26,7 @@ fn push_found(out: &mut Vec<Place>, found: Option<Place>) -> Result<(), AllocErr
     Ok(())
 }
 
-// The place of a positive id.
+// The place of the id that a positive refspec names.
 #[tactic(auto, unfolding(crate::specs::Mappings::id_mapping))]
 fn id_place(index: usize, spec: &RefSpecRef<'_>) -> Option<Place>
     ensures { option_to_list (option_map place_value result) ≡ id_places (index, value_of spec.now) }
@@ -40,14 +40,14 @@ fn id_place(index: usize, spec: &RefSpecRef<'_>) -> Option<Place>
     })
 }
 
-// Appends the place of a positive id.
+// Appends the place of the id that a positive refspec names.
 fn push_id(index: usize, spec: &RefSpecRef<'_>, out: &mut Vec<Place>) -> Result<(), AllocError>
     ensures { OnOk result (places_in out.new ≡ places_in out.old ++ id_places (index, value_of spec.now)) }
 {
     push_found(out, id_place(index, spec))
 }
 
-/// Appends the places of the positive ids.
+/// Appends the places of the ids that positive refspecs name.
 pub(crate) fn push_ids(specs: &[RefSpecRef<'_>], out: &mut Vec<Place>) -> Result<(), AllocError>
     ensures { OnOk result (places_in out.new ≡ places_in out.old ++ map place_of (id_mappings (values specs.now))) }
 {
@@ -57,7 +57,7 @@ pub(crate) fn push_ids(specs: &[RefSpecRef<'_>], out: &mut Vec<Place>) -> Result
     Ok(())
 }
 
-// A refspec at its place in a group.
+// A refspec with its index in a group.
 #[derive(Clone, Copy)]
 struct Numbered<'m, 's> {
     index: usize,
@@ -66,7 +66,7 @@ struct Numbered<'m, 's> {
 }
 
 impl<'m, 's> Numbered<'m, 's> {
-    // The refspec, whose source is looked at.
+    // A refspec with its index, and its source as a needle.
     fn new(index: usize, spec: &'m RefSpecRef<'s>) -> Numbered<'m, 's>
         ensures value { numbered_value result ≡ (index, value_of spec.now) }
         ensures needle { IsLookedAt result }
@@ -79,7 +79,7 @@ impl<'m, 's> Numbered<'m, 's> {
     }
 }
 
-/// A group of refspecs, and the refs that it is matched with.
+/// A group of refspecs, and the refs that it is matched against.
 #[derive(Clone, Copy)]
 pub(crate) struct Matching<'m, 's, 'a> {
     pub(crate) alloc: Global,
@@ -88,7 +88,7 @@ pub(crate) struct Matching<'m, 's, 'a> {
 }
 
 impl Matching<'_, '_, '_> {
-    // The place of a refspec and a ref, where the one matches the other.
+    // The place of a refspec and a ref, if the refspec matches the ref.
     #[inline(always)]
     fn pair(&self, numbered: &Numbered<'_, '_>, row: &Row<'_>) -> Option<Place>
         requires needle { IsLookedAt numbered.now }
@@ -108,7 +108,7 @@ impl Matching<'_, '_, '_> {
         })
     }
 
-    // Appends the place of a refspec and a ref, where the one matches the other.
+    // Appends the place of a refspec and a ref, if the refspec matches the ref.
     #[inline(always)]
     fn push_pair(
         &self,
@@ -124,7 +124,7 @@ impl Matching<'_, '_, '_> {
         push_found(out, self.pair(numbered, row))
     }
 
-    // Appends the places of a refspec, which is compared with each ref unless it is negative.
+    // Appends the places of a refspec by comparing it with each ref. A negative one has none.
     fn push_compared(
         &self,
         numbered: &Numbered<'_, '_>,
@@ -145,7 +145,7 @@ impl Matching<'_, '_, '_> {
         Ok(())
     }
 
-    // Appends the places of a refspec and some refs.
+    // Appends the places of a refspec and these refs.
     fn push_rows(
         &self,
         numbered: &Numbered<'_, '_>,
@@ -163,7 +163,7 @@ impl Matching<'_, '_, '_> {
         Ok(())
     }
 
-    // Appends the place of a refspec and the ref at a place.
+    // Appends the place of a refspec and the ref at this index.
     fn push_at(
         &self,
         numbered: &Numbered<'_, '_>,
@@ -185,7 +185,7 @@ impl Matching<'_, '_, '_> {
         }
     }
 
-    // Appends the places of a refspec and the refs at some places.
+    // Appends the places of a refspec and the refs at these indices.
     fn push_places(
         &self,
         numbered: &Numbered<'_, '_>,
@@ -204,8 +204,8 @@ impl Matching<'_, '_, '_> {
         Ok(())
     }
 
-    // Appends the places of a refspec. The refs of an exact name, and those that a short name stands for, are looked
-    // up; only a pattern is compared with each ref.
+    // Appends the places of a refspec. The refs of an exact name, and those that a short name may mean, are looked up.
+    // Only a pattern is compared with each ref.
     fn push_looked_up(
         &self,
         numbered: &Numbered<'_, '_>,
@@ -236,7 +236,7 @@ impl Matching<'_, '_, '_> {
         }
     }
 
-    /// Appends the places of each refspec and each ref, by a table of the refs that are looked up.
+    /// Appends the places of each refspec and each ref, with the table of the refs that are looked up.
     pub(crate) fn push_pairs(&self, out: &mut Vec<Place>) -> Result<(), AllocError>
         requires { IsPrepared self.now.prepared.now }
         ensures { OnOk result (places_in out.new ≡ places_in out.old

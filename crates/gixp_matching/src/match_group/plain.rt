@@ -1,4 +1,4 @@
-//! Mappings whose order tells that none repeats another, none is in conflict and none is taken out.
+//! Mappings whose order shows that none repeats another, none is in conflict, and none is removed.
 ghost use Rattle.std.specs.Prelude.{◌≡◌, [], false, IfOk, IsTrue, map};
 ghost use Rattle.std.specs.List.{IsDistinct, list_any};
 ghost use Rattle.std.specs.Str.{bytes_eq};
@@ -18,7 +18,7 @@ use crate::match_group::validate::{self, Fix, validated};
 use gixp_refspec::spec::RefSpecRef;
 use std::alloc::{AllocError, Global};
 
-// Whether sources and local names rise, and each local name is a whole name of a ref.
+// Whether sources and local names increase, and each local name is a full name of a ref.
 fn are_plain<M: AsMapping>(mappings: &[M]) -> bool
     ensures firsts { IsTrue result → firsts (map M.mapped mappings.now) ≡ map M.mapped mappings.now }
     ensures apart { IsTrue result → IsDistinct bytes_eq (locals (map M.mapped mappings.now)) }
@@ -40,12 +40,12 @@ fn are_plain<M: AsMapping>(mappings: &[M]) -> bool
     true
 }
 
-/// Of mappings with equal source and local name the first, validated as [`validated`] does. Servers send refs in order, so
-/// that one look at each mapping mostly tells that all stay.
+/// Keeps the first of the mappings with equal source and local name, and validates them like [`validated`]. Servers
+/// send refs in order, so one pass mostly shows that all mappings stay.
 ///
 /// # Errors
 ///
-/// As [`validated`].
+/// The same as for [`validated`].
 pub fn checked<M: AsMapping + Drop>(
     alloc: Global,
     specs: &[RefSpecRef<'_>],

@@ -1,4 +1,4 @@
-//! Refs in the order of their names, so that a name is looked up and not compared with each.
+//! Refs sorted by name, so that a name is looked up instead of compared with each ref.
 ghost use Rattle.std.specs.Prelude.{ℕ, List, ◌≡◌, ◌∷◌, ◌++◌, [], IfOk, OnOk, not, map, filter};
 ghost use Rattle.std.specs.BTreeSet.{IsOrdered};
 ghost use Rattle.std.specs.List.{enumerate_from};
@@ -18,14 +18,14 @@ use gixp_refspec::text::joined;
 use std::alloc::{AllocError, Global};
 use std::collections::BTreeSet;
 
-/// A ref: its name, and its place among those that are matched.
+/// The name of a ref, and its index among the refs that are matched.
 #[derive(Clone, Copy)]
 pub(crate) struct Row<'a> {
     pub(crate) name: &'a [u8],
     pub(crate) place: usize,
 }
 
-// Appends a ref, where its name is one of the set.
+// Appends a ref, if its name is in the set.
 fn push_row<'a>(
     rows: &mut Vec<Row<'a>>,
     set: &NameSet<'_>,
@@ -43,7 +43,7 @@ fn push_row<'a>(
     Ok(())
 }
 
-// The refs whose name is one of the set, in their order.
+// The refs whose names are in the set, in their order.
 fn rows_of<'a>(
     alloc: Global,
     set: &NameSet<'_>,
@@ -59,7 +59,7 @@ fn rows_of<'a>(
     Ok(rows)
 }
 
-/// Puts refs into byte order of their names. Those of one name keep their order.
+/// Sorts refs by the bytes of their names. Refs with the same name keep their order.
 pub(crate) fn sort_by_name(rows: &mut Vec<Row<'_>>) -> Result<(), AllocError>
     ensures permutation { IsPermutation rows.old.items rows.new.items }
     ensures order { OnOk result (AreByName rows.new.items) }
@@ -69,8 +69,8 @@ pub(crate) fn sort_by_name(rows: &mut Vec<Row<'_>>) -> Result<(), AllocError>
     Ok(())
 }
 
-/// The refs of the names that refspecs stand for, in byte order of their names. One look at each ref finds them, so that
-/// those alone are sorted, in whatever order a server sends them.
+/// The refs whose names refspecs may mean, sorted by name. One pass over the refs finds them, so only these are
+/// sorted, in whatever order a server sends the refs.
 pub(crate) fn table_of<'a>(
     alloc: Global,
     specs: &[RefSpecRef<'_>],
@@ -88,21 +88,21 @@ pub(crate) fn table_of<'a>(
     Ok(rows)
 }
 
-// Whether the ref comes before the name.
+// Whether the ref's name is below this name.
 fn is_before(row: &Row<'_>, name: &[u8]) -> bool
     ensures { result ≡ is_below row.now.name.now name.now }
 {
     row.name.cmp(name).is_lt()
 }
 
-// Whether the ref comes before the name or has it.
+// Whether the ref's name is below this name or equal to it.
 fn is_until(row: &Row<'_>, name: &[u8]) -> bool
     ensures { result ≡ not (is_below name.now row.now.name.now) }
 {
     !name.cmp(row.name).is_lt()
 }
 
-/// The refs of a name.
+/// The refs with this name.
 pub(crate) fn rows_named<'r, 'a>(rows: &'r [Row<'a>], name: &[u8]) -> &'r [Row<'a>]
     requires { AreByName rows.now }
     ensures { result.now ≡ filter (is_row_of name.now) rows.now }
@@ -113,7 +113,7 @@ pub(crate) fn rows_named<'r, 'a>(rows: &'r [Row<'a>], name: &[u8]) -> &'r [Row<'
     &rest[..count]
 }
 
-// AddsConflicts the place of a ref.
+// Adds the index of a ref.
 fn add_place(places: &mut BTreeSet<usize>, row: &Row<'_>) -> Result<(), AllocError>
     ensures { OnOk result (AddsPlaces (shown row.now ∷ []) places.old places.new) }
 {
@@ -121,7 +121,7 @@ fn add_place(places: &mut BTreeSet<usize>, row: &Row<'_>) -> Result<(), AllocErr
     Ok(())
 }
 
-// AddsConflicts the places of some refs.
+// Adds the indices of refs.
 fn add_places(places: &mut BTreeSet<usize>, run: &[Row<'_>]) -> Result<(), AllocError>
     ensures { OnOk result (AddsPlaces (map shown run.now) places.old places.new) }
 {
@@ -131,7 +131,7 @@ fn add_places(places: &mut BTreeSet<usize>, run: &[Row<'_>]) -> Result<(), Alloc
     Ok(())
 }
 
-// The numbers of a set, from the least on.
+// The numbers of a set, in ascending order.
 fn in_order(alloc: Global, places: BTreeSet<usize>) -> Result<Vec<usize>, AllocError>
     ensures same { IfOk result (λ list. list.items ≡ places.keys) }
     ensures ordered { IsOrdered nat_cmp places }
@@ -140,7 +140,7 @@ fn in_order(alloc: Global, places: BTreeSet<usize>) -> Result<Vec<usize>, AllocE
     places.into_iter().collect(alloc)
 }
 
-// The places of the refs of the names that rules make of a short name.
+// The indices of the refs with the full names that a short name may mean.
 fn places_made(
     alloc: Global,
     rows: &[Row<'_>],
@@ -159,7 +159,7 @@ fn places_made(
     Ok(places)
 }
 
-/// The places of the refs that a short name stands for, in their order.
+/// The indices of the refs that a short name may mean, in ascending order.
 #[tactic(auto, unfolding(gixp_refspec::specs::Matching::candidates))]
 pub(crate) fn places_meant(
     alloc: Global,

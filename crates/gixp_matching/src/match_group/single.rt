@@ -1,4 +1,4 @@
-//! The one refspec of a group that maps refs, which is looked at once, and then compared with each ref.
+//! The single refspec of a group that maps refs. It is prepared once, and then compared with each ref.
 ghost use Rattle.std.specs.Prelude.{ℕ, List, ◌≡◌, ◌<◌, false, length, IfOk, IfSome};
 ghost use Rattle.std.specs.List.{list_any, position};
 ghost use Rattle.std.specs.Option.{option_map};
@@ -14,7 +14,7 @@ use gixp_refspec::needle::Needle;
 use gixp_refspec::spec::{RefSpecRef, is_negative};
 use std::alloc::{AllocError, Global};
 
-/// The one refspec of a group that maps refs.
+/// The single refspec of a group that maps refs.
 #[derive(Drop)]
 pub struct Single<'s> {
     pub(crate) spec_index: usize,
@@ -25,7 +25,7 @@ pub struct Single<'s> {
     ghost looked_at: { IsPrepared prepared },
 }
 
-// The place of the first positive refspec.
+// The index of the first positive refspec.
 fn first_positive(specs: &[RefSpecRef<'_>]) -> Option<usize>
     ensures place { result ≡ position is_positive specs.now }
     ensures within { IfSome result (λ i. i < length specs.now) }
@@ -33,14 +33,14 @@ fn first_positive(specs: &[RefSpecRef<'_>]) -> Option<usize>
     specs.iter().position(|spec| !is_negative(spec.sign))
 }
 
-// Whether some refspec is positive.
+// Whether a refspec is positive.
 fn has_positive(specs: &[RefSpecRef<'_>]) -> bool
     ensures { result ≡ list_any is_positive specs.now }
 {
     specs.iter().any(|spec| !is_negative(spec.sign))
 }
 
-/// The place of the only positive refspec, where there is just one.
+/// The index of the only positive refspec. None where none or several are positive.
 pub(crate) fn only_positive(specs: &[RefSpecRef<'_>]) -> Option<usize>
     ensures { IsPlaceOfOnly specs.now result }
 {
@@ -54,18 +54,18 @@ pub(crate) fn only_positive(specs: &[RefSpecRef<'_>]) -> Option<usize>
 impl Single<'_> {
     ghost use Rattle.gixp_matching.specs.Single.{IsSingle, mapped_by, single_index, single_pair};
 
-    /// The place of the refspec in its group, from 0.
+    /// The index of the refspec in its group, from 0.
     pub fn spec_index(&self) -> usize
         ensures { result ≡ single_index self.now }
     {
         self.spec_index
     }
 
-    /// The local name of the ref of this whole name, where there is a destination; none where the ref isn't mapped.
+    /// The local name of the ref with this full name: `None` where the ref isn't mapped, `Some(None)` without a destination.
     ///
     /// # Errors
     ///
-    /// Only when an allocation fails.
+    /// Only an allocation failure.
     #[inline(always)]
     pub fn local_name(
         &self,

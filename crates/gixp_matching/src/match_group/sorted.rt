@@ -1,4 +1,4 @@
-//! Whether keys are all different, which their order tells, or a sort.
+//! Whether keys are all different, shown by their order or by sorting them.
 ghost use Rattle.std.specs.Prelude.{◌≡◌, ◌∷◌, ◌++◌, [], List, IsTrue, length};
 ghost use Rattle.std.specs.List.{AllAdjacentBelow, IsDistinct};
 ghost use Rattle.std.specs.Ordering.{eq_by_cmp};
@@ -6,7 +6,7 @@ ghost use Rattle.gixp_matching.specs.Rising.{IsAbove, RisesTo};
 
 use std::cmp::Ordering;
 
-// Whether a key is above the last one, where there is one.
+// Whether a key is above the last one, if there is one.
 fn is_above<K: Ord>(key: &K, last: &Option<K>) -> bool
     ensures { IsTrue result → IsAbove K.cmp last.now key.now }
 {
@@ -16,8 +16,8 @@ fn is_above<K: Ord>(key: &K, last: &Option<K>) -> bool
     }
 }
 
-/// Takes a key as the last of several, and tells whether it is above the one before. Servers send refs in order, so that
-/// mostly each key is, and then no two are equal.
+/// Makes a key the last of several. Returns whether it is above the previous one. Servers send refs in order, so mostly
+/// each key is; then no two are equal.
 pub(crate) fn rises<K: Ord>(last: &mut Option<K>, key: K) -> bool
 where
     K: Drop,

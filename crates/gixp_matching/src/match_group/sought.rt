@@ -1,4 +1,4 @@
-//! The names that refspecs stand for, which are looked up among the refs. They are the client's, so they are few.
+//! The full names that refspecs may mean, which are looked up among the refs. The client chooses them, so they are few.
 ghost use Rattle.std.specs.Prelude.{ℕ, List, ◌≡◌, ◌++◌, ◌||◌, true, map, IfOk, OnOk};
 ghost use Rattle.std.specs.Str.{bytes_eq};
 ghost use Rattle.bstr.specs.Owned.{bstring_bytes};
@@ -14,7 +14,7 @@ use gixp_refspec::spec::{RefSpecRef, stars};
 use std::alloc::{AllocError, Global};
 use std::collections::HashSet;
 
-// Appends the names that a positive refspec stands for, unless it is a pattern.
+// Appends the full names that a positive refspec may mean. A pattern has none.
 fn push_names(
     alloc: Global,
     spec: &RefSpecRef<'_>,
@@ -29,7 +29,7 @@ fn push_names(
     Ok(())
 }
 
-/// The names that positive refspecs stand for.
+/// The full names that positive refspecs may mean.
 pub(crate) fn sought_names(
     alloc: Global,
     specs: &[RefSpecRef<'_>],
@@ -43,7 +43,7 @@ pub(crate) fn sought_names(
     Ok(names)
 }
 
-/// Names, and the last bytes of each, which tell most other names from all of them sooner.
+/// Names, and the last bytes of each. The last bytes tell most other names from these faster.
 #[derive(Drop)]
 pub(crate) struct NameSet<'n> {
     names: HashSet<&'n [u8]>,
@@ -51,7 +51,7 @@ pub(crate) struct NameSet<'n> {
 }
 
 impl NameSet<'_> {
-    /// Whether the name is one of these.
+    /// Whether the set contains the name.
     pub(crate) fn contains(&self, name: &[u8]) -> bool
         requires { HasTails self.now }
         ensures { result ≡ has_name self.now name.now }
@@ -63,7 +63,6 @@ impl NameSet<'_> {
     }
 }
 
-// AddsConflicts a name.
 fn add_name<'n>(set: &mut HashSet<&'n [u8]>, name: &'n BString) -> Result<(), AllocError>
     ensures { OnOk result ((text : List ℕ) → has_key set.new text ≡ (has_key set.old text || bytes_eq text (bstring_bytes name.now))) }
 {
@@ -71,7 +70,6 @@ fn add_name<'n>(set: &mut HashSet<&'n [u8]>, name: &'n BString) -> Result<(), Al
     Ok(())
 }
 
-// The names as a set.
 fn names_of(alloc: Global, names: &[BString]) -> Result<HashSet<&[u8]>, AllocError>
     ensures { IfOk result (λ set. (text : List ℕ) → has_key set text ≡ is_among (map bstring_bytes names.now) text) }
 {
@@ -82,7 +80,6 @@ fn names_of(alloc: Global, names: &[BString]) -> Result<HashSet<&[u8]>, AllocErr
     Ok(set)
 }
 
-// AddsConflicts the last bytes of a name.
 fn add_tail(set: &mut HashSet<u64>, name: &BString) -> Result<(), AllocError>
     ensures own { OnOk result (has_tail set.new (tail (bstring_bytes name.now)) ≡ true) }
     ensures others { OnOk result ((number : ℕ) → has_tail set.old number ≡ true → has_tail set.new number ≡ true) }
@@ -91,7 +88,7 @@ fn add_tail(set: &mut HashSet<u64>, name: &BString) -> Result<(), AllocError>
     Ok(())
 }
 
-// The last bytes of each name.
+// The last eight bytes of each name.
 fn tails_of(alloc: Global, names: &[BString]) -> Result<HashSet<u64>, AllocError>
     ensures { IfOk result (λ set. (text : List ℕ) → is_among (map bstring_bytes names.now) text ≡ true → has_tail set (tail text) ≡ true) }
 {
@@ -102,7 +99,7 @@ fn tails_of(alloc: Global, names: &[BString]) -> Result<HashSet<u64>, AllocError
     Ok(set)
 }
 
-/// The names as a set. A server chooses none of them, so it can't fill one place of the set.
+/// The names as a set. A server chooses none of them, so it can't make them collide.
 pub(crate) fn set_of(alloc: Global, names: &[BString]) -> Result<NameSet<'_>, AllocError>
     ensures names { IfOk result (λ set. (text : List ℕ) → has_name set text ≡ is_among (map bstring_bytes names.now) text) }
     ensures tails { IfOk result HasTails }

@@ -1,4 +1,4 @@
-//! Conflicts between mappings, and mappings that are taken out.
+//! Conflicts between mappings, and mappings that are removed.
 ghost use Rattle.std.specs.Prelude.{◌≡◌, IfOk};
 ghost use Rattle.gixp_matching.specs.MatchGroup.{values};
 ghost use Rattle.gixp_matching.specs.Validate.{removed_of, ValidatesAs};
@@ -17,7 +17,7 @@ use gixp_refspec::spec::RefSpecRef;
 use std::alloc::{AllocError, Global};
 use thiserror::Error as DeriveError;
 
-/// Why mappings cannot be used together.
+/// Why mappings can't be used together.
 #[derive(Debug, Drop)]
 pub enum Issue {
     /// A local name has two different sources.
@@ -31,10 +31,10 @@ pub enum Issue {
     },
 }
 
-/// What was changed so that the mappings can be used.
+/// A change that makes the mappings usable.
 #[derive(Debug, Drop, PartialEq, Eq)]
 pub enum Fix {
-    /// A mapping was taken out, since its local name is neither `HEAD` nor begins with `refs/`.
+    /// A mapping was removed, since its local name isn't `HEAD` and doesn't begin with `refs/`.
     MappingWithPartialDestinationRemoved {
         /// The local name.
         name: BString,
@@ -55,7 +55,7 @@ impl Clone for Fix {
     }
 }
 
-/// The conflicts, in byte order of the local names. There is at least one.
+/// The conflicts, sorted by the bytes of the local names. There is at least one.
 #[derive(Debug, Drop, DeriveError)]
 #[error("Error")]
 pub struct Error {
@@ -63,12 +63,12 @@ pub struct Error {
     pub issues: Vec<Issue>,
 }
 
-/// Refuses conflicts: local names with two different sources. Without one it takes out the mappings whose local name is
-/// neither `HEAD` nor begins with `refs/`, and notes each, in the order of the mappings.
+/// Reports conflicts: local names with two different sources. Without any, removes the mappings whose local name isn't
+/// `HEAD` and doesn't begin with `refs/`, and returns a fix for each, in the order of the mappings.
 ///
 /// # Errors
 ///
-/// The outer one only when an allocation fails, the inner one for conflicts. The mappings are dropped then.
+/// The outer error is an allocation failure, the inner one has the conflicts. The mappings are dropped then.
 pub fn validated<M: AsMapping + Drop>(
     alloc: Global,
     specs: &[RefSpecRef<'_>],

@@ -8,9 +8,9 @@ use std::alloc::{AllocError, Global};
 use std::collections::BTreeSet;
 use std::marker::Model;
 
-/// Ids in the order in which they came first, each once.
+/// Ids without repeats, in the order in which they were added first.
 ///
-/// They are found in a set, so n ids cost n log n, whoever chose them.
+/// They are looked up in a set, so n ids cost n log n, whoever chose them.
 #[derive(Debug, Drop)]
 pub(crate) struct DistinctIds {
     ids: Vec<ObjectId>,
@@ -29,7 +29,7 @@ impl Model for DistinctIds {
     ghost invariant = { λ a. IsIndex a.seen.keys a.ids.items };
 }
 
-// Adds an id at the end, unless it is there.
+// Appends an id, unless the set has it.
 fn insert_once(
     ids: &mut Vec<ObjectId>,
     seen: &mut BTreeSet<ObjectId>,
@@ -54,7 +54,7 @@ fn insert_once(
 }
 
 impl DistinctIds {
-    /// No ids.
+    /// Creates an empty list of distinct ids.
     pub fn new(alloc: Global) -> DistinctIds
         ensures { result ≡ [] }
     {
@@ -64,7 +64,7 @@ impl DistinctIds {
         }
     }
 
-    /// Adds an id at the end, unless it is there.
+    /// Appends an id, unless it is among the ids.
     pub fn insert(&mut self, id: ObjectId) -> Result<(), AllocError>
         ensures ok { OnOk result (self.new ≡ keeping self.old id) }
         ensures err { OnErr result (self.new ≡ self.old) }
@@ -72,7 +72,7 @@ impl DistinctIds {
         insert_once(&mut self.ids, &mut self.seen, id)
     }
 
-    /// The ids, in order.
+    /// Lends the ids in the order in which they were added.
     pub fn as_slice(&self) -> &[ObjectId]
         ensures { result.now ≡ self.now }
     {

@@ -19,7 +19,6 @@ use gix_protocol::transport::{Body, Discard, Interrupt, NeverInterrupt, ObjectId
 use std::alloc::{AllocError, Global};
 use std::io::Write;
 
-// The error of a refspec for which an allocation failed.
 fn spec_memory() -> PlanError
     ensures { IsPlanMemory (codes "spec") result }
 {
@@ -29,7 +28,6 @@ fn spec_memory() -> PlanError
     }
 }
 
-// The texts of refspecs, each a word, in their order.
 pub(crate) fn spec_texts(alloc: Global, words: &[String]) -> Result<Vec<BString>, PlanError>
     ensures texts { IfOk result (λ texts. map bstring_bytes texts.items ≡ map string_bytes words.now) }
     ensures refused { IfErr result (IsPlanMemory (codes "spec")) }
@@ -48,7 +46,7 @@ pub(crate) fn spec_texts(alloc: Global, words: &[String]) -> Result<Vec<BString>
     Ok(texts)
 }
 
-// Writes the plan over these bodies and haves, by these refspecs, of a client that has no objects.
+// Writes the plan of a client without objects.
 pub(crate) fn write_plan<'a, W: Write>(
     alloc: Global,
     bodies: Vec<Body>,

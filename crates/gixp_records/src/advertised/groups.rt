@@ -1,4 +1,4 @@
-//! The groups of an advertisement's lines: a ref line, and maybe its peeled line (gitprotocol-pack, "Reference Discovery").
+//! The refs of an advertisement: a ref line and, for a tag, its peeled line (gitprotocol-pack, "Reference Discovery").
 ghost use Rattle.std.specs.Prelude.{◌≡◌, ◌==◌, ◌≤◌, Some, Ok, All, IfOk, IfSome, MatchResult, length, map};
 ghost use Rattle.std.specs.Option.{option_map};
 ghost use Rattle.gixp_refs.specs.RefAdvertisement.{pair, single};
@@ -18,40 +18,39 @@ use crate::packets::{NextPacket, PacketRefused, next_packet};
 use crate::refs::{NO_ID, RefRecord};
 use crate::span::{Span, text_at};
 
-// What comes next.
 #[derive(Clone, Copy)]
 pub(crate) enum NextAdvertised {
-    // A line, and the place after it.
+    // A line, and the offset after it.
     Line(AdvertisedLine, usize),
-    // A stop, and the place after it.
+    // A stop, and the offset after it.
     Stop(usize),
 }
 
-// How far the lines were read.
+// The position of the reader.
 #[derive(Clone, Copy)]
 pub(crate) struct Reach {
-    // The place of the next line.
+    // The offset of the next line.
     pub(crate) at: usize,
-    // The place of the ref line that is open, or before all lines after the last ref.
+    // The offset of the last ref line while its peeled line may still follow, otherwise the offset after the last ref.
     pub(crate) place: usize,
-    // The ref line after which a peeled one may stand.
+    // That ref line.
     pub(crate) last: Option<NamedLine>,
 }
 
-// What one more line made.
+// The result of reading one more line.
 #[derive(Clone, Copy)]
 pub(crate) enum Step {
-    // Nothing yet.
+    // No complete ref, and the new position.
     On(Reach),
-    // A ref.
+    // A complete ref, and the new position.
     Record(RefRecord, Reach),
-    // The last ref, and the place after the stop.
+    // The last ref, and the offset after the stop.
     Last(RefRecord, usize),
-    // Nothing: it is the stop, and the place is after it.
+    // The stop without another ref, and the offset after it.
     Stop(usize),
 }
 
-// The record of a ref line alone.
+// The record of a ref line without a peeled line.
 #[inline(always)]
 fn single_record(bytes: &[u8], symrefs: &[SymrefSpan], named: NamedLine) -> RefRecord
     requires symrefs { All (IsSymrefWithin bytes.now) symrefs.now }
@@ -82,7 +81,7 @@ fn single_record(bytes: &[u8], symrefs: &[SymrefSpan], named: NamedLine) -> RefR
     }
 }
 
-// The record of a ref line and the peeled line after it.
+// The record of a ref line and its peeled line.
 #[inline(always)]
 fn pair_record(
     bytes: &[u8],
@@ -125,7 +124,7 @@ fn pair_record(
     }
 }
 
-// Where the payload of a line stands: the first ref line is cut before its capabilities.
+// The span of a line. The first ref line ends before its capabilities.
 #[inline(always)]
 fn cut_first(opening: &RefsOpening, at: usize, payload: Span) -> Span
     ensures { result ≡ cut_span (at == opening.now.first) opening.now.cut payload }
@@ -140,7 +139,7 @@ fn cut_first(opening: &RefsOpening, at: usize, payload: Span) -> Span
     }
 }
 
-// The line at this place.
+// The line at an offset.
 #[inline(always)]
 fn next_advertised(
     bytes: &[u8],
@@ -169,7 +168,7 @@ fn next_advertised(
     }
 }
 
-// One more line, which isn't the stop.
+// Adds a line, which isn't the stop.
 #[inline(always)]
 fn add_line(
     bytes: &[u8],
@@ -219,7 +218,7 @@ fn add_line(
     }
 }
 
-// One more line, or the stop.
+// Reads one more line or the stop.
 #[inline(always)]
 pub(crate) fn read_step(
     bytes: &[u8],

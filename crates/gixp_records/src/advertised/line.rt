@@ -1,4 +1,4 @@
-//! A line of an advertisement under version 0 or 1, of which nothing is copied (gitprotocol-pack, "Reference Discovery").
+//! One line of a version 0 or 1 advertisement, as spans (gitprotocol-pack, "Reference Discovery").
 ghost use Rattle.std.specs.Prelude.{◌≡◌, ◌==◌, Ok, MatchResult, IfOk};
 ghost use Rattle.std.specs.List.{list_all};
 ghost use Rattle.gixp_refs.specs.RefLine.{id_value};
@@ -11,22 +11,20 @@ use crate::line::{id_in, trimmed};
 use crate::span::{Span, cut_at, text_at};
 use gixp_hash::ObjectId;
 
-// A ref line.
 #[derive(Clone, Copy)]
 pub(crate) struct NamedLine {
     pub(crate) object: ObjectId,
     pub(crate) name: Span,
 }
 
-// What a line is.
 #[derive(Clone, Copy)]
 pub(crate) enum AdvertisedLine {
-    // It only carries the capabilities.
+    // The line `capabilities^{}` of an empty repository.
     Nothing,
-    // What a tag leads to.
+    // A peeled line: the id and the name before `^{}`.
     Peeled { left: Span, base: Span },
     Named(NamedLine),
-    // A commit of the server's boundary.
+    // A commit of the server's shallow boundary.
     Shallow(ObjectId),
 }
 
@@ -37,7 +35,7 @@ fn is_zeros(text: &[u8]) -> bool
     text.iter().all(|byte| *byte == b'0')
 }
 
-// A line whose path ends in `^{}`.
+// A line whose name ends in `^{}`.
 #[inline(always)]
 fn peeled_line(bytes: &[u8], left: Span, base: Span) -> AdvertisedLine
     requires left { IsWithin bytes.now left }
@@ -62,7 +60,7 @@ pub(crate) fn read_id(text: &[u8]) -> Result<ObjectId, AdvertisedLineRefused>
     }
 }
 
-// A line whose path ends otherwise.
+// A line whose name doesn't end in `^{}`.
 #[inline(always)]
 fn read_plain(bytes: &[u8], left: Span, path: Span) -> Result<AdvertisedLine, AdvertisedLineRefused>
     requires left { IsWithin bytes.now left }
@@ -107,7 +105,6 @@ fn read_path(bytes: &[u8], left: Span, path: Span) -> Result<AdvertisedLine, Adv
     }
 }
 
-// What a line is, or why it is none.
 #[inline(always)]
 pub(crate) fn read_advertised_line(
     bytes: &[u8],

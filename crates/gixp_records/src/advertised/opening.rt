@@ -1,4 +1,4 @@
-//! What a server says up to its first ref line (gitprotocol-pack, "Reference Discovery" and "Extra Parameters").
+//! The start of an advertisement, up to its first ref line (gitprotocol-pack, "Reference Discovery" and "Extra Parameters").
 ghost use Rattle.std.specs.Prelude.{◌≡◌, ◌≤◌, None, MatchResult, length};
 ghost use Rattle.gixp_packetline.specs.Items.{is_stop};
 ghost use Rattle.gixp_capabilities.specs.Capabilities.{capabilities_of_line};
@@ -14,7 +14,7 @@ use crate::span::{Span, cut_at, text_at};
 use bstr::ByteSlice;
 use gixp_packetline::{MessageKind, Protocol};
 
-// Which version a first line names.
+// The version that the first line names.
 #[derive(Clone, Copy)]
 pub(crate) enum NamedVersion {
     One,
@@ -23,24 +23,23 @@ pub(crate) enum NamedVersion {
     Unnamed,
 }
 
-// Where the refs of an advertisement begin.
+// The start of the refs of an advertisement.
 #[derive(Clone, Copy)]
 pub(crate) struct RefsOpening {
     pub(crate) version: Protocol,
-    // The place of the first ref line.
+    // The offset of the first ref line.
     pub(crate) first: usize,
-    // How long that is without its capabilities.
+    // Its length without the capabilities.
     pub(crate) cut: usize,
-    // Where they stand.
+    // The span of the capabilities.
     pub(crate) capabilities: Span,
 }
 
-// What a server said first.
 #[derive(Clone, Copy)]
 pub(crate) enum Opened {
     // A first ref line.
     Refs(RefsOpening),
-    // A stop in its place, and the place after the stop.
+    // A stop instead of a ref line, and the offset after it.
     Empty(usize),
 }
 
@@ -60,7 +59,7 @@ fn named_version(line: &[u8]) -> NamedVersion
     NamedVersion::Unnamed
 }
 
-// Whether a reader of this version stops there.
+// Whether a packet is a stop under this version.
 #[inline(always)]
 pub(crate) fn is_stop(version: Protocol, kind: MessageKind) -> bool
     ensures { result ≡ is_stop version kind }
@@ -71,7 +70,7 @@ pub(crate) fn is_stop(version: Protocol, kind: MessageKind) -> bool
     }
 }
 
-// A first ref line, by where its capabilities stand.
+// Splits a first ref line at its capabilities.
 fn cut_ref_line(
     bytes: &[u8],
     version: Protocol,
@@ -94,7 +93,7 @@ fn cut_ref_line(
     }
 }
 
-// The first ref line of version 0 or 1, which stands at a place.
+// Reads the first ref line of version 0 or 1 at an offset.
 fn open_ref_line(bytes: &[u8], version: Protocol, at: usize) -> Result<Opened, AdvertisedRefused>
     requires { at ≤ length bytes.now }
     ensures { IsOpened bytes.now (from_ref_line version (pieces_at bytes.now at)) result }
@@ -115,7 +114,7 @@ fn open_ref_line(bytes: &[u8], version: Protocol, at: usize) -> Result<Opened, A
     }
 }
 
-// What a server said first, whose first line is this one.
+// Reads the start of an advertisement whose first line is this one.
 fn open_first_line(bytes: &[u8], line: Span, next: usize) -> Result<Opened, AdvertisedRefused>
     requires line { IsWithin bytes.now line }
     requires next { next ≤ length bytes.now }
@@ -130,7 +129,6 @@ fn open_first_line(bytes: &[u8], line: Span, next: usize) -> Result<Opened, Adve
     }
 }
 
-// What a server said first.
 pub(crate) fn open_advertisement(bytes: &[u8]) -> Result<Opened, AdvertisedRefused>
     ensures { IsOpened bytes.now (advertisement (pieces_at bytes.now 0)) result }
 {

@@ -1,31 +1,31 @@
-//! Why an advertisement's refs aren't read.
+//! The errors of reading an advertisement's refs.
 use crate::packets::PacketRefused;
 
-/// Why no more refs of an advertisement were read.
+/// The error of reading an advertisement's refs.
 #[derive(Clone, Copy, Debug, PartialEq, Eq)]
 pub enum AdvertisedRefused {
-    /// No packet line comes next.
+    /// The packet line can't be read.
     Packet(PacketRefused),
-    /// A line stands for no ref, or not where it is; or a capability for no symref.
+    /// A line is malformed or out of place, or a capability `symref` is malformed.
     Line(AdvertisedLineRefused),
-    /// The first ref line has no NUL, after which the capabilities would stand.
+    /// The first ref line has no NUL, which precedes the capabilities.
     NoCapabilities,
-    /// The server speaks version 2: it lists its refs where it is asked for them.
+    /// The server speaks version 2. It lists its refs only for the command `ls-refs`.
     VersionTwo,
-    /// The server speaks a version that isn't known.
+    /// The server speaks an unknown version.
     UnknownVersion,
     /// An allocation failed.
     Memory,
 }
 
-/// Why a line of an advertisement can't be read.
+/// The error of reading a line of an advertisement.
 #[derive(Clone, Copy, Debug, PartialEq, Eq)]
 pub enum AdvertisedLineRefused {
-    /// What should be an object id is none.
+    /// The object id is invalid.
     Id,
-    /// The line lacks its name.
+    /// The line has no name.
     Malformed,
-    /// A peeled line without the ref line of its name right before it, or after the ref line of a symref.
+    /// A peeled line doesn't follow the ref line of its name, or that ref is symbolic.
     Peeled,
     /// The value of a capability `symref` isn't a name, a colon and a target.
     Symref,

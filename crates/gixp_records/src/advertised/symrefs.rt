@@ -1,4 +1,4 @@
-//! The refs that name other refs, as the capabilities of a first ref line have them (gitprotocol-capabilities, "symref").
+//! The symbolic refs in the capabilities of a first ref line (gitprotocol-capabilities, "symref").
 ghost use Rattle.std.specs.Prelude.{◌≡◌, Ok, All, IfOk, IfSome, MatchResult, map};
 ghost use Rattle.std.specs.Option.{option_map};
 ghost use Rattle.gixp_capabilities.specs.Capabilities.{capability_of, capabilities_of_words};
@@ -13,14 +13,14 @@ use crate::line::is_null;
 use crate::span::{Span, cut_at, text_at};
 use std::alloc::Global;
 
-// A ref that names another one, and the name of the other, where it is there.
+// A symbolic ref, and its target if the server names one.
 #[derive(Clone, Copy)]
 pub(crate) struct SymrefSpan {
     pub(crate) name: Span,
     pub(crate) target: Option<Span>,
 }
 
-// The symref of a value of a capability `symref`.
+// Parses the value of a capability `symref`.
 fn read_value(bytes: &[u8], value: Span) -> Result<SymrefSpan, AdvertisedLineRefused>
     requires { IsWithin bytes.now value }
     ensures value { MatchResult result
@@ -48,7 +48,7 @@ fn read_value(bytes: &[u8], value: Span) -> Result<SymrefSpan, AdvertisedLineRef
     })
 }
 
-// The symref of a capability, if it is one that has a value.
+// Parses a capability. Returns `None` unless it is a `symref` with a value.
 fn read_symref(bytes: &[u8], word: Span) -> Result<Option<SymrefSpan>, AdvertisedLineRefused>
     requires { IsWithin bytes.now word }
     ensures value { MatchResult result
@@ -69,7 +69,7 @@ fn read_symref(bytes: &[u8], word: Span) -> Result<Option<SymrefSpan>, Advertise
     }
 }
 
-// The symrefs of a first ref line's capabilities, in their order.
+// The symbolic refs in the capabilities of a first ref line, in order.
 pub(crate) fn read_symrefs(
     alloc: Global,
     bytes: &[u8],
@@ -98,7 +98,6 @@ pub(crate) fn read_symrefs(
     Ok(found)
 }
 
-// The first symref of a name.
 #[inline(always)]
 pub(crate) fn find_symref(bytes: &[u8], symrefs: &[SymrefSpan], name: &[u8]) -> Option<SymrefSpan>
     requires { All (IsSymrefWithin bytes.now) symrefs.now }

@@ -1,4 +1,4 @@
-//! A mapping as matching reads it.
+//! The parts of a mapping that matching reads.
 ghost use Rattle.std.specs.Prelude.{◌≡◌, IfOk};
 ghost use Rattle.std.specs.Option.{option_map};
 ghost use Rattle.bstr.specs.Owned.{bstring_bytes};
@@ -34,7 +34,6 @@ impl AsMapping for Mapping {
     }
 }
 
-// The source.
 fn source_key(source: &Source) -> KeySource<'_>
     ensures { key_source result ≡ taken_from source.now }
 {
@@ -48,7 +47,6 @@ fn source_key(source: &Source) -> KeySource<'_>
     }
 }
 
-// The local name, where there is one.
 fn local_key(local: &Option<BString>) -> Option<KeyBytes<'_>>
     ensures { option_map key_bytes result ≡ option_map bstring_bytes local.now }
 {
@@ -60,7 +58,6 @@ fn local_key(local: &Option<BString>) -> Option<KeyBytes<'_>>
     }
 }
 
-// A copy of the name of a ref.
 fn name_of(found: &Ref) -> Result<BString, AllocError>
     ensures { IfOk result (λ name. bstring_bytes name ≡ unpacked_name found.now) }
 {
@@ -72,7 +69,7 @@ fn name_of(found: &Ref) -> Result<BString, AllocError>
     }
 }
 
-// The number in the place of a refspec.
+// The number in the index of a refspec.
 pub(crate) fn number(place: SpecIndex) -> usize
     ensures { result ≡ place_number place }
 {

@@ -1,4 +1,4 @@
-//! The mappings of places: of copies of the refs, or of the refs themselves.
+//! Makes mappings from places, with copies of the refs or with the refs themselves.
 ghost use Rattle.std.specs.Prelude.{◌≡◌, ◌<◌, ◌∷◌, ◌++◌, IfOk, IfSome, IsSome, IsTrue, List, Option, ℕ, [], length, map, reverse, take};
 ghost use Rattle.std.specs.Option.{option_map};
 ghost use Rattle.std.specs.List.{AllByRecursion, AllZip, slice_get};
@@ -14,7 +14,7 @@ use gixp_matching::match_group::{MatchGroup, Place};
 use gixp_refs::handshake::Ref;
 use std::alloc::{AllocError, Global};
 
-// The mapping of a ref by the refspec at a place.
+// The mapping of a ref by the refspec at this index.
 #[inline(always)]
 fn of_ref(
     alloc: Global,
@@ -35,7 +35,7 @@ fn of_ref(
     })
 }
 
-// The mapping of the id that the refspec at a place names.
+// The mapping of the id that the refspec at this index names.
 fn of_id(alloc: Global, group: &MatchGroup<'_>, spec_index: usize) -> Result<Mapping, AllocError>
     requires { IsSome (id_for (slice_get (group_specs group.now) spec_index)) }
     ensures remote { IfOk result (λ x. (id : Id) × (x.remote ≡ Source.ObjectId id)
@@ -55,7 +55,7 @@ fn of_id(alloc: Global, group: &MatchGroup<'_>, spec_index: usize) -> Result<Map
     })
 }
 
-// The mapping of a place, of a copy of its ref.
+// The mapping at a place, with a copy of its ref.
 fn copied_one(
     alloc: Global,
     group: &MatchGroup<'_>,
@@ -71,7 +71,7 @@ fn copied_one(
     }
 }
 
-// The mappings of the places, of copies of the refs.
+// The mappings at the places, with copies of the refs.
 pub(crate) fn copied(
     alloc: Global,
     group: &MatchGroup<'_>,
@@ -88,7 +88,7 @@ pub(crate) fn copied(
     Ok(made)
 }
 
-// Takes the ref at a place off a list, which loses those behind it.
+// Takes the ref at this index out of the list, and drops those after it.
 #[inline(always)]
 fn take_ref(refs: &mut Vec<Ref>, index: usize) -> Ref
     requires { index < length refs.old.items }
@@ -102,7 +102,7 @@ fn take_ref(refs: &mut Vec<Ref>, index: usize) -> Ref
     found
 }
 
-// The mapping of a place, of its ref, which leaves the list with those behind it.
+// The mapping at a place, with its ref, which leaves the list; those after it are dropped.
 #[inline(always)]
 fn moved_one(
     alloc: Global,
@@ -120,10 +120,10 @@ fn moved_one(
     }
 }
 
-// How many places or refs are taken off between two times that memory is given back.
+// How many places or refs are taken before their memory is freed.
 pub(crate) const FREED_AT_ONCE: usize = 4_096;
 
-// Gives back the memory of places and refs that were taken.
+// Frees the memory of places and refs that were taken.
 fn give_back(places: &mut Vec<Place>, refs: &mut Vec<Ref>)
     ensures places { places.new.items ≡ places.old.items }
     ensures refs { refs.new.items ≡ refs.old.items }
@@ -134,8 +134,8 @@ fn give_back(places: &mut Vec<Place>, refs: &mut Vec<Ref>)
     }
 }
 
-// The mappings of the places, of the refs themselves. Places and refs are freed on the way, so that a long list isn't held
-// twice.
+// The mappings at the places, with the refs themselves. Places and refs are freed on the way, so a long list isn't
+// in memory twice.
 fn moved(
     alloc: Global,
     group: &MatchGroup<'_>,
@@ -155,7 +155,7 @@ fn moved(
     Ok(made)
 }
 
-// How many refs are left where one of so many is taken with those behind it; none where it isn't among them.
+// How many refs are left once this one of so many is taken and those after it are dropped. None where it isn't one of them.
 fn left_of(count: usize, item_index: Option<usize>) -> Option<usize>
     ensures { IfSome result (λ left. (items : List (Option ℕ)) → Falls left items → Falls count (item_index ∷ items)) }
 {
@@ -166,7 +166,7 @@ fn left_of(count: usize, item_index: Option<usize>) -> Option<usize>
     }
 }
 
-// Whether the refs of the places are among so many, and each stands behind those of the places before it.
+// Whether the refs of the places are among so many, and each comes after the refs of the places before it.
 fn are_in_order(count: usize, places: &[Place]) -> bool
     ensures { IsTrue result → Falls count (map (λ p. p.item_index) (reverse places.now)) }
 {
@@ -182,8 +182,8 @@ fn are_in_order(count: usize, places: &[Place]) -> bool
     true
 }
 
-// The mappings of the places, of the refs themselves where each is mapped once at most and in the order of the list, else of
-// copies.
+// The mappings at the places, with the refs themselves where each is mapped at most once and in the order of the
+// list, else with copies.
 pub(crate) fn moved_or_copied(
     alloc: Global,
     group: &MatchGroup<'_>,

@@ -1,4 +1,4 @@
-//! How the mappings of a ref map are made.
+//! Makes the mappings of a ref map.
 ghost use Rattle.std.specs.Prelude.{◌≡◌, ◌++◌, IfOk, OnOk, IsSome, List, length, map};
 ghost use Rattle.std.specs.List.{AllByRecursion, AllZip};
 ghost use Rattle.gixp_refs.specs.Ref.{RefValue, ref_value};
@@ -22,7 +22,7 @@ use gixp_refs::handshake::Ref;
 use gixp_refspec::{RefSpec, RefSpecRef};
 use std::alloc::{AllocError, Global};
 
-// Appends the refspecs.
+// Appends the refspecs, borrowed.
 fn push_specs<'s>(out: &mut Vec<RefSpecRef<'s>>, specs: &'s [RefSpec]) -> Result<(), AllocError>
     ensures { OnOk result (map value_of out.new.items ≡ map value_of out.old.items ++ map owned_value_of specs.now) }
 {
@@ -46,7 +46,7 @@ fn all_specs<'s>(
     Ok(specs)
 }
 
-// A ref, as it is matched.
+// The parts of a ref that are matched.
 fn item<'a>(found: &'a Ref, null: &'a ObjectId) -> Item<'a>
     ensures name { name_of result ≡ value_name (ref_value found.now) }
     ensures value { item_value result ≡ item_of null.now found.now }
@@ -59,7 +59,7 @@ fn item<'a>(found: &'a Ref, null: &'a ObjectId) -> Item<'a>
     }
 }
 
-// The refs, as they are matched.
+// The parts of the refs that are matched.
 fn items<'a>(
     alloc: Global,
     refs: &'a [Ref],
@@ -75,7 +75,6 @@ fn items<'a>(
     Ok(items)
 }
 
-// The places of the mappings.
 fn places_of(alloc: Global, group: &MatchGroup<'_>, refs: &[Ref]) -> Result<Vec<Place>, AllocError>
     ensures places { IfOk result (λ places. map place_value places.items
         ≡ map place_of (repeated (group_specs group.now) (value_names (map ref_value refs.now)))) }
@@ -89,7 +88,7 @@ fn places_of(alloc: Global, group: &MatchGroup<'_>, refs: &[Ref]) -> Result<Vec<
     Ok(places)
 }
 
-// The place of a refspec.
+// The index of a refspec in its own list.
 fn place(explicit: usize, index: usize) -> SpecIndex
     ensures { result ≡ spec_place explicit index }
 {
@@ -100,7 +99,7 @@ fn place(explicit: usize, index: usize) -> SpecIndex
     }
 }
 
-// Gives each mapping the place of its refspec in its own list.
+// Changes the index of each mapping's refspec to the one in its own list.
 fn put_in_lists(explicit: usize, mappings: &mut Vec<Mapping>)
     ensures { mappings.new.items ≡ map (in_its_list explicit) mappings.old.items }
 {
@@ -109,7 +108,7 @@ fn put_in_lists(explicit: usize, mappings: &mut Vec<Mapping>)
     }
 }
 
-// The first of equal mappings, validated, each with the place of its refspec in its own list.
+// Keeps the first of equal mappings, validates them, and changes the index of each refspec to the one in its own list.
 fn finished(
     alloc: Global,
     specs: &[RefSpecRef<'_>],
@@ -128,7 +127,7 @@ fn finished(
     Ok((mappings, fixes))
 }
 
-// The mappings of copies of the refs and the notes on those that were taken out, or why there are none.
+// The mappings with copies of the refs, and the fixes for those that were removed.
 pub(crate) fn find_mappings(
     alloc: Global,
     refs: &[Ref],
@@ -150,7 +149,7 @@ pub(crate) fn find_mappings(
     finished(alloc, &specs, explicit.len(), made)
 }
 
-// The mappings of the refs themselves, by the places of all mappings.
+// The mappings with the refs themselves, from the places of all mappings.
 fn made_of_places(
     alloc: Global,
     group: &MatchGroup<'_>,
@@ -163,7 +162,7 @@ fn made_of_places(
     moved_or_copied(alloc, group, places, refs)
 }
 
-// The same, with no places where one refspec makes all mappings.
+// The mappings with the refs themselves. Without places where one refspec makes all mappings.
 fn made_of_refs(
     alloc: Global,
     group: &MatchGroup<'_>,
@@ -178,7 +177,7 @@ fn made_of_refs(
     }
 }
 
-// The same of the refs themselves: those that are mapped move into the mappings.
+// The mappings with the refs themselves, which move into them, and the fixes for those that were removed.
 pub(crate) fn move_mappings(
     alloc: Global,
     refs: Vec<Ref>,

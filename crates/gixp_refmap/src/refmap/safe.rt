@@ -1,11 +1,11 @@
-//! Which mappings have local names that are safe.
+//! Selects mappings by whether their local name is safe.
 ghost use Rattle.std.specs.Prelude.{◌≡◌, [], ◌∷◌, ◌++◌, filter, IfOk, OnOk};
 ghost use Rattle.gixp_refmap.specs.SafeNames.{is_of_safety, pointed_to};
 
 use crate::refmap::mapping::Mapping;
 use std::alloc::{AllocError, Global};
 
-// Appends the mapping, if its local name is safe or, where the others are asked for, isn't.
+// Appends the mapping, if its local name is safe or, with `false`, if it isn't.
 fn push_of_safety<'a>(
     found: &mut Vec<&'a Mapping>,
     mapping: &'a Mapping,
@@ -19,7 +19,7 @@ fn push_of_safety<'a>(
     Ok(())
 }
 
-// The mappings whose local name is safe, or the others.
+// The mappings whose local name is safe or, with `false`, the others.
 pub(crate) fn of_safety<'a>(
     alloc: Global,
     mappings: &'a [Mapping],

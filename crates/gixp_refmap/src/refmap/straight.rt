@@ -1,4 +1,4 @@
-//! The mappings of refs that one refspec alone maps: each ref is compared with it and moved, with no list of places.
+//! The mappings of refs by a single refspec: each ref is compared with it and moved, without a list of places.
 ghost use Rattle.std.specs.Prelude.{◌≡◌, ◌++◌, IfOk, List, OnOk, map, option_to_list};
 ghost use Rattle.std.specs.List.{AllZip};
 ghost use Rattle.gixp_refs.specs.Ref.{ref_value};
@@ -14,7 +14,7 @@ use gixp_matching::match_group::single::Single;
 use gixp_refs::handshake::Ref;
 use std::alloc::{AllocError, Global};
 
-// The mapping of a ref, where the refspec maps it.
+// The mapping of a ref, if the refspec maps it.
 #[inline(always)]
 fn of_ref(alloc: Global, single: &Single<'_>, found: Ref) -> Result<Option<Mapping>, AllocError>
     requires { (specs : List Spec) × IsSingle specs single.now }
@@ -30,7 +30,7 @@ fn of_ref(alloc: Global, single: &Single<'_>, found: Ref) -> Result<Option<Mappi
     }
 }
 
-// Appends the mapping of a ref, where there is one.
+// Appends a mapping, if there is one.
 #[inline(always)]
 fn push_one(made: &mut Vec<Mapping>, one: Option<Mapping>) -> Result<(), AllocError>
     ensures { OnOk result (made.new.items ≡ made.old.items ++ option_to_list one) }
@@ -41,7 +41,7 @@ fn push_one(made: &mut Vec<Mapping>, one: Option<Mapping>) -> Result<(), AllocEr
     Ok(())
 }
 
-// Gives back the memory of refs that were taken.
+// Frees the memory of refs that were taken.
 fn give_back(refs: &mut Vec<Ref>)
     ensures { refs.new.items ≡ refs.old.items }
 {
@@ -50,7 +50,7 @@ fn give_back(refs: &mut Vec<Ref>)
     }
 }
 
-// The mappings of the refs by the one refspec that makes all mappings, in the order of the list.
+// The mappings of the refs by the single refspec that makes all mappings, in the order of the list.
 pub(crate) fn straight(
     alloc: Global,
     single: &Single<'_>,

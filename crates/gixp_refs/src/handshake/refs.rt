@@ -1,4 +1,4 @@
-//! The refs of a server's answer.
+//! Reading the refs of a server.
 ghost use Rattle.std.specs.Prelude.{◌≡◌, MatchResult};
 ghost use Rattle.gixp_refs.specs.Refs.{NextRef, NextOfRefs, ReadsRefs, RefsFail};
 
@@ -18,14 +18,13 @@ pub use line::parse_v2;
 pub use symrefs::from_capabilities;
 pub use written::written_text;
 
-/// The next ref of an `ls-refs` answer, and none at the stop, for one who doesn't want to hold all refs
-/// (gitprotocol-v2, "ls-refs").
+/// Reads the next ref of an `ls-refs` response; `None` at a flush or delimiter packet (gitprotocol-v2, "ls-refs"). It
+/// suits callers that don't store all refs.
 ///
 /// # Errors
 ///
-/// The error of the line that came next, which is then taken, or of the reader, with what
-/// [`parse::Error`] says of it. After a line that was refused, or whose allocation failed, the
-/// next call goes on with the line after it.
+/// The error of the next line, which is then taken, or of the reader; [`parse::Error`] says what each leaves. After an
+/// error of a line, or an allocation failure for it, the next call goes on with the line after it.
 #[inline(always)]
 pub fn next_v2_ref<R: ExtendedBufRead>(
     alloc: Global,
@@ -47,15 +46,14 @@ pub fn next_v2_ref<R: ExtendedBufRead>(
     }
 }
 
-/// The refs of an `ls-refs` answer: of the lines up to the stop, in their order (gitprotocol-v2,
-/// "ls-refs").
+/// Reads the refs of an `ls-refs` response: those of the lines up to a flush or delimiter packet, in their order
+/// (gitprotocol-v2, "ls-refs").
 ///
-/// The reader is then at the stop. A reader that is at one already gives no refs.
+/// The reader is then at that packet. If it is at one already, there are no refs.
 ///
 /// # Errors
 ///
-/// The first refusal, of a line or of the reader after the lines, with what [`parse::Error`] says
-/// of it. Beside one no ref is given.
+/// The first error of a line or of the reader; [`parse::Error`] says what each leaves. No ref is returned with an error.
 pub fn from_v2_refs<R: ExtendedBufRead>(
     alloc: Global,
     in_refs: &mut R,

@@ -1,4 +1,4 @@
-//! What is asked for of what a server offers.
+//! The features that a client requests of those that a server offers.
 ghost use Rattle.std.specs.Prelude.{◌≡◌, [], ◌∷◌, ◌++◌, map, filter, OnOk, IfOk};
 ghost use Rattle.std.specs.Option.{option_copied};
 ghost use Rattle.gixp_requests.specs.Feature.{feature_values};
@@ -14,7 +14,6 @@ impl CommandTable {
     ghost use Rattle.gixp_requests.specs.Command.{table_of};
     ghost use Rattle.gixp_requests.specs.Offers.{v2_words, default_features};
 
-    // The features of the command under version 2.
     fn v2_words(&self, command: Command) -> &'static [&'static str]
         ensures { words_of result.now ≡ v2_words (table_of self.now) command }
     {
@@ -24,17 +23,15 @@ impl CommandTable {
         }
     }
 
-    /// The features that a client asks for by itself, of those that the server offers, in the order
-    /// of the table and without values.
+    /// The features that a client requests by default, of those that the server offers: without values, in the order of the table.
     ///
-    /// Under version 2 the server offers the words of the value of the command's capability
-    /// (gitprotocol-v2, "Command Request"). Under versions 0 and 1 it offers its capabilities, an
-    /// entry isn't asked for beside the one that it names, and an `ls-refs`, which isn't there, has
-    /// none.
+    /// Under version 2 the server offers them in the value of the command's capability (gitprotocol-v2, "Command
+    /// Request"). Under versions 0 and 1 it offers them as capabilities. An entry that names another capability isn't
+    /// requested if the server has that one. `ls-refs` doesn't exist there, and has no features.
     ///
     /// # Errors
     ///
-    /// Only when an allocation fails.
+    /// Only an allocation failure.
     pub fn default_features(
         &self,
         alloc: Global,
@@ -55,7 +52,7 @@ impl CommandTable {
     }
 }
 
-// Whether the value of the command's capability has a word.
+// Whether the value of the command's capability has this word.
 pub(crate) fn supports(capabilities: &Capabilities, command: Command, word: &str) -> bool
     ensures { result ≡ supports capabilities.now command word.now }
 {
@@ -65,7 +62,7 @@ pub(crate) fn supports(capabilities: &Capabilities, command: Command, word: &str
     }
 }
 
-// Whether the capability that decides against an entry is there.
+// Whether the server has the capability that excludes an entry.
 fn has_other(capabilities: &Capabilities, other: Option<&'static str>) -> bool
     ensures { result ≡ has_other capabilities.now (option_copied other.entry) }
 {
@@ -75,14 +72,13 @@ fn has_other(capabilities: &Capabilities, other: Option<&'static str>) -> bool
     }
 }
 
-// Whether an entry is asked for.
+// Whether an entry is requested.
 fn is_offered(capabilities: &Capabilities, entry: &(&'static str, Option<&'static str>)) -> bool
     ensures { result ≡ is_offered capabilities.now (entry_of entry.now) }
 {
     capabilities.contains(entry.0.as_bytes()) && !has_other(capabilities, entry.1)
 }
 
-// Appends a feature without a value.
 fn push_feature(features: &mut Vec<Feature>, name: &'static str) -> Result<(), AllocError>
     ensures { OnOk result (feature_values features.new.items ≡ feature_values features.old.items ++ plain_feature name.now ∷ []) }
 {
@@ -90,7 +86,7 @@ fn push_feature(features: &mut Vec<Feature>, name: &'static str) -> Result<(), A
     Ok(())
 }
 
-// Appends a word that the command's capability has.
+// Appends a word if the command's capability has it.
 fn push_supported(
     features: &mut Vec<Feature>,
     word: &'static str,
@@ -123,7 +119,7 @@ fn supported(
     Ok(features)
 }
 
-// Appends the word of an entry that is asked for.
+// Appends the word of an entry if it is requested.
 fn push_offered(
     features: &mut Vec<Feature>,
     entry: &(&'static str, Option<&'static str>),
@@ -138,7 +134,7 @@ fn push_offered(
     Ok(())
 }
 
-// The words of the entries that are asked for.
+// The words of the entries that are requested.
 fn offered(
     alloc: Global,
     entries: &[(&'static str, Option<&'static str>)],

@@ -1,4 +1,4 @@
-//! What a client asks for of a server by itself.
+//! The features and arguments that a client requests by default.
 ghost use Rattle.std.specs.Prelude.{◌≡◌, [], ◌∷◌, ◌++◌, OnOk, IfOk};
 ghost use Rattle.std.specs.List.{list_any};
 ghost use Rattle.std.specs.Option.{option_copied};
@@ -10,27 +10,25 @@ use crate::command::{Command, Feature};
 use bstr::BString;
 use std::alloc::{AllocError, Global};
 
-/// What a client asks for of a server by itself, and what it may ask for (gitprotocol-v2,
+/// The features and arguments that a client requests by default, and the arguments that it may send (gitprotocol-v2,
 /// "ls-refs", "fetch"; gitprotocol-capabilities).
 ///
 /// Any lists are allowed.
 #[derive(Clone, Copy, Debug)]
 pub struct CommandTable {
-    /// The features of a `fetch` under versions 0 and 1: a name, and the capability beside which
-    /// it isn't asked for.
+    /// The features of `fetch` under versions 0 and 1: a name, and the capability that excludes it if the server has it.
     pub v1_fetch: &'static [(&'static str, Option<&'static str>)],
-    /// The features of a `fetch` under version 2.
+    /// The features of `fetch` under version 2.
     pub v2_fetch: &'static [&'static str],
-    /// The features of an `ls-refs` under version 2.
+    /// The features of `ls-refs` under version 2.
     pub v2_ls_refs: &'static [&'static str],
-    /// The argument lines that a `fetch` of version 2 begins with: a line, and the feature without
-    /// which it isn't sent.
+    /// The first argument lines of a `fetch` of version 2: a line, and the feature without which it isn't sent.
     pub fetch_arguments: &'static [(&'static str, Option<&'static str>)],
-    /// The argument lines that an `ls-refs` begins with.
+    /// The first argument lines of an `ls-refs`.
     pub ls_refs_arguments: &'static [&'static str],
-    /// What the arguments of a `fetch` may begin with.
+    /// The words that an argument of `fetch` may begin with.
     pub fetch_prefixes: &'static [&'static str],
-    /// What the arguments of an `ls-refs` may begin with.
+    /// The words that an argument of `ls-refs` may begin with.
     pub ls_refs_prefixes: &'static [&'static str],
 }
 
@@ -58,7 +56,7 @@ static FETCH_ARGUMENTS: [(&str, Option<&str>); 3] = [
 impl CommandTable {
     ghost use Rattle.gixp_requests.specs.Command.{table_of, git_table, initial_arguments};
 
-    /// The lists of git's own client, as far as this one follows it.
+    /// The lists of git's own client, as far as this one uses them.
     pub fn git() -> CommandTable
         ensures { table_of result ≡ git_table }
     {
@@ -88,11 +86,11 @@ impl CommandTable {
             ls_refs_prefixes: &["symrefs", "peel", "ref-prefix ", "unborn"],
         }
     }
-    /// The argument lines that a request of version 2 begins with, in the order of the table.
+    /// The first argument lines of a request of version 2, in the order of the table.
     ///
     /// # Errors
     ///
-    /// Only when an allocation fails.
+    /// Only an allocation failure.
     pub fn initial_v2_arguments(
         &self,
         alloc: Global,
@@ -108,7 +106,6 @@ impl CommandTable {
     }
 }
 
-// Appends a copy of a line.
 fn push_copy(alloc: Global, lines: &mut Vec<BString>, line: &str) -> Result<(), AllocError>
     ensures { OnOk result (texts lines.new ≡ texts lines.old ++ line.now ∷ []) }
 {
@@ -116,7 +113,6 @@ fn push_copy(alloc: Global, lines: &mut Vec<BString>, line: &str) -> Result<(), 
     Ok(())
 }
 
-// A copy of each word.
 fn copies(alloc: Global, words: &[&'static str]) -> Result<Vec<BString>, AllocError>
     ensures { IfOk result (λ lines. texts lines ≡ words_of words.now) }
 {
@@ -127,21 +123,19 @@ fn copies(alloc: Global, words: &[&'static str]) -> Result<Vec<BString>, AllocEr
     Ok(lines)
 }
 
-// Whether a feature of this name is among them.
 pub(crate) fn is_named(features: &[Feature], name: &str) -> bool
     ensures { result ≡ list_any (λ f. bytes_eq f.0.now name.now) features.now }
 {
     features.iter().any(|feature| feature.0 == name)
 }
 
-// Whether a feature of this name is among them.
 pub(crate) fn has_feature(features: &[Feature], name: &str) -> bool
     ensures { result ≡ has_feature name.now (feature_values features.now) }
 {
     is_named(features, name)
 }
 
-// Whether a line goes with the features.
+// Whether a line is sent with these features.
 fn goes_with(features: &[Feature], only_with: Option<&'static str>) -> bool
     ensures { result ≡ goes_with (feature_values features.now) (option_copied only_with.entry) }
 {
@@ -151,7 +145,7 @@ fn goes_with(features: &[Feature], only_with: Option<&'static str>) -> bool
     }
 }
 
-// Appends the line of an entry, if it goes with the features.
+// Appends the line of an entry if it is sent with these features.
 fn push_given(
     alloc: Global,
     lines: &mut Vec<BString>,
@@ -166,7 +160,7 @@ fn push_given(
     Ok(())
 }
 
-// The lines of the entries that go with the features.
+// The lines of the entries that are sent with these features.
 fn lines_with(
     alloc: Global,
     entries: &[(&'static str, Option<&'static str>)],

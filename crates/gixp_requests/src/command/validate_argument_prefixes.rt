@@ -1,4 +1,4 @@
-//! Whether a server offers what a request asks for.
+//! Whether a request is valid for a server.
 ghost use Rattle.std.specs.Prelude.{◌≡◌, map, find, nat_eq};
 ghost use Rattle.std.specs.List.{list_any, starts_with};
 ghost use Rattle.std.specs.Option.{option_copied, option_map};
@@ -15,10 +15,10 @@ use gixp_packetline::Protocol;
 use std::alloc::{AllocError, AllocFailed, Global};
 use thiserror::Error as DeriveError;
 
-/// Why a request isn't made: nothing of it is written.
+/// Why a request is invalid. Nothing of it is written.
 #[derive(Debug, Drop, DeriveError)]
 pub enum Error {
-    /// An argument begins with none of the words that a command's arguments may begin with.
+    /// An argument begins with none of the words that the command allows.
     #[error("UnsupportedArgument")]
     UnsupportedArgument {
         command: &'static str,
@@ -59,7 +59,7 @@ impl CommandTable {
     ghost use Rattle.gixp_requests.specs.Command.{table_of};
     ghost use Rattle.gixp_requests.specs.Offers.{prefixes_of, validation, AnswersRefusal};
 
-    // What the arguments of the command may begin with.
+    // The words that an argument of the command may begin with.
     fn prefixes(&self, command: Command) -> &'static [&'static str]
         ensures { words_of result.now ≡ prefixes_of (table_of self.now) command }
     {
@@ -69,15 +69,14 @@ impl CommandTable {
         }
     }
 
-    /// Tests what a request asks for: each argument begins with one of the words that the table
-    /// allows for the command; each feature is `agent`, or a capability of the server, or, under
-    /// version 2, a word of the value of the command's capability (gitprotocol-v2, "Command
-    /// Request").
+    /// Checks a request: each argument begins with a word that the table allows for the command. Each feature is
+    /// `agent`, a capability of the server, or under version 2 a word of the value of the command's capability
+    /// (gitprotocol-v2, "Command Request").
     ///
     /// # Errors
     ///
-    /// `UnsupportedArgument` for the first such argument, else `UnsupportedCapability` for the first
-    /// such feature. `Memory` where the argument can't be copied.
+    /// `UnsupportedArgument` for the first invalid argument, otherwise `UnsupportedCapability` for the first such
+    /// feature. `Memory` where the argument can't be copied.
     pub fn validate_argument_prefixes(
         &self,
         alloc: Global,
@@ -103,7 +102,7 @@ impl CommandTable {
     }
 }
 
-// The refusal of an argument.
+// The error of an argument.
 fn refuse_argument(alloc: Global, command: Command, argument: &BString) -> Error
     ensures { IsRefusedBy (bad_argument_of (command_name command) (bstring_bytes argument.now)) result }
 {
@@ -124,7 +123,6 @@ fn begins_with(prefixes: &[&'static str], argument: &[u8]) -> bool
         .any(|prefix| argument.starts_with(prefix.as_bytes()))
 }
 
-// Whether an argument begins with one of the words.
 fn begins_with_any(prefixes: &[&'static str], argument: &[u8]) -> bool
     ensures { result ≡ begins_with_any (words_of prefixes.now) argument.now }
 {
@@ -139,7 +137,7 @@ fn bad_argument<'a>(prefixes: &[&'static str], arguments: &'a [BString]) -> Opti
         .find(|argument| !begins_with_any(prefixes, argument.as_bytes()))
 }
 
-// The first argument that begins with none of the words.
+// The first argument that begins with none of these words.
 fn unsupported_argument<'a>(
     prefixes: &[&'static str],
     arguments: &'a [BString],
@@ -150,7 +148,7 @@ fn unsupported_argument<'a>(
     bad_argument(prefixes, arguments)
 }
 
-// Whether a feature may be asked for.
+// Whether a feature may be requested.
 fn may_ask(command: Command, version: Protocol, capabilities: &Capabilities, name: &str) -> bool
     ensures { result ≡ may_ask command version capabilities.now name.now }
 {
@@ -170,7 +168,7 @@ fn bad_feature<'a>(
     features.iter().find(|feature| !may_ask(command, version, capabilities, feature.0))
 }
 
-// The first feature that may not be asked for.
+// The first feature that may not be requested.
 fn unsupported_feature<'a>(
     command: Command,
     version: Protocol,

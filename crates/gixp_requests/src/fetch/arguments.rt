@@ -1,4 +1,4 @@
-//! What a request for a pack asks for.
+//! The arguments of a fetch request.
 ghost use Rattle.std.specs.Prelude.{◌≡◌, ◌↔◌, ◌<◌, ◌++◌, ◌||◌, true, false, length, codes, IsTrue, IfOk, OnOk, OnErr};
 ghost use Rattle.bstr.specs.BStr.{bstr_bytes};
 ghost use Rattle.bstr.specs.Owned.{bstring_bytes};
@@ -24,10 +24,10 @@ use line::{Line, has_want, push_have, push_line, text_lines};
 use messages::{send_command, send_upload, sent_features};
 use text::{features_text, joined, push_text, want_line};
 
-/// What the next request for a pack asks for: argument lines, and the objects that are there
-/// already (gitprotocol-v2, "fetch"; gitprotocol-pack, "Packfile Negotiation").
+/// The arguments of the next fetch request: argument lines, and the commits that the client has (gitprotocol-v2,
+/// "fetch"; gitprotocol-pack, "Packfile Negotiation").
 ///
-/// A call that adds a line, and is refused on an allocation failure, changes nothing.
+/// A call that adds a line and fails changes nothing. It fails only if an allocation does.
 #[derive(Debug, Drop)]
 pub struct Arguments {
     alloc: Global,
@@ -69,13 +69,13 @@ impl Arguments {
     ghost use Rattle.gixp_packetline.specs.FrameText.{texts_of};
     ghost use Rattle.gixp_wire.specs.Transport.{Sends};
 
-    /// Nothing yet, but for the lines of the table that go with the features under version 2.
+    /// A new request. Under version 2 it has the lines of the table that are sent with these features.
     ///
-    /// The features are what the server offers and the caller wants of it.
+    /// The features are those that the server offers and the caller wants to use.
     ///
     /// # Errors
     ///
-    /// Only when an allocation fails.
+    /// Only an allocation failure.
     pub fn new(
         alloc: Global,
         table: &CommandTable,
@@ -105,14 +105,12 @@ impl Arguments {
         })
     }
 
-    // One more line.
     fn push_line(&mut self, line: BString) -> Result<(), AllocError>
         ensures { Becomes result self.old (with_line (bstring_bytes line) self.old) self.new }
     {
         push_line(&mut self.lines, Line::Text(line))
     }
 
-    // One more line of two parts.
     fn push_joined(&mut self, front: &[u8], back: &[u8]) -> Result<(), AllocError>
         ensures { Becomes result self.old (with_line (front.now ++ back.now) self.old) self.new }
     {
@@ -120,7 +118,6 @@ impl Arguments {
         self.push_line(line)
     }
 
-    // The line of a want.
     fn want_line(&self, id: &ObjectId) -> Result<Line, AllocError>
         ensures { IfOk result (λ line. line_text line ≡ want_line (id_text id.now) self.now) }
     {
@@ -137,15 +134,14 @@ impl Arguments {
         Ok(Line::Text(want_line(self.alloc, id, &behind)?))
     }
 
-    /// Asks for an object, by the line `want <id>`.
+    /// Requests an object, by the line `want <id>`.
     ///
-    /// Under versions 0 and 1 the first such line also has the features, after a blank each:
-    /// those that were handed in, but `include-tag` and `deepen-relative` only where they were
-    /// turned on, and those that were added.
+    /// Under versions 0 and 1 the first such line also has the features, each after a blank: those passed to `new`, but
+    /// `include-tag` and `deepen-relative` only if they were turned on, and then those that were added.
     ///
     /// # Errors
     ///
-    /// Only when an allocation fails.
+    /// Only an allocation failure.
     pub fn want(&mut self, id: &ObjectId) -> Result<(), AllocError>
         ensures { Becomes result self.old (asks_want (id_text id.now) self.old) self.new }
     {
@@ -155,33 +151,33 @@ impl Arguments {
         Ok(())
     }
 
-    /// Asks for the object of a ref, by the line `want-ref <path>`.
+    /// Requests the object of a ref, by the line `want-ref <path>`.
     ///
     /// # Errors
     ///
-    /// Only when an allocation fails.
+    /// Only an allocation failure.
     pub fn want_ref(&mut self, path: BStr<'_>) -> Result<(), AllocError>
         ensures { Becomes result self.old (asks_want_ref (bstr_bytes path.entry) self.old) self.new }
     {
         self.push_joined(b"want-ref ", path.as_bytes())
     }
 
-    /// Says that an object is there already, by the line `have <id>` of the next request alone.
+    /// Names an object that the client has, by a line `have <id>` in the next request only.
     ///
     /// # Errors
     ///
-    /// Only when an allocation fails.
+    /// Only an allocation failure.
     pub fn have(&mut self, id: &ObjectId) -> Result<(), AllocError>
         ensures { Becomes result self.old (asks_have (id_text id.now) self.old) self.new }
     {
         push_have(&mut self.haves, *id)
     }
 
-    /// Says that a commit's parents aren't there, by the line `shallow <id>`.
+    /// Names a shallow commit of the client, by the line `shallow <id>`.
     ///
     /// # Errors
     ///
-    /// Only when an allocation fails.
+    /// Only an allocation failure.
     pub fn shallow(&mut self, id: &ObjectId) -> Result<(), AllocError>
         requires { can_use (codes "shallow") self.old ≡ true }
         ensures { Becomes result self.old (asks_shallow (id_text id.now) self.old) self.new }
@@ -189,11 +185,11 @@ impl Arguments {
         self.push_joined(b"shallow ", &id.to_hex())
     }
 
-    /// Asks for this many commits from each ref on, by the line `deepen <depth>`.
+    /// Requests this many commits from each ref, by the line `deepen <depth>`.
     ///
     /// # Errors
     ///
-    /// Only when an allocation fails.
+    /// Only an allocation failure.
     pub fn deepen(&mut self, depth: usize) -> Result<(), AllocError>
         requires { can_use (codes "shallow") self.old ≡ true }
         ensures { Becomes result self.old (asks_deepen depth self.old) self.new }
@@ -202,12 +198,11 @@ impl Arguments {
         self.push_joined(b"deepen ", depth.as_bytes())
     }
 
-    /// Asks for commits no older than a time, in seconds since 1970-01-01 00:00:00 UTC, by the line
-    /// `deepen-since <seconds>`.
+    /// Requests commits no older than this time, in seconds since 1970-01-01 00:00:00 UTC, by the line `deepen-since <seconds>`.
     ///
     /// # Errors
     ///
-    /// Only when an allocation fails.
+    /// Only an allocation failure.
     pub fn deepen_since(&mut self, seconds: i64) -> Result<(), AllocError>
         requires { can_use_deepening (codes "deepen-since") self.old ≡ true }
         ensures { Becomes result self.old (asks_deepen_since seconds self.old) self.new }
@@ -216,11 +211,11 @@ impl Arguments {
         self.push_joined(b"deepen-since ", seconds.as_bytes())
     }
 
-    /// Asks for no commit that a ref leads to, by the line `deepen-not <ref>`.
+    /// Excludes the commits that are reachable from a ref, by the line `deepen-not <ref>`.
     ///
     /// # Errors
     ///
-    /// Only when an allocation fails.
+    /// Only an allocation failure.
     pub fn deepen_not(&mut self, ref_path: BStr<'_>) -> Result<(), AllocError>
         requires { can_use_deepening (codes "deepen-not") self.old ≡ true }
         ensures { Becomes result self.old (asks_deepen_not (bstr_bytes ref_path.entry) self.old) self.new }
@@ -228,14 +223,14 @@ impl Arguments {
         self.push_joined(b"deepen-not ", ref_path.as_bytes())
     }
 
-    /// Lets the depth count from the boundary that is there already.
+    /// Makes the depth count from the client's shallow boundary.
     ///
-    /// Under version 2 this is the line `deepen-relative`, once for each call; under versions 0 and
-    /// 1 a feature of the first want, after which it has no effect.
+    /// Under version 2 this is the line `deepen-relative`, once for each call. Under versions 0 and 1 it is a feature
+    /// of the first want, and has no effect after that want.
     ///
     /// # Errors
     ///
-    /// Only when an allocation fails.
+    /// Only an allocation failure.
     pub fn deepen_relative(&mut self) -> Result<(), AllocError>
         requires { can_use_deepening (codes "deepen-relative") self.old ≡ true }
         ensures { Becomes result self.old (asks_deepen_relative self.old) self.new }
@@ -247,11 +242,11 @@ impl Arguments {
         Ok(())
     }
 
-    /// Leaves out objects by a filter, by the line `filter <spec>`.
+    /// Excludes objects by a filter, by the line `filter <spec>`.
     ///
     /// # Errors
     ///
-    /// Only when an allocation fails.
+    /// Only an allocation failure.
     pub fn filter(&mut self, spec: &str) -> Result<(), AllocError>
         requires { can_use (codes "filter") self.old ≡ true }
         ensures { Becomes result self.old (asks_filter spec.now self.old) self.new }
@@ -259,14 +254,14 @@ impl Arguments {
         self.push_joined(b"filter ", spec.as_bytes())
     }
 
-    /// Lets the server send tags that lead to what it sends.
+    /// Lets the server send annotated tags that point to the objects it sends.
     ///
-    /// Under version 2 this is the line `include-tag`, once for each call; under versions 0 and 1 a
-    /// feature of the first want, after which it has no effect.
+    /// Under version 2 this is the line `include-tag`, once for each call. Under versions 0 and 1 it is a feature of
+    /// the first want, and has no effect after that want.
     ///
     /// # Errors
     ///
-    /// Only when an allocation fails.
+    /// Only an allocation failure.
     pub fn use_include_tag(&mut self) -> Result<(), AllocError>
         requires { can_use_include_tag self.old ≡ true }
         ensures { Becomes result self.old (asks_include_tag self.old) self.new }
@@ -278,12 +273,11 @@ impl Arguments {
         Ok(())
     }
 
-    /// Adds a feature as it stands: under version 2 an argument line, else one more feature of the
-    /// first want.
+    /// Adds a feature unchanged: under version 2 as an argument line, otherwise as one more feature of the first want.
     ///
     /// # Errors
     ///
-    /// Only when an allocation fails.
+    /// Only an allocation failure.
     pub fn add_feature(&mut self, feature: &str) -> Result<(), AllocError>
         requires { may_add_feature self.old ≡ true }
         ensures { Becomes result self.old (asks_feature feature.now self.old) self.new }
@@ -296,28 +290,28 @@ impl Arguments {
         }
     }
 
-    /// Whether objects can be left out by a filter.
+    /// Whether a filter may be requested.
     pub fn can_use_filter(&self) -> bool
         ensures { result ≡ can_use (codes "filter") self.now }
     {
         has_feature(&self.features, "filter")
     }
 
-    /// Whether the server takes the ids of commits whose parents aren't here.
+    /// Whether the client's shallow commits may be named.
     pub fn can_use_shallow(&self) -> bool
         ensures { result ≡ can_use (codes "shallow") self.now }
     {
         has_feature(&self.features, "shallow")
     }
 
-    /// Whether a depth can be asked for.
+    /// Whether a depth may be requested.
     pub fn can_use_deepen(&self) -> bool
         ensures { result ≡ can_use (codes "shallow") self.now }
     {
         self.can_use_shallow()
     }
 
-    // By the feature of this name, under version 2 by `shallow`.
+    // Under version 2 the feature `shallow` decides, otherwise the feature of this name.
     fn can_deepen(&self, name: &str) -> bool
         ensures { result ≡ can_use_deepening name.now self.now }
     {
@@ -327,71 +321,70 @@ impl Arguments {
         has_feature(&self.features, name)
     }
 
-    /// Whether the age of commits can be limited.
+    /// Whether a time limit for commits may be requested.
     pub fn can_use_deepen_since(&self) -> bool
         ensures { result ≡ can_use_deepening (codes "deepen-since") self.now }
     {
         self.can_deepen("deepen-since")
     }
 
-    /// Whether commits can be left out that a ref leads to.
+    /// Whether the commits that are reachable from a ref may be excluded.
     pub fn can_use_deepen_not(&self) -> bool
         ensures { result ≡ can_use_deepening (codes "deepen-not") self.now }
     {
         self.can_deepen("deepen-not")
     }
 
-    /// Whether a depth can count from the boundary that is there.
+    /// Whether a depth that counts from the shallow boundary may be requested.
     pub fn can_use_deepen_relative(&self) -> bool
         ensures { result ≡ can_use_deepening (codes "deepen-relative") self.now }
     {
         self.can_deepen("deepen-relative")
     }
 
-    /// Whether refs can be asked for by their names.
+    /// Whether refs may be requested by name, with `want-ref`.
     pub fn can_use_ref_in_want(&self) -> bool
         ensures { result ≡ can_use (codes "ref-in-want") self.now }
     {
         has_feature(&self.features, "ref-in-want")
     }
 
-    /// Whether the server can send tags that lead to what it sends.
+    /// Whether annotated tags may be requested with the objects that they point to.
     pub fn can_use_include_tag(&self) -> bool
         ensures { result ≡ can_use_include_tag self.now }
     {
         self.version == Protocol::V2 || has_feature(&self.features, "include-tag")
     }
 
-    /// Whether a feature can be added: under versions 0 and 1 only until the first want.
+    /// Whether a feature can be added. Under versions 0 and 1 it can be added only before the first want.
     pub fn may_add_feature(&self) -> bool
         ensures { result ≡ may_add_feature self.now }
     {
         self.version == Protocol::V2 || !self.wanted
     }
 
-    /// Whether each request has to say again what the ones before it said: where the transport
-    /// keeps nothing, and under version 2.
+    /// Whether each request must repeat the arguments of the earlier ones: on a stateless transport, and under version 2.
     pub fn is_stateless(&self, transport_is_stateless: bool) -> bool
         ensures { result ≡ (transport_is_stateless || is_v2 self.now.version) }
     {
         transport_is_stateless || self.version == Protocol::V2
     }
 
-    /// Whether there is no have and no `want `. Refs that are wanted by name don't count.
+    /// Whether there is neither a `have` nor a `want` line. A `want-ref` line doesn't count.
     pub fn is_empty(&self) -> bool
         ensures { result ≡ is_empty self.now }
     {
         self.haves.is_empty() && !has_want(&self.lines)
     }
 
-    /// Whether there is a have.
+    /// Whether there is a `have` line.
     pub fn has_haves(&self) -> bool
         ensures { IsTrue result ↔ (0 < length self.now.haves) }
     {
         !self.haves.is_empty()
     }
 
-    // Sends the request, with no memory of it here.
+    // Sends the request and leaves the arguments unchanged.
     fn transmit<T: Transport>(&mut self, transport: &mut T, done: bool) -> Result<(), Error>
         requires { done ≡ false → 0 < length self.old.haves }
         ensures sent { SendsValues (T.reading transport.old) (T.reading transport.new) (request_values self.old done) result }
@@ -411,18 +404,17 @@ impl Arguments {
         send_upload(transport, &mut self.lines, &self.haves, done)
     }
 
-    /// Sends the next request, with the line `done` where it is asked for (gitprotocol-v2,
-    /// "Command Request"; gitprotocol-pack, "Packfile Negotiation").
+    /// Sends the next request, with the line `done` if `add_done_argument` is true (gitprotocol-v2, "Command Request";
+    /// gitprotocol-pack, "Packfile Negotiation").
     ///
-    /// Afterwards there are no haves. The argument lines stay, but under versions 0 and 1 over a
-    /// transport that persists, whose server keeps them. Under versions 0 and 1 the first want
-    /// changes places with the first line, in what is sent alone.
+    /// Afterwards there are no haves. The argument lines stay, except under versions 0 and 1 on a transport that
+    /// persists, whose server remembers them. Under versions 0 and 1 the request, but not the stored arguments, has the
+    /// first want and the first line exchanged.
     ///
     /// # Errors
     ///
-    /// `LineTooLong` where a line, or under version 2 a feature, has more than 65,515 bytes; nothing
-    /// is written then. `Memory` where it runs out, and `Io` of the transport. Whatever the error,
-    /// what is asked for stays as it was.
+    /// `LineTooLong` where a line, or under version 2 a feature, has more than 65,515 bytes; nothing was written.
+    /// `Memory` where an allocation fails, and `Io` of the transport. Each error leaves the arguments unchanged.
     pub fn send<T: Transport>(
         &mut self,
         transport: &mut T,

@@ -1,5 +1,4 @@
-//! Answers to a fetch, and their lines (gitprotocol-v2, "fetch"; gitprotocol-pack, "Packfile
-//! Negotiation").
+//! Responses to a fetch request, and their lines (gitprotocol-v2, "fetch"; gitprotocol-pack, "Packfile Negotiation").
 
 pub(crate) mod answer;
 mod beginnings;

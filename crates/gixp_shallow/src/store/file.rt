@@ -12,31 +12,27 @@ use std::fs::{File, OpenOptions};
 use std::io::{self, ErrorKind, Read};
 use std::rt::Files;
 
-/// A shallow boundary in a file, as git keeps it in `shallow` of a repository's folder. No file is
-/// an empty boundary.
+/// A shallow boundary in a file, as git stores it in `shallow` in a repository's folder. A missing file is an empty boundary.
 ///
-/// The lock is a file beside it, of its name and `.lock`, which is made only where there is none. The
-/// new boundary is written into the lock file, which then takes the place of the file; where no id is
-/// left the file is removed. So another program sees the boundary before a write or the one after it,
-/// if the system renames files whole.
+/// The lock is another file, whose name has `.lock` appended. It is created only if it doesn't exist. The new boundary
+/// is written into the lock file, which then replaces the file; if no id is left, the file is removed. So other
+/// programs see the boundary before or after a write, provided that the system renames files atomically.
 ///
-/// What a file holds no contract can say: neither that it has the text that was written, nor that the
-/// lock keeps out programs that don't ask for it, nor that either outlasts a loss of power. What is
-/// promised is said of this value alone: what each call returns, whether the lock file is held to be
-/// there, and how many calls were refused for another reason than an allocation failure. A lock file is
-/// left where the program ends before `release`.
+/// A contract can't say what a file contains. So no contract promises that the file has the text that was written, that
+/// the lock excludes programs that don't ask for it, or that a file survives a loss of power. The contracts cover this
+/// value only: what each call returns, whether it holds the lock file, and how many calls failed for another reason
+/// than an allocation failure. If the program ends before `release`, the lock file remains.
 #[derive(Drop)]
 pub struct ShallowFile<'a, F> {
     files: &'a F,
     alloc: Global,
     path: String,
     lock_path: String,
-    // Whether the lock file is there since this store made it.
+    // Whether the lock file exists because this store created it.
     held: bool,
     failures: u64,
 }
 
-// The path of the lock file.
 fn lock_path_of(alloc: Global, path: &str) -> Result<String, AllocError>
     ensures { IfOk result (λ lock. string_bytes lock ≡ path.now ++ codes ".lock") }
 {
@@ -46,7 +42,7 @@ fn lock_path_of(alloc: Global, path: &str) -> Result<String, AllocError>
 }
 
 impl<'a, F: Files> ShallowFile<'a, F> {
-    /// The boundary in the file of this path. Nothing is read or written yet.
+    /// The boundary in the file at this path. Nothing is read or written yet.
     ///
     /// # Errors
     ///
@@ -69,14 +65,13 @@ impl<'a, F: Files> ShallowFile<'a, F> {
         })
     }
 
-    /// Whether this store has the lock.
+    /// Whether this store holds the lock.
     pub fn is_locked(&self) -> bool
         ensures { result ≡ self.now.held }
     {
         self.held
     }
 
-    // Counts a refused call.
     fn count_failure(&mut self)
         ensures counted { HasFailed self.old.failures self.new.failures }
         ensures kept { IsKept self.old self.new }
@@ -85,7 +80,6 @@ impl<'a, F: Files> ShallowFile<'a, F> {
         self.failures = self.failures.saturating_add(1);
     }
 
-    // Gets the lock.
     #[tactic(auto, using(crate::proofs::FileLemmas::lock_refused))]
     fn take_lock(&mut self) -> Result<(), ShallowError>
         ensures locked { OnOk result (HoldsLock true self.old self.new) }
@@ -106,7 +100,7 @@ impl<'a, F: Files> ShallowFile<'a, F> {
         }
     }
 
-    // Gives the lock back, if it is had.
+    // Releases the lock, if it is held.
     fn drop_lock(&mut self)
         ensures { HoldsLock false self.old self.new }
     {
@@ -116,7 +110,6 @@ impl<'a, F: Files> ShallowFile<'a, F> {
         }
     }
 
-    // Makes the lock file.
     fn make_lock(&self) -> io::Result<()> {
         match OpenOptions::new()
             .write(true)
@@ -128,7 +121,6 @@ impl<'a, F: Files> ShallowFile<'a, F> {
         }
     }
 
-    // The bytes of the file.
     fn load(&self, alloc: Global) -> io::Result<Vec<u8>> {
         let mut file = File::open(self.files, self.path.as_str())?;
         let mut text = Vec::new(alloc);
@@ -136,13 +128,13 @@ impl<'a, F: Files> ShallowFile<'a, F> {
         Ok(text)
     }
 
-    // Puts this text in place of the file by way of the lock file.
+    // Replaces the file with this text, by way of the lock file.
     fn replace(&self, text: &[u8]) -> io::Result<()> {
         fs::write(self.files, self.lock_path.as_str(), text)?;
         fs::rename(self.files, self.lock_path.as_str(), self.path.as_str())
     }
 
-    // Removes the file, if it is there.
+    // Removes the file, if it exists.
     fn remove(&self) -> io::Result<()> {
         match fs::remove_file(self.files, self.path.as_str()) {
             Ok(()) => Ok(()),
@@ -153,7 +145,7 @@ impl<'a, F: Files> ShallowFile<'a, F> {
         }
     }
 
-    // What a failed call of the system is told as.
+    // The error for a failed call of the system; it is counted, unless memory ran out.
     fn refusal(&mut self, kind: ErrorKind) -> ShallowError
         ensures refused { RefusesInFile to_read self.old result self.new }
     {
@@ -166,7 +158,7 @@ impl<'a, F: Files> ShallowFile<'a, F> {
         }
     }
 
-    // Writes the boundary where the lock is had.
+    // Writes the boundary while the lock is held.
     fn write_locked(&mut self, boundary: &[ObjectId]) -> Result<(), ShallowError>
         requires { self.old.held ≡ true }
         ensures written { OnOk result (HoldsLock (is_left boundary.now) self.old self.new) }
@@ -181,7 +173,7 @@ impl<'a, F: Files> ShallowFile<'a, F> {
         }
     }
 
-    // The same, and gives the lock back.
+    // Writes the boundary while the lock is held, and releases the lock.
     #[tactic(auto, using(crate::proofs::FileLemmas::alone_refused, crate::proofs::FileLemmas::alone_written))]
     fn write_alone(&mut self, boundary: &[ObjectId]) -> Result<(), ShallowError>
         requires { self.old.held ≡ true }
@@ -196,7 +188,7 @@ impl<'a, F: Files> ShallowFile<'a, F> {
         }
     }
 
-    // Writes the text of the boundary into the lock file, which then takes the place of the file.
+    // Writes the text of the boundary into the lock file, which then replaces the file.
     fn write_text(&mut self, boundary: &[ObjectId]) -> Result<(), ShallowError>
         ensures written { OnOk result (HoldsLock false self.old self.new) }
         ensures refused { IfErr result (λ e. RefusesInFile to_read self.old e self.new) }

@@ -7,7 +7,7 @@ use crate::store::{ShallowError, ShallowStore};
 use gixp_hash::ObjectId;
 use std::alloc::Global;
 
-/// A shallow boundary in memory, which one caller alone can lock.
+/// A shallow boundary in memory. Only one caller can lock it at a time.
 #[derive(Debug, Drop)]
 pub struct ShallowMemory {
     ids: Vec<ObjectId>,
@@ -16,7 +16,7 @@ pub struct ShallowMemory {
 }
 
 impl ShallowMemory {
-    /// With this boundary.
+    /// A store of this boundary.
     pub fn new(ids: Vec<ObjectId>) -> ShallowMemory
         ensures ids { result.ids.items ≡ ids.items }
         ensures locked { result.locked ≡ false }
@@ -29,21 +29,20 @@ impl ShallowMemory {
         }
     }
 
-    /// The boundary.
+    /// The ids of the boundary.
     pub fn ids(&self) -> &[ObjectId]
         ensures { result.now ≡ self.now.ids.items }
     {
         &self.ids
     }
 
-    /// Whether its lock is had.
+    /// Whether it is locked.
     pub fn is_locked(&self) -> bool
         ensures { result ≡ self.now.locked }
     {
         self.locked
     }
 
-    // Counts a refused call.
     fn count_failure(&mut self)
         ensures counted { HasFailed self.old.failures self.new.failures }
         ensures kept { self.new ≡ record self.old { failures = self.new.failures } }

@@ -1,22 +1,22 @@
-//! What a banded line is.
+//! The meaning of a banded line.
 ghost use Rattle.std.specs.Prelude.{◌≡◌};
 ghost use Rattle.std.specs.Io.BufRead.{strip_last};
 ghost use Rattle.gixp_sidebands.specs.Bands.{band_of};
 
-/// What a line is to a reader of bands.
+/// The meaning of a line to a sideband reader.
 #[derive(Clone, Copy, Drop)]
 pub(crate) enum Band {
-    /// Nothing, or band 1 with nothing after it.
+    /// Nothing, or band 1 with no bytes after it.
     Empty,
     /// Band 1 with bytes after it.
     Content,
-    /// Band 2, or band 3, which holds the text of an error.
+    /// Band 2, or band 3 (true), whose text is an error.
     Text(bool),
-    /// A first byte that is no band.
+    /// A first byte that is not a band.
     Unknown(u8),
 }
 
-/// What a line is, by its first byte.
+/// The meaning of a line, by its first byte.
 pub(crate) fn band_of(line: &[u8]) -> Band
     ensures { result ≡ band_of line.now }
 {
@@ -29,7 +29,6 @@ pub(crate) fn band_of(line: &[u8]) -> Band
     }
 }
 
-/// The text without one ending LF.
 pub(crate) fn without_line_end(text: &[u8]) -> &[u8]
     ensures { result.now ≡ strip_last 10 text.now }
 {

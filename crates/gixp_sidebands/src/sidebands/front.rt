@@ -1,4 +1,4 @@
-//! A transport, and a place in the packet of band 1 that is peeked at.
+//! A transport, and the offset in its open packet.
 ghost use Rattle.std.specs.Prelude.{◌≡◌, ◌+◌, ◌<◌, true, false, None, Some, take, is_some};
 ghost use Rattle.gixp_sidebands.specs.Bands.{is_held, is_begun, shown, HandsOut};
 ghost use Rattle.gixp_packetline.specs.Reading.{Peeks, PlainIf, TakesLine, reset_to};
@@ -6,19 +6,17 @@ ghost use Rattle.gixp_packetline.specs.Reading.{Peeks, PlainIf, TakesLine, reset
 use gixp_packetline::read::{Error, ExtendedBufRead};
 use gixp_packetline::{MessageKind, Protocol};
 
-/// A transport, and a place in the packet of band 1 that is peeked at.
+/// A transport, and the offset in its open packet: a packet of band 1 that was peeked at, and whose bytes are being returned.
 ///
-/// A packet of which a byte was returned counts as taken. So it can't be dropped: `into_inner`
-/// takes it.
+/// A packet counts as taken once a byte of it was returned. So this type has no destructor; `into_inner` takes such a packet.
 pub(crate) struct Front<'a, T: ExtendedBufRead> {
     at: &'a mut T,
-    // How many bytes were returned of the packet that is peeked at, if one is.
+    // How many bytes of the open packet were returned; `None` where no packet is open.
     place: Option<usize>,
     ghost held: { is_held place (T.reading at.now) ≡ true },
 }
 
 impl<'a, T: ExtendedBufRead> Front<'a, T> {
-    /// Before whatever comes next.
     pub(crate) fn new(at: &'a mut T) -> Front<'a, T>
         ensures same { result.at.ghost_name ≡ at.entry.ghost_name }
         ensures now { result.at.now ≡ at.old }
@@ -27,7 +25,7 @@ impl<'a, T: ExtendedBufRead> Front<'a, T> {
         Front { at, place: None }
     }
 
-    /// The transport. A packet that was begun is taken from it.
+    /// Returns the transport. A packet that was begun is taken.
     pub(crate) fn into_inner(mut self) -> &'a mut T
         ensures same { result.ghost_name ≡ self.entry.at.ghost_name }
         ensures begun { is_begun self.entry.place ≡ true → TakesLine (T.reading self.entry.at.now) (T.reading result.now) }
@@ -38,7 +36,7 @@ impl<'a, T: ExtendedBufRead> Front<'a, T> {
         at
     }
 
-    /// Takes the packet that was begun, if one was.
+    /// Takes the open packet if a byte of it was returned.
     pub(crate) fn leave(&mut self)
         ensures same { self.new.at.ghost_name ≡ self.old.at.ghost_name }
         ensures begun { is_begun self.old.place ≡ true → TakesLine (T.reading self.old.at.now) (T.reading self.new.at.now) }
@@ -52,7 +50,6 @@ impl<'a, T: ExtendedBufRead> Front<'a, T> {
         }
     }
 
-    /// Peeks at the next line.
     pub(crate) fn peek(&mut self) -> Result<bool, Error>
         requires { self.old.place ≡ None }
         ensures same { self.new.at.ghost_name ≡ self.old.at.ghost_name }
@@ -81,14 +78,14 @@ impl<'a, T: ExtendedBufRead> Front<'a, T> {
         let _ = self.at.next_line();
     }
 
-    /// The stop that the transport is at.
+    /// The flush or delimiter packet that the transport is at.
     pub(crate) fn stopped_at(&self) -> Option<MessageKind>
         ensures { result ≡ (T.reading self.now.at.now).stopped }
     {
         self.at.stopped_at()
     }
 
-    /// Goes on after the stop.
+    /// Goes on after the flush or delimiter packet.
     pub(crate) fn reset(&mut self, version: Protocol)
         ensures same { self.new.at.ghost_name ≡ self.old.at.ghost_name }
         ensures reset { T.reading self.new.at.now ≡ reset_to version (T.reading self.old.at.now) }
@@ -97,14 +94,13 @@ impl<'a, T: ExtendedBufRead> Front<'a, T> {
         self.at.reset(version);
     }
 
-    /// Whether a packet of content is at hand.
     pub(crate) fn is_open(&self) -> bool
         ensures { result ≡ is_some self.now.place }
     {
         self.place.is_some()
     }
 
-    /// The bytes at hand that were not returned.
+    /// The bytes of the open packet that were not yet returned.
     pub(crate) fn rest(&self) -> &[u8]
         ensures { result.now ≡ shown self.now.place (T.reading self.now.at.now) }
     {
@@ -114,7 +110,7 @@ impl<'a, T: ExtendedBufRead> Front<'a, T> {
         }
     }
 
-    /// Takes this many of the bytes at hand, or all of them. The packet is taken with its last.
+    /// Returns this many bytes of the open packet, or all of them. The last byte takes the packet.
     pub(crate) fn advance(&mut self, amount: usize)
         ensures same { self.new.at.ghost_name ≡ self.old.at.ghost_name }
         ensures hands_out { HandsOut self.old.place (T.reading self.old.at.now)
@@ -130,7 +126,7 @@ impl<'a, T: ExtendedBufRead> Front<'a, T> {
         }
     }
 
-    /// At the start of the content that was peeked at.
+    /// Opens the packet of content that was peeked at.
     pub(crate) fn open(&mut self)
         requires { is_held (Some 0) (T.reading self.old.at.now) ≡ true }
         ensures same { self.new.at.ghost_name ≡ self.old.at.ghost_name }

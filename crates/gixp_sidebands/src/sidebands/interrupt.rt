@@ -1,19 +1,19 @@
-//! Who says whether to go on.
+//! Interrupts.
 ghost use Rattle.std.specs.Prelude.{◌≡◌, Bool, false};
 
 use std::cell::Cell;
 
-/// Says whether to stop reading.
+/// Decides whether to stop reading.
 pub trait Interrupt {
-    // What a call may answer, and what it leaves.
+    // What a call may return, and what it leaves.
     ghost says: { Self → Bool → Self → Type 0 };
 
-    /// Whether to stop. It is asked after each packet of bands 2 and 3.
+    /// Whether to stop reading. It is called after each packet of bands 2 and 3.
     fn is_interrupted(&mut self) -> bool
         ensures { says self.old result self.new };
 }
 
-/// An interrupt that never says so.
+/// An interrupt that never stops.
 #[derive(Clone, Copy, Debug, PartialEq, Eq, Drop)]
 pub struct NeverInterrupt;
 
@@ -25,14 +25,14 @@ impl Interrupt for NeverInterrupt {
     }
 }
 
-/// An interrupt that says what a shared flag holds when it is asked.
+/// An interrupt that returns the current value of a shared flag.
 #[derive(Drop)]
 pub struct InterruptFlag<'a> {
     flag: &'a Cell<bool>,
 }
 
 impl<'a> InterruptFlag<'a> {
-    /// Over this flag, which whoever shares it may set.
+    /// Uses this flag. Whoever shares it may set it.
     pub fn new(flag: &'a Cell<bool>) -> InterruptFlag<'a> {
         InterruptFlag { flag }
     }

@@ -1,4 +1,4 @@
-//! The parts of a progress reporter that a fetch adds: one for each reader of bands that it makes.
+//! The parts of a progress reporter that a fetch adds: one for each sideband reader.
 ghost use Rattle.std.specs.Prelude.{⊤, None};
 
 use crate::fetches::repository::sound;
@@ -10,7 +10,7 @@ use gixp_shallow::{Shallow, ShallowMemory};
 use std::alloc::{AllocError, Global};
 use std::test::Fail;
 
-// Writes down its names and the names and ids of its parts, which it may refuse.
+// Records its names, and the names and ids of its parts. It may fail to add a part.
 #[derive(Drop)]
 struct Family<'a> {
     said: &'a mut Vec<u8>,
@@ -61,7 +61,7 @@ impl NestedProgress for Family<'_> {
     }
 }
 
-// What became of a fetch of depth 1, whose reporter writes down these lines.
+// The result of a fetch of depth 1, whose reporter records these lines.
 fn fetch_told(
     alloc: Global,
     answers: &[&[u8]],
@@ -82,7 +82,7 @@ fn fetch_told(
     )
 }
 
-// The lines, and what became of the fetch as the last of them.
+// The recorded lines, then the result of the fetch.
 fn told(alloc: Global, answers: &[&[u8]], refuses: bool) -> Result<Vec<u8>, AllocError> {
     let mut said = Vec::with_capacity(alloc, 1000)?;
     let text = fetch_told(alloc, answers, refuses, &mut said)?;
@@ -121,7 +121,7 @@ fn no_round_needs_a_part(rt: HostRuntime) -> Result<(), Fail> {
     Ok(())
 }
 
-// A server that bands its answers too, an answer without a pack, and one with it.
+// A server with `sideband-all`, a response without a pack, and one with it.
 const BANDED: [&[u8]; 3] = [
     b"000eversion 2\n0013ls-refs=unborn\n001ffetch=shallow sideband-all\n0000",
     b"0015\x01acknowledgments\n0032\x01ACK cccccccccccccccccccccccccccccccccccccccc\n0007\x02hi0000",

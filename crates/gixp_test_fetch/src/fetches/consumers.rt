@@ -1,4 +1,4 @@
-//! Consumers that stop early, and a writer that takes no pack.
+//! Consumers that stop early.
 ghost use Rattle.std.specs.Prelude.{◌≡◌, ℕ, List};
 ghost use Rattle.gixp_sidebands.specs.Bands.{side_reading};
 ghost use Rattle.gixp_fetch.specs.Receive.{ReadsOn};
@@ -10,7 +10,7 @@ use gixp_progress::Progress;
 use gixp_sidebands::Interrupt;
 use std::io::{ErrorKind, Read};
 
-/// What a consumer says after its byte.
+/// What a consumer does after its byte.
 #[derive(Clone, Copy)]
 pub(crate) enum Says {
     ReadOn,

@@ -1,4 +1,4 @@
-//! Texts of errors, and which of them may pass.
+//! Texts of errors, and which of them are spurious.
 use bstr::BString;
 use gixp_capabilities::client;
 use gixp_fetch::consume::CopyError;
@@ -15,7 +15,7 @@ use std::test::Fail;
 
 type FetchError = Error<AllocError, CopyError>;
 
-// Adds the text of an error as a line.
+// Appends the text of an error as a line.
 fn push_text<E: Display + Drop>(
     alloc: Global,
     text: &mut String,
@@ -108,7 +108,7 @@ fn may_pass(error: FetchError) -> bool {
     error.is_spurious()
 }
 
-// Which of the errors that hold this kind may pass.
+// Which of the errors with this kind are spurious.
 fn which_may_pass(kind: ErrorKind) -> [bool; 5] {
     let transport = response::Error::Transport(client::Error::Io(kind));
     let reader = response::Error::Reader(read::Error::Io(kind));
@@ -132,7 +132,7 @@ fn says_which_may_pass(rt: HostRuntime) {
     assert!(rt; !may_pass(FetchError::ConsumePack(error)));
 }
 
-// Adds what an error of another layer becomes as a line.
+// Appends the error of a fetch as a line.
 fn push_name(alloc: Global, text: &mut String, error: FetchError) -> Result<(), AllocError> {
     let line = format!(in alloc; "{error:?}\n")?;
     text.push_str(line.as_str())

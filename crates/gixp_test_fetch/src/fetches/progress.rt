@@ -1,11 +1,11 @@
-//! What becomes of the texts of a server.
+//! The messages of a server in a progress reporter.
 use gixp_doubles::{Lent, Told};
 use gixp_fetch::RemoteText;
 use gixp_sidebands::BandText;
 use std::alloc::{AllocError, Global};
 use std::test::Fail;
 
-// Two texts of a server for a progress reporter.
+// Sends two messages of a server to a progress reporter.
 fn say_two(alloc: Global, told: &mut Told) -> Result<(), AllocError> {
     let mut text = RemoteText::new(alloc, Lent { told });
     text.band_text(false, b"Receiving objects:  42% (21/50)")?;

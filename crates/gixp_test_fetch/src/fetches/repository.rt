@@ -1,10 +1,10 @@
-//! A repository with a ref and without objects, of which one call may fail.
+//! A repository with a ref and without objects, where one call may fail.
 use crate::negotiations::repository::id;
 use gixp_doubles::{MemoryObjects, MemoryRefs, Recorder};
 use gixp_shallow::Shallow;
 use std::alloc::{AllocError, Global};
 
-/// The objects that are looked up, the refs, what chooses the haves, and how much history is asked for.
+/// The objects, the refs, the negotiator, and the change of depth.
 #[derive(Drop)]
 pub(crate) struct Repository {
     pub(crate) objects: MemoryObjects,
@@ -13,7 +13,7 @@ pub(crate) struct Repository {
     pub(crate) shallow: Shallow,
 }
 
-/// A repository of which nothing fails, and that offers so many commits.
+/// A repository where no call fails, and that offers so many commits.
 pub(crate) fn sound(alloc: Global, haves: usize) -> Result<Repository, AllocError> {
     let mut refs = MemoryRefs::new(alloc);
     refs.targets.push(id(1))?;

@@ -23,7 +23,7 @@ use gixp_sidebands::NeverInterrupt;
 use gixp_wire::{Service, Transport};
 use std::alloc::{AllocError, Global};
 
-/// What a server of version 2 says: its capabilities, its refs, an answer without a pack, and one with it.
+/// The stream of a server of version 2: its capabilities, its refs, a response without a pack, and one with it.
 pub(crate) const V2: [&[u8]; 4] = [
     b"000eversion 2\n0013ls-refs=unborn\n0012fetch=shallow\n0000",
     b"003d0123456789012345678901234567890123456789 refs/heads/main\n0000",
@@ -32,7 +32,7 @@ pub(crate) const V2: [&[u8]; 4] = [
     0001000dpackfile\n0007\x01PA0007\x02hi0006\x01C0000",
 ];
 
-/// The same of version 1: its refs, an answer without a pack, and one with it.
+/// The stream of a server of version 1: its refs, a response without a pack, and one with it.
 pub(crate) const V1: [&[u8]; 3] = [
     b"000eversion 1\n00660123456789012345678901234567890123456789 refs/heads/main\0\
     multi_ack_detailed side-band-64k shallow\n0000",
@@ -41,7 +41,7 @@ pub(crate) const V1: [&[u8]; 3] = [
     b"0031ACK cccccccccccccccccccccccccccccccccccccccc\n0007\x01PA0007\x02hi0006\x01C0000",
 ];
 
-/// These answers one after another.
+/// These responses, joined.
 pub(crate) fn joined(alloc: Global, answers: &[&[u8]]) -> Result<Vec<u8>, AllocError> {
     let mut stream = Vec::new(alloc);
     for answer in answers {
@@ -67,7 +67,7 @@ fn specs(alloc: Global) -> Result<init::Context, AllocError> {
     })
 }
 
-// A handshake, or why there is none.
+// The result of a handshake.
 fn shake<T: Transport, P: NestedProgress>(
     alloc: Global,
     transport: &mut T,
@@ -85,7 +85,7 @@ fn shake<T: Transport, P: NestedProgress>(
     )
 }
 
-// Its ref map, or why there is none.
+// The ref map after a handshake.
 fn map<T: Transport, P: NestedProgress>(
     alloc: Global,
     hands: &mut Handshake,
@@ -98,7 +98,6 @@ fn map<T: Transport, P: NestedProgress>(
     handshake::obtain(alloc, hands, &table, agent, specs, progress, transport)
 }
 
-// Alternates that can be opened.
 fn opened(alternates: &mut [MemoryRefs]) -> Result<&mut [MemoryRefs], AllocError> {
     Ok(alternates)
 }
@@ -156,13 +155,13 @@ where
     )
 }
 
-// How many rounds a copy of an outcome has.
+// The number of rounds in a copy of an outcome, as text.
 fn rounds(alloc: Global, outcome: &Outcome) -> Result<String, AllocError> {
     let copy = outcome.clone()?;
     format!(in alloc; "{} rounds", copy.negotiate.rounds.len())
 }
 
-// A whole fetch after a handshake, as a text.
+// The result of a fetch after a handshake, as text.
 fn run_shaken<
     T: Transport,
     P: NestedProgress,
@@ -193,8 +192,8 @@ where
     }
 }
 
-/// A handshake and a whole fetch into a repository, as a text: the first error, or how
-/// many rounds a copy of the outcome has.
+/// The result of a handshake and a fetch into a repository, as text: the first error, or the number of rounds in a copy
+/// of the outcome.
 pub(crate) fn run<
     T: Transport,
     P: NestedProgress,

@@ -1,4 +1,4 @@
-//! Whole fetches over bodies and connections, and what fails in them.
+//! Whole fetches over bodies and connections, and their failures.
 use crate::fetches::consumers::{Says, Taste};
 use crate::fetches::repository::{Repository, sound};
 use crate::fetches::runs::{V1, V2, joined, run};
@@ -21,7 +21,7 @@ fn depth() -> Shallow {
     Shallow::DepthAtRemote(NonZeroU32::MIN)
 }
 
-// What became of a fetch of depth 1, with the boundary after it.
+// The result of a fetch of depth 1, with the boundary after it.
 fn fetch_by<T: Transport, C: ConsumePack<Discard, Error = CopyError>>(
     alloc: Global,
     transport: &mut T,
@@ -45,7 +45,7 @@ fn fetch_by<T: Transport, C: ConsumePack<Discard, Error = CopyError>>(
 
 const DONE: &str = "2 rounds, 1 at the boundary, locked false";
 
-// What became of a fetch over bodies, and where the transport stopped.
+// The result of a fetch over bodies, and where the transport stopped.
 fn fetch_bodies<C: ConsumePack<Discard, Error = CopyError>>(
     alloc: Global,
     answers: &[&[u8]],
@@ -57,7 +57,7 @@ fn fetch_bodies<C: ConsumePack<Discard, Error = CopyError>>(
     Ok((text, transport.stopped_at()))
 }
 
-// The same with the pack.
+// The result of a fetch over bodies that copies the pack, with the pack.
 fn copy_pack(
     alloc: Global,
     answers: &[&[u8]],
@@ -80,7 +80,7 @@ fn fetches_over_bodies(rt: HostRuntime) -> Result<(), Fail> {
     Ok(())
 }
 
-// A connection whose writes and reads fail at these numbers.
+// A connection whose writes and reads fail at these calls.
 fn connection<'a>(
     alloc: Global,
     bytes: &'a [u8],
@@ -92,7 +92,7 @@ fn connection<'a>(
     transports::connection(alloc, device, paper, Protocol::V2, None)
 }
 
-// What became of a fetch over a connection, or of its handshake.
+// The result of a fetch over a connection, or of its handshake.
 fn fetch_over(
     alloc: Global,
     answers: &[&[u8]],
@@ -113,12 +113,12 @@ fn fetches_over_connections(rt: HostRuntime) -> Result<(), Fail> {
     Ok(())
 }
 
-// Whether a text tells of this error, and of no lock.
+// Whether a text has this error, and no lock is held.
 fn tells_of(text: &str, error: &str) -> bool {
     text.contains(error) && !text.contains("locked true")
 }
 
-// How many reads take these answers.
+// How many reads these responses take.
 fn count_reads(alloc: Global, answers: &[&[u8]]) -> Result<u64, AllocError> {
     let stream = joined(alloc, answers)?;
     Ok((stream.len() as u64).div_ceil(16))
@@ -149,7 +149,7 @@ fn tells_of_each_write_that_fails(rt: HostRuntime) -> Result<(), Fail> {
     Ok(())
 }
 
-// What became of a fetch whose consumer says this, where the transport stopped, and the byte of the pack.
+// The result of a fetch with this consumer, where the transport stopped, and the byte of the pack.
 fn taste(
     alloc: Global,
     answers: &[&[u8]],
@@ -180,7 +180,7 @@ fn leaves_what_a_consumer_leaves(rt: HostRuntime) -> Result<(), Fail> {
     Ok(())
 }
 
-// A pack in which the server refuses to go on.
+// A pack that the server ends with an error.
 const REFUSED: &[u8] = b"000dpackfile\n0007\x01PA0011ERR no access0006\x01C0000";
 
 #[test]
@@ -204,7 +204,7 @@ fn tells_what_stands_behind_a_consumer(rt: HostRuntime) -> Result<(), Fail> {
     Ok(())
 }
 
-// What became of a fetch whose pack goes to a writer that fails.
+// The result of a fetch whose pack goes to a writer that fails.
 fn fetch_to_paper(alloc: Global, fails: u64) -> Result<String, AllocError> {
     let mut consumer = CopyPack {
         writer: Paper::failing(alloc, 16, fails, ErrorKind::BrokenPipe),
@@ -223,7 +223,7 @@ fn tells_of_a_writer_that_takes_no_pack(rt: HostRuntime) -> Result<(), Fail> {
     Ok(())
 }
 
-// What became of a fetch into this store, and how many requests were sent.
+// The result of a fetch with this store, and how many requests were sent.
 fn fetch_into(alloc: Global, store: &mut ShallowMemory) -> Result<(String, usize), AllocError> {
     let mut transport = memory(alloc, &V2)?;
     let text = run(
@@ -238,7 +238,7 @@ fn fetch_into(alloc: Global, store: &mut ShallowMemory) -> Result<(String, usize
     Ok((text, transport.sent().len()))
 }
 
-// The same where the store is locked, and whether it is locked after that.
+// The same with a locked store, and whether it is locked afterwards.
 fn fetch_into_locked(alloc: Global) -> Result<(String, usize, bool), Fail> {
     let mut store = ShallowMemory::new(Vec::new(alloc));
     store.lock()?;
@@ -255,7 +255,7 @@ fn keeps_a_lock_that_is_there(rt: HostRuntime) -> Result<(), Fail> {
     Ok(())
 }
 
-// A repository whose look, listing of refs or choice of haves fails.
+// A repository where a look-up, a listing of refs or the negotiator fails.
 fn failing(alloc: Global, part: usize, number: u64) -> Result<Repository, AllocError> {
     let mut repository = sound(alloc, 20)?;
     match part {
@@ -269,7 +269,7 @@ fn failing(alloc: Global, part: usize, number: u64) -> Result<Repository, AllocE
     Ok(repository)
 }
 
-// What became of a fetch into it.
+// The result of a fetch into such a repository.
 fn fetch_failing(alloc: Global, part: usize, number: u64) -> Result<String, AllocError> {
     let repository = failing(alloc, part, number)?;
     let (text, _) = fetch_bodies(alloc, &V2, repository, &mut ReadToEnd)?;
@@ -293,11 +293,11 @@ fn tells_of_each_call_of_the_repository_that_fails(rt: HostRuntime) -> Result<()
     Ok(())
 }
 
-// The calls of a progress reporter in a fetch of three rounds.
+// The calls of a progress reporter during a fetch of three rounds.
 const CALLS: &str = "steps\nhandshake\nstep\nstep\nlist refs\n\
     step\nnegotiate (round 1)\nstep\nnegotiate (round 2)\nstep\nnegotiate (round 3)\nstep\nreceiving pack\n";
 
-// What became of a fetch of three rounds, of which a progress reporter is told.
+// The result of a fetch of three rounds, with this progress reporter.
 fn fetch_told(alloc: Global, told: &mut Told) -> Result<String, AllocError> {
     let [greeting, refs, answer, last] = V2;
     let mut transport = memory(alloc, &[greeting, refs, answer, answer, last])?;
@@ -317,7 +317,8 @@ fn fetch_told(alloc: Global, told: &mut Told) -> Result<String, AllocError> {
 fn tells_each_round(rt: HostRuntime) -> Result<(), Fail> {
     let mut told = Told::new(rt.alloc());
     assert_eq!(rt; fetch_told(rt.alloc(), &mut told)?.as_str(), "3 rounds");
-    // Where a name of the handshake can't be allocated, its step alone is told; one of a round or of the pack is `Memory`.
+    // If a name of the handshake can't be allocated, only its step is reported. For a name of a round or of the pack
+    // the result is `Memory`.
     assert_eq!(rt;
         told.lines(rt.alloc())?.as_str(),
         CALLS,

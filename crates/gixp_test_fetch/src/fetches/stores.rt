@@ -11,7 +11,7 @@ use std::num::NonZeroU32;
 use std::test::Fail;
 use std::{env, fs, io, process};
 
-// A path in the folder for such files that no other process uses.
+// A path in the temporary folder that no other process uses.
 fn path(rt: &HostRuntime, name: &str) -> io::Result<String> {
     let id = process::id(rt.process());
     let folder = env::temp_dir(rt)?;
@@ -25,16 +25,16 @@ const HAD: &str =
 const KEPT: &str =
     "bbbbbbbbbbbbbbbbbbbbbbbbbbbbbbbbbbbbbbbb\ncccccccccccccccccccccccccccccccccccccccc\n";
 
-// One commit is at the boundary now, and one isn't any more.
+// One commit is added to the boundary, and one is removed.
 const MOVES: &[u8] = b"0011shallow-info\n0035shallow cccccccccccccccccccccccccccccccccccccccc\n\
     0037unshallow 0123456789012345678901234567890123456789\n\
     0035shallow bbbbbbbbbbbbbbbbbbbbbbbbbbbbbbbbbbbbbbbb\n0001000dpackfile\n0000";
 
-// No commit is.
+// All commits are removed from the boundary.
 const GOES: &[u8] = b"0011shallow-info\n0037unshallow cccccccccccccccccccccccccccccccccccccccc\n\
     0037unshallow bbbbbbbbbbbbbbbbbbbbbbbbbbbbbbbbbbbbbbbb\n0001000dpackfile\n0000";
 
-// A fetch of depth 1 with this last answer, into the boundary of this file.
+// The result of a fetch of depth 1 with this last response, with the boundary in this file.
 fn fetch_into(rt: &HostRuntime, path: &str, answer: &[u8]) -> Result<String, AllocError> {
     let a = rt.alloc();
     let [greeting, refs, ..] = V2;
@@ -65,7 +65,7 @@ fn keeps_a_boundary_in_a_file(rt: HostRuntime) -> Result<(), Fail> {
     Ok(())
 }
 
-// What became of such a fetch, and whether there is a lock after it.
+// The result of such a fetch, and whether the lock file exists afterwards.
 fn fetch_and_look(rt: &HostRuntime, path: &str, lock: &str) -> Result<String, AllocError> {
     let text = fetch_into(rt, path, GOES)?;
     let is_locked = match fs::read(rt, lock) {
@@ -76,7 +76,7 @@ fn fetch_and_look(rt: &HostRuntime, path: &str, lock: &str) -> Result<String, Al
     format!(in rt.alloc(); "{text}, locked {is_locked}")
 }
 
-// The same where there is a lock before it, which goes then.
+// The same with a lock file, which is removed afterwards.
 fn fetch_beside_lock(rt: &HostRuntime, path: &str, lock: &str) -> Result<String, Fail> {
     fs::write(rt, lock, "")?;
     let text = fetch_and_look(rt, path, lock)?;
@@ -84,7 +84,7 @@ fn fetch_beside_lock(rt: &HostRuntime, path: &str, lock: &str) -> Result<String,
     Ok(text)
 }
 
-// What became of a fetch beside a lock and of one without it, a line each.
+// The results of a fetch with a lock file and of one without it, a line each.
 fn fetch_twice(rt: &HostRuntime, path: &str) -> Result<String, Fail> {
     let lock = format!(in rt.alloc(); "{path}.lock")?;
     let first = fetch_beside_lock(rt, path, lock.as_str())?;
@@ -106,7 +106,7 @@ fn keeps_away_from_a_lock_file(rt: HostRuntime) -> Result<(), Fail> {
     Ok(())
 }
 
-// The text of a boundary of one id, as a caller writes whose own error is that of a store.
+// The text of a boundary with one id. A caller's own error may be the store's.
 fn boundary_text(alloc: Global, id: ObjectId) -> Result<Vec<u8>, ShallowError> {
     let text = shallow_text(alloc, &[id])?;
     Ok(text)

@@ -1,4 +1,4 @@
-//! Texts of errors, and what errors of the layers below become.
+//! Texts of errors, and the errors that lower layers' errors become.
 use crate::shown::texts;
 use crate::transports::text;
 use gixp_capabilities::client;

@@ -9,7 +9,7 @@ use std::alloc::{AllocError, Global};
 use std::io::{ErrorKind, Write};
 use std::test::Fail;
 
-// A connection over which nothing comes.
+// A connection that receives nothing.
 fn silent<W: Write + Drop>(
     alloc: Global,
     writer: W,
@@ -19,7 +19,7 @@ fn silent<W: Write + Drop>(
     connection(alloc, device, writer, Protocol::V2, Some(opening))
 }
 
-// Ends a conversation by this many calls, and by a drop.
+// Ends a conversation by so many calls, and by a drop.
 fn end<T: Transport + Drop>(transport: T, calls: usize) -> Result<(), client::Error> {
     let mut guard = SendFlushOnDrop::new(transport);
     for _ in 0..calls {
@@ -34,7 +34,7 @@ fn sends_one_flush_packet_when_dropped(rt: HostRuntime) -> Result<(), Fail> {
     for calls in 0..3usize {
         let mut paper = Paper::new(a, usize::MAX);
         end(silent(a, &mut paper)?, calls)?;
-        // A drop tells of no failure.
+        // A drop reports no failure.
         assert_eq!(rt;
             paper.bytes.as_slice(),
             b"0000".as_slice(),
@@ -44,7 +44,7 @@ fn sends_one_flush_packet_when_dropped(rt: HostRuntime) -> Result<(), Fail> {
     Ok(())
 }
 
-// What two calls return.
+// The results of two calls.
 fn end_twice<T: Transport + Drop>(transport: T) -> [Result<(), client::Error>; 2] {
     let mut guard = SendFlushOnDrop::new(transport);
     let first = guard.indicate_end_of_interaction();

@@ -19,7 +19,6 @@ use std::alloc::{AllocError, Global};
 use std::io::ErrorKind;
 use std::test::Fail;
 
-// A list of two refs.
 const REFS: &[u8] = b"003d0123456789012345678901234567890123456789 refs/heads/main\n\
     003cbbbbbbbbbbbbbbbbbbbbbbbbbbbbbbbbbbbbbbbb refs/tags/main\n0000";
 
@@ -28,7 +27,7 @@ fn spec(alloc: Global, line: &[u8]) -> Result<RefSpec, Fail> {
     Ok(spec.to_owned(alloc)?)
 }
 
-// This refspec, and that of all tags.
+// This refspec, and the one of all tags.
 fn context(alloc: Global, line: &[u8]) -> Result<Context, Fail> {
     let mut fetch_refspecs = Vec::new(alloc);
     fetch_refspecs.push(spec(alloc, line)?)?;
@@ -42,7 +41,6 @@ fn context(alloc: Global, line: &[u8]) -> Result<Context, Fail> {
     })
 }
 
-// The ref map of a server of version 2.
 fn listed<T: Transport>(
     alloc: Global,
     transport: &mut T,
@@ -62,7 +60,7 @@ fn listed<T: Transport>(
     )
 }
 
-// The same without its refs.
+// The ref map of a server of version 2, without a list of its refs.
 fn listed_mappings<T: Transport>(
     alloc: Global,
     transport: &mut T,
@@ -82,7 +80,7 @@ fn listed_mappings<T: Transport>(
     )
 }
 
-// What a listing returns whose write of this number fails.
+// The result of a listing whose write with this number fails.
 fn listed_over_broken(alloc: Global, fails: u64) -> Result<String, Fail> {
     let device = Device::new(REFS, usize::MAX);
     let paper = Paper::failing(alloc, 16, fails, ErrorKind::BrokenPipe);
@@ -109,7 +107,7 @@ fn listed_over_memory(alloc: Global, context: Context) -> Result<RefMap, Error> 
     listed(alloc, &mut memory(alloc, &[REFS])?, context)
 }
 
-// How many mappings and refs a copy has, and whether it lacks a mapping.
+// How many mappings and refs a copy has, and whether a required mapping is missing.
 fn counts(map: &RefMap) -> Result<(usize, usize, bool), AllocError> {
     let copy = map.clone()?;
     let is_missing = copy.is_missing_required_mapping();
@@ -124,7 +122,7 @@ fn lists_and_maps(rt: HostRuntime) -> Result<(), Fail> {
     Ok(())
 }
 
-// Whether the ref map without its refs is the whole one but for these.
+// Whether the ref map without a list of its refs is otherwise the whole one.
 fn maps_alike(alloc: Global, line: &[u8]) -> Result<bool, Fail> {
     let map = listed_mappings(alloc, &mut memory(alloc, &[REFS])?, context(alloc, line)?)?;
     let mut whole = listed_over_memory(alloc, context(alloc, line)?)?;
@@ -163,7 +161,7 @@ fn names(alloc: Global) -> Result<Vec<BString>, AllocError> {
     Ok(names)
 }
 
-// What an extension leaves, and whether an allocation failed in it.
+// The prefixes after an extension, and whether an allocation failed.
 fn extended(alloc: Global) -> Result<(String, Result<(), AllocError>), AllocError> {
     let names = names(alloc)?;
     let mut prefixes = RefPrefixes::new(alloc);
@@ -191,7 +189,7 @@ fn keeps_the_prefixes_in_front(rt: HostRuntime) -> Result<(), Fail> {
     Ok(())
 }
 
-// Names that aren't among the others, so many.
+// So many names that aren't among the others.
 fn new_names(alloc: Global, count: u8, first: u8) -> Result<Vec<BString>, AllocError> {
     let mut names = Vec::new(alloc);
     for at in 0..count {
@@ -200,10 +198,10 @@ fn new_names(alloc: Global, count: u8, first: u8) -> Result<Vec<BString>, AllocE
     Ok(names)
 }
 
-// The prefixes that there is room for after the first, but for two.
+// So many prefixes leave room for two more without another allocation.
 const FULL: u8 = 7;
 
-// How many of three new prefixes an extension keeps that finds room for two, and whether an allocation failed in it.
+// How many of three new prefixes an extension adds that has room for two, and whether an allocation failed.
 fn kept_of_three(alloc: Global) -> Result<(usize, Result<(), AllocError>), AllocError> {
     let mut prefixes = RefPrefixes::new(alloc);
     prefixes.extend(new_names(alloc, FULL, b'a')?)?;

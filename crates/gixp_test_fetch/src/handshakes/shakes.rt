@@ -1,4 +1,4 @@
-//! Handshakes over devices that fail, and with an account.
+//! Handshakes over devices that fail, and with credentials.
 use crate::shown::shown;
 use crate::transports::{connection, denying, opening, text};
 use gixp_doubles::{Device, Paper, Told};
@@ -20,7 +20,7 @@ fn no_account(_action: Action) -> Result<Option<Outcome>, credentials::Error> {
     Ok(None)
 }
 
-// A handshake of a client that has no account.
+// A handshake of a client without credentials.
 fn shake<T: Transport>(alloc: Global, transport: &mut T) -> Result<Handshake, Error> {
     let mut progress = Told::new(alloc);
     handshake(
@@ -45,7 +45,7 @@ fn account(alloc: Global) -> Result<Outcome, AllocError> {
     })
 }
 
-// The account, or that an allocation failed.
+// The credentials, unless an allocation failed.
 fn with_account(alloc: Global) -> Result<Option<Outcome>, credentials::Error> {
     match account(alloc) {
         Ok(outcome) => Ok(Some(outcome)),
@@ -55,7 +55,7 @@ fn with_account(alloc: Global) -> Result<Option<Outcome>, credentials::Error> {
     }
 }
 
-// What a handshake says over a connection whose read of this number fails.
+// The result of a handshake over a connection whose read with this number fails.
 fn said(alloc: Global, fails: u64) -> Result<String, AllocError> {
     let device = Device::failing(REFS, 7, fails, ErrorKind::TimedOut);
     let paper = Paper::new(alloc, 16);
@@ -79,7 +79,7 @@ fn tells_of_each_read_that_fails(rt: HostRuntime) -> Result<(), Fail> {
     Ok(())
 }
 
-// What two handshakes say over a connection whose write of this number fails.
+// The results of two handshakes over a connection whose write with this number fails.
 fn said_twice(alloc: Global, fails: u64) -> Result<[String; 2], AllocError> {
     let device = Device::new(REFS, usize::MAX);
     let paper = Paper::failing(alloc, 16, fails, ErrorKind::BrokenPipe);
@@ -101,7 +101,7 @@ fn tells_of_each_write_that_fails(rt: HostRuntime) -> Result<(), Fail> {
     Ok(())
 }
 
-// A handshake that is through.
+// A handshake that is done.
 #[derive(Drop)]
 struct Shaken {
     found: Handshake,
@@ -109,7 +109,7 @@ struct Shaken {
     progress: Told,
 }
 
-// A handshake of a client that has an account, with a server that asks for it.
+// A handshake of a client that has credentials, with a server that requires them.
 fn shake_with_account(alloc: Global) -> Result<Shaken, Error> {
     let mut transport = denying(alloc, &[REFS])?;
     let mut progress = Told::new(alloc);
@@ -151,7 +151,7 @@ fn shakes_hands_with_an_account(rt: HostRuntime) -> Result<(), Fail> {
     let shaken = shake_with_account(rt.alloc())?;
     assert_eq!(rt; lengths(&shaken.found)?, (Some(2), Some(0)));
     assert_eq!(rt; username(&shaken.transport), Some("me"));
-    // Where a name can't be allocated, the step alone is told.
+    // If a name can't be allocated, only the step is reported.
     assert_eq!(rt;
         shaken.progress.lines(rt.alloc())?.as_str(),
         "steps\nhandshake\nstep\nauthentication\nstep\nhandshake (authenticated)\n",

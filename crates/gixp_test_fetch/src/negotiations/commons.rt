@@ -1,4 +1,4 @@
-//! An answer that names commits as common that nobody sent.
+//! A response that acknowledges commits that nobody sent.
 use crate::negotiations::repository::{answer, had_memory, id, ref_map};
 use gixp_doubles::Recorder;
 use gixp_graph::{Graph, NoObjects, NoRefs};
@@ -15,7 +15,7 @@ use gixp_shallow::Shallow;
 use std::alloc::{AllocError, Global};
 use std::test::Fail;
 
-// A hundred thousand ids, which are in no order and those of no commit.
+// A hundred thousand ids in no order, none of them a commit's.
 fn strangers(alloc: Global) -> Result<Vec<ObjectId>, AllocError> {
     let mut ids = Vec::new(alloc);
     let mut next = 0u32;
@@ -28,7 +28,7 @@ fn strangers(alloc: Global) -> Result<Vec<ObjectId>, AllocError> {
     Ok(ids)
 }
 
-// The answer that names these as common.
+// The response that acknowledges these ids as common.
 fn acknowledged(alloc: Global, ids: &[ObjectId]) -> Result<Response, Fail> {
     let mut text = Vec::from_slice(alloc, b"0014acknowledgments\n")?;
     for id in ids {

@@ -25,7 +25,7 @@ pub(crate) fn chain(alloc: Global) -> Result<MemoryObjects, AllocError> {
     Ok(objects)
 }
 
-/// Refs of the server that lead to these commits.
+/// A ref map with refs of the server that have these commits.
 pub(crate) fn ref_map(alloc: Global, numbers: &[u8]) -> Result<RefMap, AllocError> {
     let mut map = RefMap::empty(alloc);
     for number in numbers {
@@ -42,14 +42,14 @@ pub(crate) fn ref_map(alloc: Global, numbers: &[u8]) -> Result<RefMap, AllocErro
     Ok(map)
 }
 
-/// An answer of version 2 to a client that isn't done.
+/// A response of version 2 to a client that isn't done.
 pub(crate) fn answer(alloc: Global, text: &[u8]) -> Result<Response, Fail> {
     let mut bytes = text;
     let mut reader = LineReader::new(alloc, &mut bytes)?;
     Ok(Response::from_line_reader(alloc, Protocol::V2, &mut reader, false, true)?)
 }
 
-/// Tells of an allocation that failed in a call.
+/// Returns an error if an allocation failed in a call.
 pub(crate) fn had_memory<T, E>(answer: &Result<T, Error<E>>) -> Result<(), AllocError> {
     match answer {
         Err(Error::Memory) => Err(AllocError),

@@ -1,4 +1,4 @@
-//! Texts of errors, values that are copied, and windows.
+//! Texts of errors, copies of values, and windows.
 use crate::shown::texts;
 use gixp_graph::{ObjectError, RefStoreError};
 use gixp_negotiate::negotiate::one_round::window_size;
@@ -30,7 +30,7 @@ fn writes_each_error(rt: HostRuntime) -> Result<(), Fail> {
     Ok(())
 }
 
-// What a copy of an action knows, which is to negotiate.
+// Which objects are known in a copy of an action that has to negotiate.
 fn known_of_copy(action: &Action) -> Result<Vec<bool>, Fail> {
     match action.clone()? {
         Action::MustNegotiate {

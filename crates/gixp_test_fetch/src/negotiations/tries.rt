@@ -1,4 +1,4 @@
-//! What a call finds after one that was refused.
+//! Calls after one that failed.
 use crate::negotiations::repository::{answer, chain, had_memory, id, ref_map};
 use gixp_doubles::{MemoryObjects, MemoryRefs, Recorder};
 use gixp_graph::{
@@ -40,7 +40,7 @@ fn opened(alternates: &mut [MemoryRefs]) -> Result<&mut [MemoryRefs], u8> {
     Ok(alternates)
 }
 
-// A first step over the refs and this graph.
+// The first step with the refs and this graph.
 fn decide<O: Objects>(
     alloc: Global,
     graph: &mut Graph<O>,

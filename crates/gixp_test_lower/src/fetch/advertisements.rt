@@ -1,4 +1,4 @@
-//! An advertisement of version 1 with all its kinds of lines, whose reading allocates at each of them.
+//! A reference advertisement of version 1 with all kinds of lines. Reading each of them allocates.
 use bstr::BString;
 use gixp_capabilities::Capabilities;
 use gixp_hash::ObjectId;
@@ -22,7 +22,7 @@ const TAG: ObjectId = ObjectId { bytes: [0xbb; 20] };
 
 const PEELED: ObjectId = ObjectId { bytes: [0xcc; 20] };
 
-// The refs of these lines, where all others have this object.
+// The refs of these lines: a tag, and refs with this object.
 fn wanted(alloc: Global, object: ObjectId) -> Result<[Ref; 3], AllocError> {
     let main = b"refs/heads/main";
     Ok([
@@ -44,7 +44,7 @@ fn wanted(alloc: Global, object: ObjectId) -> Result<[Ref; 3], AllocError> {
     ])
 }
 
-// Whether these lines have these refs and one update.
+// Whether reading these lines returns these refs and one shallow update.
 fn has_refs_and_update(
     alloc: Global,
     capabilities: &Capabilities,

@@ -1,4 +1,4 @@
-//! Shallow updates of a handshake, which a client adds to an answer.
+//! Shallow updates of a handshake that a client adds to a response.
 use gixp_hash::ObjectId;
 use gixp_packetline::{LineReader, Protocol};
 use gixp_response::fetch::Response;
@@ -11,14 +11,14 @@ const A: &[u8] = b"0123456789012345678901234567890123456789";
 
 const B: &[u8] = b"bbbbbbbbbbbbbbbbbbbbbbbbbbbbbbbbbbbbbbbb";
 
-// An answer with one shallow line.
+// A response with one shallow line.
 fn shallow_answer(alloc: Global) -> Result<Response, Error> {
     let mut stream: &[u8] = b"0035shallow 0123456789012345678901234567890123456789\n";
     let mut reader = LineReader::new(alloc, &mut stream)?;
     Response::from_line_reader(alloc, Protocol::V1, &mut reader, true, true)
 }
 
-// Whether a copy of that answer has these updates once the last of them is added.
+// Whether a copy of that response has both updates after the second is added.
 fn has_both(alloc: Global, both: &[ShallowUpdate; 2]) -> Result<bool, Error> {
     let mut answer = shallow_answer(alloc)?;
     answer.append_v1_shallow_updates(Some(Vec::from_slice(alloc, &both[1..])?))?;

@@ -1,4 +1,4 @@
-//! Requests whose answers fail.
+//! Requests with failing responses.
 use bstr::BString;
 use gixp_capabilities::client::Error;
 use gixp_hash::ObjectId;
@@ -14,7 +14,7 @@ const A: &[u8] = b"0123456789012345678901234567890123456789";
 
 const B: &[u8] = b"bbbbbbbbbbbbbbbbbbbbbbbbbbbbbbbbbbbbbbbb";
 
-// What is sent for a want of B and a have of A, after `done`.
+// The request with a want of B, a have of A, and `done`.
 const REQUEST: &[u8] = b"0033want bbbbbbbbbbbbbbbbbbbbbbbbbbbbbbbbbbbbbbbb \n\
     00000032have 0123456789012345678901234567890123456789\n0009done\n";
 
@@ -27,7 +27,7 @@ fn asked(alloc: Global) -> Result<Arguments, Fail> {
     Ok(asked)
 }
 
-// A transport whose first answer fails.
+// A transport whose first response fails.
 fn failing_bodies(alloc: Global) -> Result<Bodies, AllocError> {
     let mut bodies = Vec::new(alloc);
     bodies.push(Body::Fail(ErrorKind::TimedOut))?;
@@ -39,13 +39,13 @@ fn failing_bodies(alloc: Global) -> Result<Bodies, AllocError> {
     )
 }
 
-// Whether a send fails where the answer does, with the request sent and its haves kept.
+// Whether `send` fails as the response does, although the request was sent; the arguments still have their haves.
 fn fails_once(transport: &mut Bodies, asked: &mut Arguments) -> Result<bool, Error> {
     let is_failed = fails_with(asked.send(transport, true), ErrorKind::TimedOut)?;
     Ok(is_failed && transport.sent().len() == 1 && asked.has_haves())
 }
 
-// Whether the whole request is the last one sent.
+// Whether the last request sent is the whole request.
 fn sends_again(transport: &mut Bodies, asked: &mut Arguments) -> Result<bool, Error> {
     asked.send(transport, true)?;
     match transport.sent().last() {
@@ -63,7 +63,7 @@ fn keeps_all_where_the_answer_fails(rt: HostRuntime) -> Result<(), Fail> {
     Ok(())
 }
 
-// Whether an answer fails with an I/O error of this kind; an allocation failure is told as it is.
+// Whether a call fails with an I/O error of this kind. An allocation failure is returned.
 fn fails_with<T: Drop>(answer: Result<T, Error>, kind: ErrorKind) -> Result<bool, Error> {
     match answer {
         Err(Error::Io(found)) => Ok(found == kind),

@@ -1,4 +1,4 @@
-//! Each public call once, by hand and through a box.
+//! Each public call once, directly and through a box.
 use crate::graph::repository::{Repository, add, id, never_failing};
 use bitflags::Flags as _;
 use gixp_graph::{CommitData, Flags, Graph, ObjectError, ObjectKind, Objects};
@@ -16,12 +16,10 @@ fn merge(alloc: Global) -> Result<BTreeMap<ObjectId, CommitData>, AllocError> {
     Ok(commits)
 }
 
-// A graph over the merge.
 fn graph_of_merge(alloc: Global) -> Result<Graph<Repository>, AllocError> {
     Ok(Graph::new(alloc, never_failing(merge(alloc)?)))
 }
 
-// Whether the parents of the merge are these.
 fn has_parents<O: Objects>(
     alloc: Global,
     graph: &Graph<O>,
@@ -30,7 +28,7 @@ fn has_parents<O: Objects>(
     Ok(graph.parents(alloc, &id(1))?.as_slice() == parents)
 }
 
-// Whether the merge is held, with its parents, only once it was looked up.
+// Whether the graph holds the merge, with its parents, only after a lookup.
 fn holds_what_it_looked_up<O: Objects>(
     alloc: Global,
     graph: &mut Graph<O>,
@@ -53,7 +51,7 @@ fn graph(rt: HostRuntime) -> Result<(), Fail> {
     Ok(())
 }
 
-// The calls of objects that have the merge.
+// The calls of an object store with the merge.
 fn reads<O: Objects>(rt: &impl Abort, alloc: Global, objects: &mut O) -> Result<(), ObjectError> {
     assert!(rt; objects.exists(&id(1)) && !objects.exists(&id(3)));
     assert!(rt; objects.kind(&id(1)) == Some(ObjectKind::Commit) && objects.kind(&id(3)).is_none());
@@ -61,7 +59,7 @@ fn reads<O: Objects>(rt: &impl Abort, alloc: Global, objects: &mut O) -> Result<
     Ok(())
 }
 
-// They are marked through a graph.
+// Marks the commits through a graph.
 fn is_marked<O: Objects + Drop>(alloc: Global, objects: O) -> Result<bool, ObjectError> {
     let mut graph = Graph::new(alloc, objects);
     graph.mark_complete(&[id(1)], Some(0))?;

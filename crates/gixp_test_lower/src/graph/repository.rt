@@ -7,7 +7,7 @@ use std::alloc::{AllocError, Global};
 use std::collections::BTreeMap;
 use std::io;
 
-/// Commits by their ids. The look-up before which `looks` reaches 0 fails, and so do all later ones.
+/// Commits by id. The lookup that finds `looks` at 0 fails, and so does each later one.
 #[derive(Drop)]
 pub(crate) struct Repository {
     pub commits: BTreeMap<ObjectId, CommitData>,
@@ -61,7 +61,6 @@ pub(crate) fn id(number: u16) -> ObjectId {
     ObjectId { bytes }
 }
 
-/// Adds a commit.
 pub(crate) fn add(
     alloc: Global,
     commits: &mut BTreeMap<ObjectId, CommitData>,

@@ -1,4 +1,4 @@
-//! The definition of the complete commits as a plain slow program: repeat until nothing is added.
+//! The complete commits by a slow reference program: it repeats a step until nothing is added.
 ghost use Rattle.std.specs.Prelude.{◌≡◌, ◌↔◌, IsTrue, IsSome, IfSome, IfNone, IfOk, Contains, All, Some, List};
 ghost use Rattle.std.specs.Bool.{OnTrue, OnFalse};
 ghost use Rattle.gixp_hash.specs.declared.object_id.ObjectId.{ObjectId};
@@ -12,14 +12,13 @@ use gixp_hash::ObjectId;
 use std::alloc::{AllocError, Global};
 use std::collections::BTreeMap;
 
-// Whether an id is among some.
 fn is_among(ids: &[ObjectId], id: &ObjectId) -> bool
     ensures { IsTrue result ↔ Contains ids.now id.now }
 {
     ids.contains(id)
 }
 
-// Whether a commit is found and isn't known.
+// Whether a commit exists and isn't known.
 fn is_unknown(commits: &BTreeMap<ObjectId, CommitData>, known: &[ObjectId], id: &ObjectId) -> bool
     ensures unknown { OnTrue result (IsSome (commit_at (objects_of commits.now.entries) id.now) × ¬ (Contains known.now id.now)) }
     ensures known { OnFalse result (IsSome (commit_at (objects_of commits.now.entries) id.now) → Contains known.now id.now) }
@@ -27,7 +26,7 @@ fn is_unknown(commits: &BTreeMap<ObjectId, CommitData>, known: &[ObjectId], id: 
     commits.contains_key(id) && !is_among(known, id)
 }
 
-// The first of some ids that is found and isn't known.
+// The first of these ids whose commit exists and isn't known.
 fn unknown(
     commits: &BTreeMap<ObjectId, CommitData>,
     known: &[ObjectId],
@@ -45,7 +44,7 @@ fn unknown(
     None
 }
 
-// The first parent of a commit that is found and isn't known, where the commit's time is at least the cutoff.
+// The first parent of a commit that exists and isn't known, if the commit is not older than the cutoff.
 fn unknown_parent_of(
     commits: &BTreeMap<ObjectId, CommitData>,
     known: &[ObjectId],
@@ -105,7 +104,6 @@ fn missing(
     }
 }
 
-/// The complete commits.
 pub(crate) fn complete(
     alloc: Global,
     commits: &BTreeMap<ObjectId, CommitData>,

@@ -1,4 +1,4 @@
-//! A caller that knows only a store's contract, over a store without refs.
+//! A caller that relies only on the contract of a store, with a store without refs.
 ghost use Rattle.std.specs.Prelude.{◌≡◌, IfOk};
 
 use bstr::BStr;
@@ -7,7 +7,7 @@ use gixp_hash::ObjectId;
 use std::alloc::Global;
 use std::test::Fail;
 
-// What the refs peel to, listed twice: the same ids.
+// Lists the peeled refs twice; the contract of the store implies that both lists are equal.
 fn list_twice<R: RefStore>(
     alloc: Global,
     refs: &mut R,

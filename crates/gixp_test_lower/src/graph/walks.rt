@@ -1,4 +1,4 @@
-//! Walks over worked histories, and over many beside the plain slow program.
+//! Walks over chosen histories, and over random ones compared with the slow reference program.
 use crate::graph::repository::{Repository, add, id, never_failing};
 use crate::graph::slow;
 use bitflags::Flags as _;
@@ -9,7 +9,7 @@ use std::collections::BTreeMap;
 use std::io;
 use std::test::Fail;
 
-// Whether a commit is held and complete.
+// Whether the graph holds a commit and it is complete.
 fn is_complete<O: Objects>(graph: &Graph<O>, number: u16) -> bool {
     match graph.get(&id(number)) {
         Some((_, flags)) => flags.contains(Flags::COMPLETE),
@@ -26,7 +26,7 @@ fn three(alloc: Global, time_of_b: i64) -> Result<BTreeMap<ObjectId, CommitData>
     Ok(commits)
 }
 
-// Which of the three are complete after a walk from A, and whether C is held.
+// Which of the three commits are complete after a walk from A, and whether the graph holds C.
 fn marked(alloc: Global, time_of_b: i64, cutoff: i64) -> Result<[bool; 4], ObjectError> {
     let mut graph = Graph::new(alloc, never_failing(three(alloc, time_of_b)?));
     graph.mark_complete(&[id(1)], Some(cutoff))?;
@@ -47,7 +47,7 @@ fn clocks_that_run_backwards(rt: HostRuntime) -> Result<(), Fail> {
     Ok(())
 }
 
-// A chain of 1,000 commits of one time, the first of which is the tip.
+// A chain of 1,000 commits of the same time. The first one is the tip.
 fn chain(alloc: Global, time: i64) -> Result<BTreeMap<ObjectId, CommitData>, AllocError> {
     let mut commits = BTreeMap::new(alloc);
     for number in 0..1000 {
@@ -56,7 +56,7 @@ fn chain(alloc: Global, time: i64) -> Result<BTreeMap<ObjectId, CommitData>, All
     Ok(commits)
 }
 
-// How many commits of that chain are complete, and how many are held, after a walk from its tip.
+// How many commits of that chain are complete after a walk from its tip, and how many the graph holds.
 fn counted(alloc: Global, cutoff: i64) -> Result<(u16, u16), ObjectError> {
     let mut graph = Graph::new(alloc, never_failing(chain(alloc, 50)?));
     graph.mark_complete(&[id(0)], Some(cutoff))?;
@@ -76,7 +76,7 @@ fn chain_of_one_time(rt: HostRuntime) -> Result<(), Fail> {
     Ok(())
 }
 
-// The next of a row of numbers without a pattern.
+// The next pseudorandom number.
 fn next(seed: &mut u64) -> u64 {
     *seed = seed
         .wrapping_mul(6364136223846793005)
@@ -84,7 +84,7 @@ fn next(seed: &mut u64) -> u64 {
     *seed >> 33
 }
 
-// A history of 12 commits, some of whose parents aren't there, with times from 0 to 7 in any order.
+// A history of 12 commits, some of whose parents don't exist, with times from 0 to 7 in any order.
 fn history(alloc: Global, seed: &mut u64) -> Result<BTreeMap<ObjectId, CommitData>, AllocError> {
     let mut commits = BTreeMap::new(alloc);
     for number in 0..12 {
@@ -100,7 +100,7 @@ fn history(alloc: Global, seed: &mut u64) -> Result<BTreeMap<ObjectId, CommitDat
     Ok(commits)
 }
 
-// Whether the commits that are held are these, and all are complete.
+// Whether the graph holds exactly these commits, and all are complete.
 fn holds<O: Objects>(graph: &Graph<O>, complete: &[ObjectId]) -> bool {
     (0..15).all(|number| {
         let is_among = complete.contains(&id(number));
@@ -108,7 +108,7 @@ fn holds<O: Objects>(graph: &Graph<O>, complete: &[ObjectId]) -> bool {
     })
 }
 
-// Whether a walk over a history marks what the slow program does, and how many commits that are.
+// Whether a walk over a history marks the same commits as the slow reference program, and how many.
 fn agrees(
     alloc: Global,
     commits: BTreeMap<ObjectId, CommitData>,
@@ -143,8 +143,8 @@ fn as_the_slow_program(rt: HostRuntime) -> Result<(), Fail> {
     Ok(())
 }
 
-// What a walk from A and from a commit that isn't there returns whose look of this number fails, and which of the
-// three are complete after it.
+// The result of a walk from A and from a commit that doesn't exist, whose lookup with this number fails, and which of
+// the three commits are complete after it.
 fn marked_by(
     alloc: Global,
     looks: u64,

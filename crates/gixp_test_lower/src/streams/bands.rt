@@ -1,4 +1,4 @@
-//! Readers of bands: the interrupt of a caller's flag, and what stands in a transport that is given back.
+//! Sideband readers: a caller's interrupt flag, and the next line of a transport that was returned.
 use gixp_doubles::Device;
 use gixp_packetline::{ExtendedBufRead, LineReader};
 use gixp_sidebands::{BandText, InterruptFlag, NeverInterrupt, WithSidebands};
@@ -8,7 +8,7 @@ use std::io;
 use std::io::{BufRead, ErrorKind, Read};
 use std::test::Fail;
 
-// Writes each text down, as `[2:text]` or `[3:text]`.
+// Records each text, as `[2:text]` or `[3:text]`.
 #[derive(Drop)]
 struct Notes<'a> {
     said: &'a mut String,
@@ -28,13 +28,13 @@ impl BandText for Notes<'_> {
 
 const STREAM: &[u8] = b"0006\x01P0005\x010007\x02hi0006\x01A0000";
 
-// The size of a read, or the kind of its failure.
+// The size of a read, or the kind of its error.
 fn size_read<R: Read>(reader: &mut R) -> Result<usize, ErrorKind> {
     let mut room = [0u8; 8];
     reader.read(&mut room).map_err(|e| e.kind())
 }
 
-// Whether there is an interrupt, and what two reads give after that question.
+// Whether the interrupt is set, and the results of two reads after that call.
 fn two_reads<T: ExtendedBufRead>(
     lines: &mut T,
     flag: &Cell<bool>,
@@ -49,7 +49,7 @@ fn two_reads<T: ExtendedBufRead>(
     )
 }
 
-// Whether the question is answered so, the second read ends so, and the text is heard.
+// Whether the interrupt has this value, the second read returns this, and the text was reported.
 fn heeds_the_flag(
     alloc: Global,
     interrupted: bool,
@@ -73,7 +73,7 @@ fn asks_the_flag_of_a_caller(rt: HostRuntime) -> Result<(), Fail> {
     Ok(())
 }
 
-// Peeks, if asked to, and reads so many bytes, one at most.
+// Peeks first if `peeks` is true, then reads `size` bytes, at most one.
 fn read_some<R: BufRead>(reader: &mut R, size: usize, peeks: bool) -> io::Result<()> {
     if peeks {
         let _ = reader.fill_buf()?;
@@ -83,7 +83,7 @@ fn read_some<R: BufRead>(reader: &mut R, size: usize, peeks: bool) -> io::Result
     Ok(())
 }
 
-// Whether this is the line that stands in a transport which was given back after so many bytes.
+// Whether this is the next line of the transport that is returned after such a read.
 fn leaves<T: ExtendedBufRead>(
     lines: &mut T,
     texts: &mut String,

@@ -1,4 +1,4 @@
-//! Line readers over devices that fail.
+//! Line readers over failing devices.
 use gixp_doubles::Device;
 use gixp_packetline::read::ExtendedBufRead;
 use gixp_packetline::{LineReader, Protocol};
@@ -6,7 +6,7 @@ use std::alloc::{AllocError, Global};
 use std::io::ErrorKind;
 use std::test::Fail;
 
-// What a call of a reader answers: the length of a line, `|` for a stop, or an error.
+// The result of a call of a reader: the length of a line, `|` for a flush or delimiter packet, or an error.
 fn word<R: ExtendedBufRead>(alloc: Global, reader: &mut R) -> Result<String, AllocError> {
     match reader.readline() {
         Ok(Some(line)) => format!(in alloc; "{} ", line.len()),
@@ -15,7 +15,7 @@ fn word<R: ExtendedBufRead>(alloc: Global, reader: &mut R) -> Result<String, All
     }
 }
 
-// What so many calls of a reader answer, one a word.
+// The results of this many calls of a reader, separated by blanks.
 pub(crate) fn read_all<R: ExtendedBufRead>(
     alloc: Global,
     reader: &mut R,
@@ -39,7 +39,7 @@ fn said(
     read_all(alloc, &mut reader, calls)
 }
 
-// A read that fails as at an end ends the stream.
+// A read that fails with `UnexpectedEof` ends the stream.
 #[test]
 fn takes_a_failure_of_that_kind_for_the_end(rt: HostRuntime) -> Result<(), Fail> {
     let device = Device::failing(b"0006a\n0000", 2, 3, ErrorKind::UnexpectedEof);

@@ -1,4 +1,4 @@
-//! Transports over devices that fail, bodies that fail, and a caller over any transport.
+//! Transports over failing devices, failing responses, and a caller over any transport.
 ghost use Rattle.std.specs.Prelude.{◌≡◌, [], IfOk, Ok};
 ghost use Rattle.gixp_packetline.specs.FrameText.{texts_of};
 ghost use Rattle.gixp_wire.specs.Message.{command_frames};
@@ -30,12 +30,12 @@ fn connection<'a>(
     Connection::new(alloc, device, paper, url, version, Vec::new(alloc), None)
 }
 
-// A connection over which nothing comes.
+// A connection whose server sends nothing.
 fn silent(alloc: Global, paper: Paper) -> Result<Connection<Device<'static>, Paper>, AllocError> {
     connection(alloc, Device::new(b"", usize::MAX), paper, Protocol::V2)
 }
 
-// A body for each of these answers: its bytes, or the kind of its failure.
+// A body for each of these responses: its bytes, or the kind of its error.
 fn bodies(
     alloc: Global,
     answers: &[Result<&[u8], ErrorKind>],
@@ -52,7 +52,7 @@ fn bodies(
     Bodies::new(alloc, list, url, accepted)
 }
 
-// Whether an answer fails with an I/O error of this kind, unless an allocation failed, here or in a writer.
+// Whether a call fails with an I/O error of this kind. An allocation failure, here or in a writer, is returned.
 fn fails_with<T: Drop>(answer: Result<T, Error>, kind: ErrorKind) -> Result<bool, AllocError> {
     match answer {
         Err(Error::Memory | Error::Io(ErrorKind::OutOfMemory)) => Err(AllocError),
@@ -61,14 +61,14 @@ fn fails_with<T: Drop>(answer: Result<T, Error>, kind: ErrorKind) -> Result<bool
     }
 }
 
-// A connection of which the write with this number fails.
+// A connection whose write with this number fails.
 fn broken_at(alloc: Global, fails: u64) -> Result<Connection<Device<'static>, Paper>, AllocError> {
     let paper = Paper::failing(alloc, usize::MAX, fails, ErrorKind::BrokenPipe);
     let device = Device::new(b"0000", usize::MAX);
     connection(alloc, device, paper, Protocol::V2)
 }
 
-// Whether three requests all tell of a broken pipe.
+// Whether three requests all return a broken pipe.
 fn refuses_requests<T: Transport>(over: &mut T) -> Result<bool, AllocError> {
     let messages = [Message::Line(b"a"), Message::Delimiter, Message::Flush];
     for _ in 0..3 {
@@ -79,7 +79,7 @@ fn refuses_requests<T: Transport>(over: &mut T) -> Result<bool, AllocError> {
     Ok(true)
 }
 
-// Whether the steps of a request and a handshake all tell of a broken pipe.
+// Whether the steps of a request and a handshake all return a broken pipe.
 fn refuses_steps<T: Transport>(alloc: Global, over: &mut T) -> Result<bool, AllocError> {
     let kind = ErrorKind::BrokenPipe;
     Ok(
@@ -90,7 +90,7 @@ fn refuses_steps<T: Transport>(alloc: Global, over: &mut T) -> Result<bool, Allo
     )
 }
 
-// Whether every request and step fails over a connection of which the write with this number fails.
+// Whether every request and step fails on a connection whose write with this number fails.
 fn stays_broken(alloc: Global, fails: u64) -> Result<bool, AllocError> {
     let mut over = broken_at(alloc, fails)?;
     Ok(refuses_requests(&mut over)? && refuses_steps(alloc, &mut over)?)
@@ -104,7 +104,7 @@ fn repeats_the_fault_of_a_write(rt: HostRuntime) -> Result<(), Fail> {
     Ok(())
 }
 
-// Whether a request is written whole where a write takes two bytes, and that with this number is interrupted.
+// Whether a request is written in full, where each write takes two bytes and the one with this number is interrupted.
 fn writes_whole(alloc: Global, fails: u64) -> Result<bool, Fail> {
     let paper = Paper::failing(alloc, 2, fails, ErrorKind::Interrupted);
     let mut over = silent(alloc, paper)?;
@@ -120,7 +120,7 @@ fn writes_on_where_a_write_comes_short(rt: HostRuntime) -> Result<(), Fail> {
     Ok(())
 }
 
-// Whether a request over this writer fails by this kind.
+// Whether a request with this writer fails with this kind.
 fn refuses(alloc: Global, paper: Paper, kind: ErrorKind) -> Result<bool, AllocError> {
     let mut over = silent(alloc, paper)?;
     fails_with(over.request(&[Message::Flush]), kind)
@@ -142,7 +142,7 @@ fn tells_of_a_writer_that_refuses(rt: HostRuntime) -> Result<(), Fail> {
     Ok(())
 }
 
-// An answer of two parts, a failure, and an answer of one line.
+// A response of two parts, a failing one, and one of one line.
 fn three_bodies(alloc: Global) -> Result<Bodies, AllocError> {
     let answers = [
         Ok(b"0006a\n0006b\n00000006c\n".as_slice()),
@@ -152,7 +152,7 @@ fn three_bodies(alloc: Global) -> Result<Bodies, AllocError> {
     bodies(alloc, &answers, Vec::new(alloc))
 }
 
-// What a request of one message returns, and so many calls for lines after it.
+// The result of a request with one message, and of this many calls for lines after it.
 fn asked(
     alloc: Global,
     memory: &mut Bodies,
@@ -167,7 +167,7 @@ fn asked(
     format!(in alloc; "{answer:?} {lines}")
 }
 
-// What each call of a client returns that sends four requests. What it writes before the second one is dropped.
+// The result of each call of a client that sends four requests. What it writes before the second one is dropped.
 fn told_of_requests(alloc: Global, memory: &mut Bodies) -> Result<String, Fail> {
     let mut told = read_all(alloc, memory, 2)?;
     told.push_str(asked(alloc, memory, Message::Flush, 1)?.as_str())?;
@@ -182,7 +182,7 @@ fn told_of_requests(alloc: Global, memory: &mut Bodies) -> Result<String, Fail> 
     Ok(told)
 }
 
-// Whether four requests were sent, of which the second is this one alone.
+// Whether four requests were sent, the second of which is this one.
 fn sent_second(memory: &Bodies, request: &[u8]) -> bool {
     match memory.sent() {
         [_, second, _, _] => second.as_slice() == request,
@@ -206,8 +206,7 @@ fn takes_a_body_for_each_request(rt: HostRuntime) -> Result<(), Fail> {
     Ok(())
 }
 
-// Sends a command and takes the first line of its answer: true where one came. It knows no more of the transport
-// than what every transport says.
+// Sends a command and takes the first line of its response; true if there is one. It relies only on the contract of `Transport`.
 fn ask<T: Transport>(alloc: Global, transport: &mut T, command: &str) -> Result<bool, Error>
     ensures { IfOk result (λ came. (mid : Reading)
         × SentBy (T.reading transport.old).held.persists (T.reading transport.old) mid (texts_of (command_frames command.now [] []))

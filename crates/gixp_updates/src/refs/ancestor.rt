@@ -16,7 +16,7 @@ use gixp_graph::{Graph, Objects};
 use gixp_hash::ObjectId;
 use std::alloc::Global;
 
-// Whether more ids were looked for than the caller allows.
+// Whether more ids were looked up than the caller allows.
 fn is_beyond(seen: usize, most_commits: Option<usize>) -> bool
     ensures { IsTrue result ↔ IsBeyond seen most_commits }
 {
@@ -26,18 +26,18 @@ fn is_beyond(seen: usize, most_commits: Option<usize>) -> bool
     }
 }
 
-/// Whether the commit `old` is `new` or one of its ancestors (git-merge-base, `--is-ancestor`): of a ref that moves from
-/// one to the other, whether that is a fast-forward. It is false where either isn't there, or is no commit.
+/// Whether the commit `old` is `new` or one of its ancestors (git-merge-base, `--is-ancestor`). If a ref moves from
+/// `old` to `new`, that is a fast-forward. Returns false if either doesn't exist, or isn't a commit.
 ///
-/// The newest commits are taken first, until `old` is found or none is left; each is looked up once, and one that the
-/// graph holds isn't read again. Commits that name each other as parents do no harm. The graph holds what was found, with
-/// no marks; no mark changes.
+/// The walk takes the newest commit first, until it finds `old` or none is left. Each commit is looked up once, and
+/// one that the graph holds isn't read again. Commits that are each other's parents don't make it endless. The graph holds
+/// the commits that were found, without marks. No mark changes.
 ///
 /// # Errors
 ///
-/// `FindObject` where a commit can't be read, `Memory` where an allocation failed, and `TooManyCommits` where more than
-/// `most_commits` ids (ids of parents that aren't there counted) had been looked for by then; with none there is no
-/// such limit. The graph holds what was found so far, and a later call may succeed.
+/// `FindObject` where a commit can't be read. `Memory` where an allocation failed. `TooManyCommits` where more than
+/// `most_commits` ids were looked up, which includes ids of missing parents; `None` sets no limit. The graph holds the
+/// commits found so far, and a later call may succeed.
 pub fn is_ancestor<O: Objects>(
     alloc: Global,
     graph: &mut Graph<O>,
@@ -48,11 +48,11 @@ pub fn is_ancestor<O: Objects>(
     ensures ancestor { IfOk result (λ found. IsTrue found ↔ IsAncestor (commit_at graph.old.graph.objects) new.now old.now) }
     ensures graph { LooksUp graph.old.graph graph.new.graph }
 
-    // No commit is read twice, and none but those that aren't held, of the ids that are come to.
+    // No commit is read twice. Only ids that the walk reaches and whose commits aren't held are read.
     ensures asked { AsksEach (λ id. (finite.get graph.old.graph.held id ≡ None)
         × IsReachedFrom (commit_at graph.old.graph.objects) new.now id) graph.old.asked graph.new.asked }
 
-    // But for the ids that it comes to last, a success has come to no more than the caller allows.
+    // Except for the ids that it reaches last, a walk that succeeds reaches no more ids than the caller allows.
     ensures within { OnOk result (AsksWithin (commit_at graph.old.graph.objects) new.now most_commits graph.old.asked graph.new.asked) }
     ensures limited { result ≡ Err TooManyCommits → (most : ℕ) × (most_commits ≡ Some most)
         × ReachesMore (commit_at graph.old.graph.objects) new.now most }

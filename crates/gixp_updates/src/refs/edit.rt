@@ -1,4 +1,4 @@
-//! What is to be written.
+//! The updates of local refs.
 ghost use Rattle.std.specs.Prelude.{◌≡◌, ℕ, IfOk, if◌then◌else◌, None, Some};
 ghost use Rattle.std.specs.Option.{option_copied, option_map};
 ghost use Rattle.bstr.specs.Owned.{bstring_bytes};
@@ -24,25 +24,25 @@ use gixp_refspec::spec::Sign;
 use gixp_refspec::{RefSpec, RefSpecRef};
 use std::alloc::Global;
 
-/// What is to be written into a local ref.
+/// The change of a local ref.
 #[derive(Clone, Copy, Debug, PartialEq, Eq)]
 pub struct Edit {
-    /// The id that the ref holds; none where it holds none.
+    /// The id of the ref before. None for a new ref.
     pub previous: Option<ObjectId>,
-    /// The id that it is to hold.
+    /// The id that the ref gets.
     pub new: ObjectId,
 }
 
-/// What becomes of the local ref of one mapping.
+/// The update of the local ref of one mapping.
 #[derive(Clone, Copy, Debug, PartialEq, Eq)]
 pub struct Update {
-    /// How it is changed, or why it stays.
+    /// How the ref changes, or why it stays the same.
     pub mode: Mode,
-    /// What is to be written into it; none where it stays.
+    /// The change to write. None if the ref stays the same.
     pub edit: Option<Edit>,
 }
 
-// Whether a text is this one.
+// Whether the other text exists and is equal.
 fn is_text(text: &[u8], other: Option<&[u8]>) -> bool
     ensures { result ≡ is_text text.now (option_copied other.entry) }
 {
@@ -52,7 +52,7 @@ fn is_text(text: &[u8], other: Option<&[u8]>) -> bool
     }
 }
 
-// Whether a refspec is that of all tags.
+// Whether a refspec is the one of all tags.
 fn is_tags_spec(spec: RefSpecRef<'_>) -> bool
     ensures { result ≡ is_tags_spec (value_of spec.entry) }
 {
@@ -68,7 +68,7 @@ fn is_forced(spec: RefSpecRef<'_>) -> bool
     matches!(spec.sign, Sign::Force)
 }
 
-// Whether the refspec at a place begins with a plus.
+// Whether the refspec exists and begins with a plus.
 fn is_forced_at(spec: Option<&RefSpec>) -> bool
     ensures { result ≡ holds_at (λ s. is_forced s.sign) (option_copied spec.entry) }
 {
@@ -78,7 +78,7 @@ fn is_forced_at(spec: Option<&RefSpec>) -> bool
     }
 }
 
-// Whether the refspec at a place is that of all tags.
+// Whether the refspec exists and is the one of all tags.
 fn is_tags_spec_at(spec: Option<&RefSpec>) -> bool
     ensures { result ≡ holds_at is_tags_spec (option_copied spec.entry) }
 {
@@ -88,14 +88,14 @@ fn is_tags_spec_at(spec: Option<&RefSpec>) -> bool
     }
 }
 
-// Whether tags are written where their objects are there.
+// Whether tags are written if their objects exist.
 fn includes(tags: Tags) -> bool
     ensures { result ≡ includes tags }
 {
     matches!(tags, Tags::Included)
 }
 
-/// What a mapping asks for of its local ref.
+/// The wanted change of a mapping's local ref.
 pub(crate) fn wanted_of(
     tags: Tags,
     refspecs: &[RefSpec],
@@ -113,7 +113,7 @@ pub(crate) fn wanted_of(
     }
 }
 
-// What is to be written into a ref, where it is to hold an id.
+// The change of a ref, if the ref gets an id.
 fn edit_to<R: RefStore, O>(
     local: &Local<'_, R, O>,
     name: Option<&[u8]>,

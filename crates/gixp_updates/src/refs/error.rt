@@ -1,17 +1,16 @@
-//! Why it isn't known what becomes of the local refs.
 ghost use Rattle.std.specs.Prelude.{◌≡◌};
 
 use gixp_graph::ObjectError;
 use std::alloc::{AllocError, AllocFailed};
 use thiserror::Error as DeriveError;
 
-/// Why it isn't known what becomes of the local refs. No ref is written by it.
+/// Why the updates of the local refs can't be determined. No ref is written.
 #[derive(Clone, Copy, Debug, PartialEq, Eq, Drop, DeriveError)]
 pub enum Error {
-    /// A commit can't be looked up, for another reason than a failed allocation.
+    /// A commit can't be looked up, for another reason than an allocation failure.
     #[error("{0}")]
     FindObject(ObjectError),
-    /// More commits than the caller allows would have to be looked at.
+    /// More commits than the caller allows would have to be looked up.
     #[error("TooManyCommits")]
     TooManyCommits,
     /// An allocation failed.

@@ -1,4 +1,4 @@
-//! Commits whose parents are still to be looked at.
+//! A queue of commits whose parents weren't looked up yet.
 ghost use Rattle.std.specs.BinaryHeap.{heap_items, IsHeap};
 ghost use Rattle.std.proofs.Props.{props};
 ghost use Rattle.gixp_updates.specs.Pending.{pending_cmp};
@@ -7,14 +7,14 @@ use gixp_hash::ObjectId;
 use std::alloc::{AllocError, Global};
 use std::collections::BinaryHeap;
 
-/// A commit that waits. The newer one is the greater.
+/// A queued commit. The newer one is the greater.
 #[derive(Clone, Copy, PartialEq, Eq, PartialOrd, Ord)]
 pub(crate) struct Pending {
     pub time: i64,
     pub id: ObjectId,
 }
 
-/// Commits that wait. The newest is taken first, so that a walk for one that isn't far doesn't go far.
+/// Queued commits. The newest is taken first, so a search for a commit nearby ends early.
 #[derive(Drop)]
 pub(crate) struct Heap {
     waiting: BinaryHeap<Pending>,
@@ -30,7 +30,7 @@ impl Heap {
     ghost use Rattle.gixp_updates.specs.Search.{waits_in, waiting_len};
     ghost use Rattle.gixp_updates.specs.Pending.{pending_at};
 
-    /// None waits.
+    /// Creates an empty heap.
     pub fn new(alloc: Global) -> Heap
         ensures len { waiting_len result ≡ 0 }
         ensures none { (q : ObjectId) → waits_in result q ≡ false }
@@ -40,7 +40,7 @@ impl Heap {
         }
     }
 
-    /// Adds a commit.
+    /// Adds a commit of this time. Fails only if an allocation fails.
     pub fn push(&mut self, time: i64, id: ObjectId) -> Result<(), AllocError>
         ensures len { OnOk result (waiting_len self.new ≡ waiting_len self.old + 1) }
         ensures added { OnOk result (IsPermutation (pending_at time id ∷ heap_items self.old.waiting) (heap_items self.new.waiting)) }

@@ -1,4 +1,4 @@
-//! How a local ref is changed, or why it stays.
+//! How a local ref changes, or why it stays the same.
 ghost use Rattle.std.specs.Prelude.{◌≡◌, ◌≢◌, ℕ, ◌&&◌, ◌||◌, not, if◌then◌else◌, IfErr, IfOk, Some, None, Option};
 ghost use Rattle.std.specs.Option.{option_copied};
 ghost use Rattle.std.specs.FinMap as finite;
@@ -21,42 +21,40 @@ use gixp_hash::ObjectId;
 use gixp_refspec::name::is_partial_name;
 use std::alloc::Global;
 
-// Whether a local name may be written.
+// Whether a ref with this local name may be written.
 fn is_writable(name: &[u8]) -> bool
     ensures { result ≡ is_writable name.now }
 {
     name.starts_with(b"refs/") && is_partial_name(name)
 }
 
-// Whether it is that of a tag.
+// Whether the name is a tag's.
 fn is_tag_name(name: &[u8]) -> bool
     ensures { result ≡ is_tag_name name.now }
 {
     name.starts_with(b"refs/tags/")
 }
 
-// Whether it is that of a branch.
+// Whether the name is a branch's.
 fn is_branch_name(name: &[u8]) -> bool
     ensures { result ≡ is_branch_name name.now }
 {
     name.starts_with(b"refs/heads/")
 }
 
-// Whether a text is this one.
 fn is_text(text: &BString, name: &[u8]) -> bool
     ensures { result ≡ bytes_eq (bstring_bytes text.now) name.now }
 {
     text.as_bytes() == name
 }
 
-// Whether a name is among some.
 fn is_among(names: &[BString], name: &[u8]) -> bool
     ensures { result ≡ is_among names.now name.now }
 {
     names.iter().any(|other| is_text(other, name))
 }
 
-// Whether an id is that of a tree or a blob.
+// Whether the id belongs to a tree or a blob.
 fn is_tree_or_blob<O: Objects>(objects: &O, id: &ObjectId) -> bool
     ensures { result ≡ is_tree_or_blob (kind_at (O.contents objects.now) id.now) }
 {
@@ -67,7 +65,7 @@ fn is_tree_or_blob<O: Objects>(objects: &O, id: &ObjectId) -> bool
     }
 }
 
-// Whether an id is that of a commit.
+// Whether the id belongs to a commit.
 fn is_commit<P: Objects>(graph: &mut Graph<P>, id: &ObjectId) -> Result<bool, Error>
     ensures commit { IfOk result (λ is. is ≡ is_commit graph.old.graph.objects id.now) }
     ensures consults { (limit : Option ℕ) → Consults limit result graph.old graph.new }
@@ -77,18 +75,18 @@ fn is_commit<P: Objects>(graph: &mut Graph<P>, id: &ObjectId) -> Result<bool, Er
     Ok(graph.lookup(id)?.is_some())
 }
 
-/// What a mapping asks for of its local ref.
+/// The wanted change of a mapping's local ref.
 #[derive(Clone, Copy)]
 pub(crate) struct Wanted {
-    /// The id that it is to hold; none for an unborn ref.
+    /// The id that it gets. None for an unborn ref.
     pub id: Option<ObjectId>,
-    /// Whether by force.
+    /// Whether the refspec begins with a plus.
     pub is_forced: bool,
-    /// Whether it is a tag that is written only where its object is there.
+    /// Whether it is a tag that is written only if its object exists.
     pub is_implicit_tag: bool,
 }
 
-// A ref that is to be written.
+// A ref that gets an id.
 #[derive(Clone, Copy)]
 struct Target<'a> {
     name: &'a [u8],
@@ -96,7 +94,7 @@ struct Target<'a> {
     is_forced: bool,
 }
 
-// The mode by force, or else the other one.
+// `Forced` with force, else the other mode.
 fn forced_or(is_forced: bool, other: Mode) -> Mode
     ensures { result ≡ (if is_forced then Mode.Forced else other) }
 {
@@ -127,21 +125,20 @@ fn by_ancestry<P: Objects>(
     }
 }
 
-// Whether a branch is to name what is no commit.
+// Whether a branch would get an id that isn't a commit's.
 fn is_misplaced(name: &[u8], is_commit: bool) -> bool
     ensures { result ≡ (is_branch_name name.now && not is_commit) }
 {
     is_branch_name(name) && !is_commit
 }
 
-// Whether both are commits.
 fn are_commits(is_old_commit: bool, is_new_commit: bool) -> bool
     ensures { result ≡ (is_old_commit && is_new_commit) }
 {
     is_old_commit && is_new_commit
 }
 
-// Whether a ref may be set to an id, of which either isn't known to be a commit.
+// Whether a ref may get an id, where the old or the new id isn't known to be a commit's.
 fn is_free<O: Objects>(objects: &O, target: Target<'_>, old: &ObjectId) -> bool
     ensures { result ≡ (target.entry.is_forced || is_tree_or_blob (kind_at (O.contents objects.now) old.now) || is_tree_or_blob
         (kind_at (O.contents objects.now) target.entry.id.now)) }
@@ -185,7 +182,7 @@ fn moved<O: Objects, P: Objects>(
     Ok(forced_or(is_free(objects, target, old), Mode::RejectedNonFastForward))
 }
 
-// The mode of a ref that holds no id.
+// The mode of a new ref.
 fn made<P: Objects>(graph: &mut Graph<P>, target: Target<'_>) -> Result<Mode, Error>
     ensures mode { IfOk result (λ mode. mode ≡ made graph.old.graph.objects target.entry.name.now target.entry.id.now) }
     ensures consults { (limit : Option ℕ) → Consults limit result graph.old graph.new }
@@ -204,14 +201,13 @@ fn made<P: Objects>(graph: &mut Graph<P>, target: Target<'_>) -> Result<Mode, Er
     }
 }
 
-// Whether two ids are one.
 fn is_same(old: &ObjectId, new: &ObjectId) -> bool
     ensures { result ≡ bytes_eq old.now.bytes new.now.bytes }
 {
     old.bytes == new.bytes
 }
 
-// The mode of a ref by what it holds.
+// The mode of a ref by its current id.
 fn by_old<O: Objects, P: Objects>(
     alloc: Global,
     objects: &O,
@@ -235,7 +231,7 @@ fn by_old<O: Objects, P: Objects>(
     moved(alloc, objects, graph, target, &old, most_commits)
 }
 
-// The mode of a ref whose object isn't there.
+// The mode of a ref whose new object is missing.
 fn not_there(is_implicit_tag: bool, id: ObjectId) -> Mode
     ensures { result ≡ not_there is_implicit_tag id }
 {
@@ -246,7 +242,7 @@ fn not_there(is_implicit_tag: bool, id: ObjectId) -> Mode
     }
 }
 
-// The mode of a ref that is to hold none.
+// The mode of a ref whose source is unborn.
 fn unborn(is_there: bool) -> Mode
     ensures { result ≡ (if is_there then Mode.RejectedToReplaceWithUnborn else Mode.NoChangeNeeded) }
 {
@@ -266,7 +262,7 @@ pub(crate) struct Local<'a, R, O> {
     pub most_commits: Option<usize>,
 }
 
-// The mode of a ref by what it is to hold.
+// The mode of a ref by its new id.
 fn by_new<R: RefStore, O: Objects, P: Objects>(
     alloc: Global,
     local: &Local<'_, R, O>,
@@ -294,7 +290,7 @@ fn by_new<R: RefStore, O: Objects, P: Objects>(
     by_old(alloc, local.objects, graph, target, old, local.most_commits)
 }
 
-/// How the local ref of a mapping is changed, or why it stays.
+/// How the local ref of a mapping changes, or why it stays the same.
 pub(crate) fn mode_of<R: RefStore, O: Objects, P: Objects>(
     alloc: Global,
     local: &Local<'_, R, O>,

@@ -1,4 +1,4 @@
-//! Names of refs in a set, so that a name is looked up and not compared with each.
+//! Names of refs in a set, so that a name is looked up instead of compared with each.
 ghost use Rattle.std.specs.Prelude.{ℕ, List, ◌≡◌, ◌||◌, IfOk, OnOk, is_some};
 ghost use Rattle.std.specs.List.{list_any};
 ghost use Rattle.std.specs.Str.{bytes_eq};
@@ -19,7 +19,6 @@ pub(crate) fn has_object(found: &Ref) -> bool
     found.unpack().1.is_some()
 }
 
-// Adds a name.
 fn add_name<'r>(names: &mut BTreeSet<&'r [u8]>, name: &'r [u8]) -> Result<(), AllocError>
     ensures { OnOk result ((text : List ℕ) → has_text names.new text ≡ (has_text names.old text || bytes_eq text name.now)) }
 {
@@ -27,7 +26,7 @@ fn add_name<'r>(names: &mut BTreeSet<&'r [u8]>, name: &'r [u8]) -> Result<(), Al
     Ok(())
 }
 
-// Adds the name of a ref, where it has an object.
+// Adds the name of a ref, if the ref has an object.
 fn add_ref<'r>(names: &mut BTreeSet<&'r [u8]>, found: &'r Ref) -> Result<(), AllocError>
     ensures { OnOk result ((text : List ℕ) → has_text names.new text ≡ (has_text names.old text || is_named text found.now)) }
 {
@@ -37,11 +36,11 @@ fn add_ref<'r>(names: &mut BTreeSet<&'r [u8]>, found: &'r Ref) -> Result<(), All
     Ok(())
 }
 
-/// The names of the refs that have an object. Whatever names a server chooses, one is found in as many steps as any other.
+/// The names of the refs that have an object. Each look-up takes equally many steps, whatever names the server chooses.
 ///
 /// # Errors
 ///
-/// An allocation failure alone.
+/// Only an allocation failure.
 pub(crate) fn names_of(alloc: Global, refs: &[Ref]) -> Result<BTreeSet<&[u8]>, AllocError>
     ensures { IfOk result (HasNames refs.now) }
 {
@@ -52,7 +51,7 @@ pub(crate) fn names_of(alloc: Global, refs: &[Ref]) -> Result<BTreeSet<&[u8]>, A
     Ok(names)
 }
 
-// Whether a name that a rule makes of a short one is there.
+// Whether the full name that a rule makes of a short one is in the set.
 fn has_made(
     alloc: Global,
     names: &BTreeSet<&[u8]>,
@@ -65,7 +64,7 @@ fn has_made(
     Ok(names.contains(name.as_bytes()))
 }
 
-// Whether one of the names that rules make of a short one is there.
+// Whether one of the full names that rules make of a short one is in the set.
 fn has_any_made(
     alloc: Global,
     names: &BTreeSet<&[u8]>,
@@ -82,11 +81,11 @@ fn has_any_made(
     Ok(false)
 }
 
-/// Whether one of the names that a short one stands for is there.
+/// Whether one of the full names that a short name may mean is in the set.
 ///
 /// # Errors
 ///
-/// An allocation failure alone.
+/// Only an allocation failure.
 #[tactic(auto, unfolding(gixp_refspec::specs::Matching::candidates))]
 pub(crate) fn has_candidate(
     alloc: Global,

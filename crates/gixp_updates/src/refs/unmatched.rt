@@ -19,16 +19,16 @@ use std::collections::BTreeSet;
 /// A refspec that matched nothing.
 #[derive(Clone, Copy, Debug, PartialEq, Eq)]
 pub struct UnmatchedSpec {
-    /// Its place among those that the user asked for, from 0.
+    /// Its index in the list of refspecs that the user passed, from 0.
     pub index: usize,
-    /// Whether it is a pattern. `git fetch` fails where one that is none matched nothing.
+    /// Whether it is a pattern. `git fetch` fails if a refspec without a pattern matched nothing.
     pub is_pattern: bool,
 }
 
-// From how many refspecs on names are looked up in a set: to compare fewer with each ref takes less than to make it.
+// From so many refspecs on, names are looked up in a set. For fewer, comparing with each ref costs less than making the set.
 const MANY: usize = 64;
 
-// The refs of a server. Where many refspecs are compared with them, the names of those that have an object are in a set.
+// The refs of a server. With many refspecs to compare, the names of those that have an object are in a set.
 #[derive(Drop)]
 struct Looked<'r> {
     refs: &'r [Ref],
@@ -36,7 +36,7 @@ struct Looked<'r> {
     ghost named: { KnowsNames refs.now names },
 }
 
-// The refs, to be compared with so many refspecs.
+// The refs, prepared for so many refspecs.
 fn looked_at(alloc: Global, refs: &[Ref], count: usize) -> Result<Looked<'_>, AllocError>
     ensures { IfOk result (λ looked. looked.refs.now ≡ refs.now) }
 {
@@ -48,21 +48,21 @@ fn looked_at(alloc: Global, refs: &[Ref], count: usize) -> Result<Looked<'_>, Al
     Ok(Looked { refs, names })
 }
 
-// Whether a ref of the server that has an object has a name that the source matches.
+// Whether the needle matches the name of a ref that has an object.
 fn is_match(needle: &Needle<'_>, found: &Ref) -> bool
     ensures { result ≡ is_match_with needle.now found.now }
 {
     has_object(found) && needle.middle(found.name().as_bytes()).is_some()
 }
 
-// Whether one of the refs is so.
+// Whether the needle matches one of the refs.
 fn has_match(needle: &Needle<'_>, refs: &[Ref]) -> bool
     ensures { result ≡ list_any (is_match_with needle.now) refs.now }
 {
     refs.iter().any(|found| is_match(needle, found))
 }
 
-// The same by the set of names. A pattern is compared with each.
+// Whether the needle matches one of the refs, by the set of names. A pattern is compared with each ref.
 fn has_name(
     alloc: Global,
     needle: &Needle<'_>,
@@ -80,14 +80,13 @@ fn has_name(
     }
 }
 
-// Whether a source is an object id.
 fn is_id(source: &[u8]) -> bool
     ensures { result ≡ is_id source.now }
 {
     id_in(source).is_some()
 }
 
-// Whether one of the refs that have an object has a name that a source matches.
+// Whether a source matches the name of one of the refs that have an object.
 fn is_matched(alloc: Global, source: &[u8], looked: &Looked<'_>) -> Result<bool, AllocError>
     ensures { IfOk result (λ found. (s : Spec) → s.source ≡ source.now → found ≡ list_any (is_match s) looked.now.refs.now) }
 {
@@ -98,7 +97,7 @@ fn is_matched(alloc: Global, source: &[u8], looked: &Looked<'_>) -> Result<bool,
     }
 }
 
-// Whether a refspec asks for names of which none is there.
+// Whether a positive refspec of names matches none of the refs.
 fn is_unmatched(
     alloc: Global,
     spec: RefSpecRef<'_>,
@@ -113,7 +112,7 @@ fn is_unmatched(
     Ok(!is_matched)
 }
 
-// What is noted of a refspec at a place.
+// The entry for a refspec, if it matched nothing.
 fn note_on(
     alloc: Global,
     looked: &Looked<'_>,
@@ -130,7 +129,7 @@ fn note_on(
     Ok(Some(UnmatchedSpec { index, is_pattern }))
 }
 
-// Appends what is noted of a refspec at a place.
+// Appends the entry for a refspec, if it matched nothing.
 fn push_note(
     alloc: Global,
     notes: &mut Vec<UnmatchedSpec>,
@@ -146,12 +145,12 @@ fn push_note(
     Ok(())
 }
 
-/// The refspecs that the user asked for and that no ref of the server matches: neither negative ones nor object ids. An
-/// unborn ref counts as none. Where one of them is no pattern, `git fetch` fails (`couldn't find remote ref`).
+/// The refspecs of the user that no ref of the server matches, except negative ones and object ids. An unborn ref
+/// doesn't count as a match. If one of them isn't a pattern, `git fetch` fails (`couldn't find remote ref`).
 ///
 /// # Errors
 ///
-/// An allocation failure alone.
+/// Only an allocation failure.
 pub fn unmatched(alloc: Global, map: &RefMap) -> Result<Vec<UnmatchedSpec>, AllocError>
     ensures { IfOk result (λ found. found.items ≡ unmatched_of map.now.remote_refs.items map.now.refspecs.items) }
 {

@@ -1,4 +1,4 @@
-//! What becomes of each local ref.
+//! The updates of the local refs.
 ghost use Rattle.std.specs.Prelude.{◌≡◌, IfOk};
 ghost use Rattle.std.specs.Option.{option_copied, option_map};
 ghost use Rattle.bstr.specs.Owned.{bstring_bytes};
@@ -20,36 +20,36 @@ use gixp_refmap::fetch::Tags;
 use gixp_refmap::refmap::Mapping;
 use std::alloc::Global;
 
-/// What becomes of the local ref of one mapping. The names are the ones in `gix::remote::fetch::refs::update::Mode`, and two
+/// The update of the local ref of one mapping. The names are from `gix::remote::fetch::refs::update::Mode`, and two
 /// more.
 #[derive(Clone, Copy, Debug, PartialEq, Eq)]
 pub enum Mode {
-    /// It stays: it holds the id already, the mapping has no local name, or there is neither a ref nor an id.
+    /// The ref stays: it has the id already, or the mapping has no local name, or neither a ref nor an id exists.
     NoChangeNeeded,
-    /// It moves to a commit that the one that it held is an ancestor of.
+    /// The ref moves to a descendant of its commit.
     FastForward,
-    /// It is set to the id, though that is no fast-forward, or not known to be one.
+    /// The ref gets the id, though it isn't a fast-forward, or isn't known to be one.
     Forced,
-    /// It is made.
+    /// The ref is created.
     New,
-    /// It stays, since it is of a tag that is to be written only where its object is there (`Tags::Included`).
+    /// The ref stays, since it is a tag that is written only if its object exists (`Tags::Included`).
     ImplicitTagNotSentByRemote,
-    /// It stays, since the object that it is to name isn't there.
+    /// The ref stays, since its new object is missing.
     RejectedSourceObjectNotFound {
-        /// The name of the object.
+        /// The id of the object.
         id: ObjectId,
     },
-    /// It stays, since it is a tag, and the refspec doesn't begin with `+`.
+    /// The ref stays, since it is a tag, and the refspec doesn't begin with `+`.
     RejectedTagUpdate,
-    /// It stays, since it would lose commits, or isn't known not to, and the refspec doesn't begin with `+`.
+    /// The ref stays, since it would lose commits, or may lose some, and the refspec doesn't begin with `+`.
     RejectedNonFastForward,
-    /// It stays, since the ref of the server leads to nothing yet.
+    /// The ref stays, since the ref of the server is unborn.
     RejectedToReplaceWithUnborn,
-    /// It stays, since it is the branch of a work tree.
+    /// The ref stays, since it is a branch that is checked out in a work tree.
     RejectedCurrentlyCheckedOut,
-    /// It isn't touched, since its name breaks the rules for names, or doesn't begin with `refs/`.
+    /// The ref stays, since its name isn't valid, or doesn't begin with `refs/`.
     RejectedUnsafeName,
-    /// It stays, since it is a branch, and the object that it is to name is no commit.
+    /// The ref stays, since it is a branch, and its new object isn't a commit.
     RejectedNonCommit,
 }
 
@@ -61,8 +61,9 @@ impl Mode {
         matches!(self, Mode::FastForward | Mode::Forced | Mode::New)
     }
 
-    /// Whether the ref stays though it was asked for. Whether a program fails for it, [`Update::fails`](crate::refs::Update::fails)
-    /// says: a tag that came along by `Tags::Included` is rejected where it moved, and `git fetch` ends with 0.
+    /// Whether the ref stays although the mapping wants to change it. Whether a program has to fail for it is reported by
+    /// [`Update::fails`](crate::refs::Update::fails): a tag that was mapped by `Tags::Included` is rejected if it moved, but
+    /// `git fetch` exits with 0.
     pub fn is_rejected(&self) -> bool
         ensures { result ≡ is_rejected self.now }
     {
@@ -82,7 +83,8 @@ impl Mode {
         }
     }
 
-    /// Whether the ref stays though it was asked for, and its name is safe: `git fetch` leaves out a name that isn't, with a message.
+    /// Whether the ref stays although the mapping wants to change it, and its name is valid: `git fetch` skips an invalid
+    /// name with a message.
     pub(crate) fn is_failure(&self) -> bool
         ensures { result ≡ is_failure self.now }
     {
@@ -93,33 +95,33 @@ impl Mode {
     }
 }
 
-/// What the caller says of an update.
+/// The options of an update.
 #[derive(Clone, Copy)]
 pub struct Options<'a> {
-    /// The tags that the fetch asked for.
+    /// The tags of the fetch.
     pub tags: Tags,
-    /// The full names of the branches that are checked out in a work tree; none for a bare repository.
+    /// The full names of the branches that are checked out in a work tree. Empty for a bare repository.
     pub checked_out: &'a [BString],
-    /// The number of ids that one look at the ancestors of a commit may look for; none where there is no limit.
+    /// How many ids the search among the ancestors of one commit may look up. `None` sets no limit.
     pub most_commits: Option<usize>,
 }
 
-/// What becomes of the local ref of each mapping, in the order of the map, once what was asked for has come (git-fetch,
-/// "<refspec>"): of a ref whose update has an [`Edit`](crate::refs::Edit) its id is to be written, any other stays.
+/// The update of the local ref of each mapping, in the order of the map, after the fetch (git-fetch, "<refspec>"). If
+/// an update has an [`Edit`](crate::refs::Edit), its id has to be written to the ref. All other refs stay.
 ///
-/// It is called after every fetch, whether that returned a pack or none: `Ok(None)` says that no object was missing, and
-/// refs may still have to be written. Where no update has an edit, there is nothing to do.
+/// Call it after every fetch, with or without a pack: after `Ok(None)` no object was missing, but refs may have to
+/// be written. If no update has an edit, there is nothing to do.
 ///
-/// The objects and the graph are of the repository with all that came; a graph that was made before may hold what is out
-/// of date. A ref of a tag that is only included (`Tags::Included`) is written where its object came or was there. An
-/// existing tag, and a ref that would lose commits, is written only by a refspec that begins with `+`. So is one that
-/// holds, or is to hold, a tag object anywhere but in `refs/tags/`, since it isn't known what that leads to.
+/// The objects and the graph have to include what was fetched; a graph that was made before may be out of date. A
+/// ref of a tag that is only included (`Tags::Included`) is written if its object was fetched or existed. An existing tag, or
+/// a ref that would lose commits, is written only by a refspec that begins with `+`. The same holds for a ref whose old or
+/// new object is an annotated tag, except in `refs/tags/`, since the tag's target isn't known.
 ///
 /// # Errors
 ///
-/// `FindObject` where a commit can't be read, `Memory` where an allocation failed, `TooManyCommits` where one look at the
-/// ancestors of a commit exceeded the limit of the options. Nothing is written; the graph holds what was looked up, with no
-/// marks, and a later call may succeed.
+/// `FindObject` where a commit can't be read, `Memory` where an allocation failed, `TooManyCommits` where the search
+/// among the ancestors of a commit exceeded the limit of the options. Nothing is written. The graph holds what was looked up,
+/// without marks, and a later call may succeed.
 pub fn update<R: RefStore, O: Objects, P: Objects>(
     alloc: Global,
     map: &RefMap,
@@ -133,8 +135,8 @@ pub fn update<R: RefStore, O: Objects, P: Objects>(
         map.now.refspecs.items map.now.extra_refspecs.items map.now.mappings.items updates.items) }
     ensures consults { Consults options.now.most_commits result graph.old graph.new }
 
-    // Of each mapping two ids at most are looked up, and then there is one look at the ancestors of its commit within the limit,
-    // or none. That the limit was exceeded is told only of a commit of a mapping from which more ids are come to.
+    // For each mapping at most two ids are looked up, and then its ancestors are searched within the limit at most once.
+    // `TooManyCommits` is returned only if more ids can be reached from the commit of a mapping.
     ensures limited { KeepsLimitOfEach (commit_at graph.old.graph.objects) map.now.mappings.items options.now.most_commits result
         graph.old.asked graph.new.asked }
 {
@@ -153,7 +155,6 @@ pub fn update<R: RefStore, O: Objects, P: Objects>(
     Ok(updates)
 }
 
-// The local name of a mapping.
 fn local_name(mapping: &Mapping) -> Option<&[u8]>
     ensures { option_copied result ≡ option_map bstring_bytes mapping.now.local }
 {

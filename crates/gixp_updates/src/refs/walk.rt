@@ -1,4 +1,4 @@
-//! One walk from a commit to its ancestors.
+//! A walk from a commit to its ancestors.
 ghost use Rattle.std.specs.Prelude.{◌≡◌, ◌+◌, ◌≤◌, ◌⊎◌, ◌∷◌, ◌||◌, ◌≤ℤ◌, not, [], IfOk, IfErr, IfSome, IfNone, OnOk, OnErr, Some, IsSome, OnSome, true, false, length, All, Contains};
 ghost use Rattle.std.specs.List.{IsDistinct};
 ghost use Rattle.std.specs.BinaryHeap.{heap_items};
@@ -19,14 +19,13 @@ use gixp_hash::ObjectId;
 use std::alloc::{AllocError, Global};
 use std::collections::BTreeSet;
 
-/// The ids that were looked for, and the commits among them whose parents weren't.
+/// The ids that were looked up, and the commits among them whose parents weren't.
 #[derive(Drop)]
 pub(crate) struct Walk {
     seen: BTreeSet<ObjectId>,
     heap: Heap,
 }
 
-/// The parents of a commit that is held.
 pub(crate) fn parents_of<O: Objects>(
     alloc: Global,
     graph: &Graph<O>,
@@ -40,7 +39,7 @@ pub(crate) fn parents_of<O: Objects>(
 }
 
 impl Walk {
-    /// Nothing was looked for.
+    /// A walk that has looked up nothing.
     pub fn new(alloc: Global) -> Walk
         ensures unseen { (q : ObjectId) → (search_of result).seen q ≡ false }
         ensures none { (q : ObjectId) → (search_of result).waits q ≡ false }
@@ -51,7 +50,7 @@ impl Walk {
         }
     }
 
-    /// How many ids were looked for.
+    /// How many ids were looked up.
     pub fn seen(&self) -> usize
         ensures len { result ≡ length self.now.seen.keys }
         ensures distinct { IsDistinct (eq_by_cmp id_cmp) self.now.seen.keys }
@@ -61,7 +60,7 @@ impl Walk {
         self.seen.len()
     }
 
-    /// Takes the newest commit whose parents weren't looked for.
+    /// Takes the newest commit whose parents weren't looked up.
     pub fn pop(&mut self) -> Option<Pending>
         ensures seen { self.new.seen ≡ self.old.seen }
         ensures len { OnSome result (waiting_len self.old.heap ≡ waiting_len self.new.heap + 1) }
@@ -73,7 +72,7 @@ impl Walk {
         self.heap.pop()
     }
 
-    // Notes that an id is looked for. Returns whether it is new.
+    // Records that an id is looked up. Returns whether it is new.
     fn note(&mut self, id: &ObjectId) -> Result<bool, AllocError>
         ensures heap { self.new.heap ≡ self.old.heap }
         ensures added { IfOk result (λ added. tree.contains id_cmp self.old.seen id.now ≡ not added) }
@@ -87,7 +86,7 @@ impl Walk {
         }
     }
 
-    /// Looks for an id, unless that was done before. A commit that is found waits from then on.
+    /// Looks up an id, unless it was looked up before. A commit that is found is queued.
     pub fn look<O: Objects>(
         &mut self,
         graph: &mut Graph<O>,
@@ -120,7 +119,7 @@ impl Walk {
         }
     }
 
-    /// The same for some ids.
+    /// Looks at each of these ids, in their order.
     pub fn look_each<O: Objects>(
         &mut self,
         graph: &mut Graph<O>,

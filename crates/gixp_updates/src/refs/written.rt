@@ -1,4 +1,4 @@
-//! What is to be written into the local refs, by their names, and which updates a program fails for.
+//! The local refs to write, by name, and the updates for which a program has to fail.
 ghost use Rattle.std.specs.Prelude.{◌≡◌, IfOk};
 ghost use Rattle.std.specs.Option.{option_map};
 ghost use Rattle.gixp_updates.specs.Modes.{wanted_of, fails_as};
@@ -12,12 +12,12 @@ use gixp_refmap::refmap::Mapping;
 use std::alloc::{AllocError, Global};
 
 impl Update {
-    /// Whether `git fetch` would end with a status other than 0 for this: the ref stays though it was asked for. It takes the map, the
-    /// mapping that the update is of, and the tags that the fetch asked for.
+    /// Whether `git fetch` would exit with a status other than 0 for this update: the ref stays although the mapping wants
+    /// to change it. Takes the map, the mapping of this update, and the tags of the fetch.
     ///
-    /// Two rejected refs are no failure. A tag that came along by `Tags::Included` is one: git passes over such a tag where it exists.
-    /// A name that isn't safe is the other: git leaves it out with a message. A refspec that matched nothing has no mapping;
-    /// [`unmatched`](crate::refs::unmatched::unmatched) reports it.
+    /// Two kinds of rejected refs aren't failures. One is a tag that was mapped by `Tags::Included`: git skips such a tag
+    /// if it exists. The other is a ref with an invalid name: git skips it with a message. A refspec that matched nothing has
+    /// no mapping; [`unmatched`](crate::refs::unmatched::unmatched) reports it.
     pub fn fails(&self, map: &RefMap, mapping: &Mapping, tags: Tags) -> bool
         ensures { result ≡ fails_as (wanted_of tags map.now.refspecs.items map.now.extra_refspecs.items mapping.now) self.now.mode }
     {
@@ -26,7 +26,7 @@ impl Update {
     }
 }
 
-// The local name of a mapping, and what its update writes.
+// The local name of a mapping, with the change that its update writes.
 fn named_edit<'a>(mapping: &'a Mapping, update: &Update) -> Option<(BStr<'a>, Edit)>
     ensures { option_map edit_value result ≡ edit_named (update.now, mapping.now) }
 {
@@ -36,12 +36,12 @@ fn named_edit<'a>(mapping: &'a Mapping, update: &Update) -> Option<(BStr<'a>, Ed
     }
 }
 
-/// What is to be written: the full name of each local ref whose update has an [`Edit`], with that edit, in the order of the map. The
-/// updates are those that [`update`](crate::refs::update::update) returned for this map.
+/// The changes to write: the full name of each local ref whose update has an [`Edit`], with that edit, in the order of
+/// the map. The updates are the result of [`update`](crate::refs::update::update) for this map.
 ///
 /// # Errors
 ///
-/// An allocation failure alone.
+/// Only an allocation failure.
 pub fn edits<'a>(
     alloc: Global,
     map: &'a RefMap,

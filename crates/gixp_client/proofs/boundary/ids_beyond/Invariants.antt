@@ -1,4 +1,3 @@
--- What was found, and what is to come.
 use Rattle.std.proofs.Common.{◌≡◌, ◌++◌, length}
 use Rattle.gixp_client.specs.Boundaries.{ids_beyond}
 use Rattle.gixp_client.proofs.boundary.ids_beyond.Given as goal

@@ -1,4 +1,3 @@
--- The set with an id more.
 use Rattle.gixp_client.proofs.BoundaryLemmas.{id_added}
 use Rattle.gixp_client.proofs.boundary.insert_id.Goals as goal
 

@@ -1,4 +1,3 @@
--- The ids so far, and those to come.
 use Rattle.std.proofs.Common.{◌≡◌, length}
 use Rattle.std.specs.Prelude.{◌||◌}
 use Rattle.std.specs.BTreeSet.{contains}

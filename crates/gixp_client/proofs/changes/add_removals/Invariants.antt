@@ -1,4 +1,3 @@
--- The removals of the refs so far.
 use Rattle.std.proofs.Common.{◌≡◌, ◌++◌, map}
 use Rattle.std.specs.List.{flat_map}
 use Rattle.gixp_client.specs.Changes.{change_values, listed_value, removals_of}

@@ -1,4 +1,3 @@
--- The set with a name more.
 use Rattle.bstr.specs.Owned.{bstring_bytes}
 use Rattle.gixp_client.proofs.ChangeLemmas.{name_added}
 use Rattle.gixp_client.proofs.changes.insert_name.Goals as goal

@@ -1,4 +1,3 @@
--- What is known, and what is to come.
 use Rattle.std.proofs.Common.{◌≡◌, ◌++◌, length}
 use Rattle.std.specs.List.{filter_map}
 use Rattle.gixp_client.specs.Changes.{change_values, change_by}

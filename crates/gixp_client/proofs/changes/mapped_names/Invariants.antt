@@ -1,4 +1,3 @@
--- The names so far, and those to come.
 use Rattle.std.proofs.Common.{◌≡◌, ◌||◌, ℕ, List, length}
 use Rattle.gixp_client.specs.Changes.{is_mapped, has_key}
 use Rattle.gixp_client.proofs.changes.mapped_names.Given as goal

@@ -1,4 +1,4 @@
--- What is to come decides.
+-- The rest of the sources decides the result.
 use Rattle.std.proofs.Common.{◌≡◌, not, map, length}
 use Rattle.std.specs.List.{find}
 use Rattle.gixp_matching.specs.Mappings.{source_eq}

@@ -1,4 +1,3 @@
--- Which refs a ref map is made of.
 use Rattle.gixp_client.proofs.MapLemmas.{maps_refs_here, lists_for_map}
 use Rattle.gixp_client.proofs.laws.maps_list_again.Goals as goal
 

@@ -1,4 +1,3 @@
--- A session is one run of the law.
 use Rattle.gixp_client.proofs.PromiseLemmas.{one_run}
 use Rattle.gixp_client.proofs.laws.sessions_are_runs.Goals as goal
 

@@ -1,4 +1,3 @@
--- All bytes are tested.
 use Rattle.std.proofs.Common.{rules, tests, arith}
 use Rattle.std.specs.Char.{is_ascii_graphic}
 use Rattle.std.proofs.lemmas.Iterator.{YieldsList-from_slice}

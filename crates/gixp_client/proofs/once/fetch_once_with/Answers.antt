@@ -1,4 +1,3 @@
--- A session of one fetch is one run of the law.
 use Rattle.std.proofs.Common.{[], inl, inr}
 use Rattle.gixp_client.proofs.PromiseLemmas.{named_run}
 use Rattle.gixp_client.proofs.once.fetch_once_with.Goals as goal

@@ -1,4 +1,3 @@
--- The name of a feature that is missing.
 use Rattle.std.proofs.Common.{inl, refl}
 use Rattle.gixp_client.proofs.refusal.missing.Goals as goal
 

@@ -1,4 +1,3 @@
--- Each refspec of the clone is the one that it was made of.
 use Rattle.gixp_refspec.specs.RefSpec.{owned_value_of}
 use Rattle.gixp_client.proofs.CloneLemmas.{same_values}
 use Rattle.gixp_client.proofs.request.copied_specs.Goals as goal

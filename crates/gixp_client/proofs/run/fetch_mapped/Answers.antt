@@ -1,4 +1,4 @@
--- The negotiation of a session's fetch is over its map, and what is told of it is looked at once more.
+-- The negotiation of a session's fetch is over its map. The result is checked for unknown unshallowed ids.
 use Rattle.std.proofs.Common.{ap, sym, ◌∙◌}
 use Rattle.std.specs.BTreeSet.{contains}
 use Rattle.gixp_client.specs.Unshallowed.{known_alone}

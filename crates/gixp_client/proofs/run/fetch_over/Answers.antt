@@ -1,4 +1,3 @@
--- A fetch, and what is told of it.
 use Rattle.std.proofs.Common.{refl}
 use Rattle.std.specs.Prelude.{Err}
 use Rattle.gixp_fetch.specs.declared.error.Error.TheVariants.{Memory}

@@ -1,4 +1,4 @@
--- The updates that are left have the same first one that takes out what isn't there.
+-- The rest of the updates has the same first unknown id.
 use Rattle.std.proofs.Common.{◌≡◌, drop}
 use Rattle.std.specs.BTreeSet.{contains}
 use Rattle.gixp_hash.specs.ObjectId.{id_cmp}

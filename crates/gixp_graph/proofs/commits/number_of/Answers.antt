@@ -1,4 +1,3 @@
--- An id that gets a number.
 use Rattle.std.proofs.Common.{◌∙◌, sym, ap, length, subst, List}
 use Rattle.gixp_graph.specs.declared.commits.Node.{Node}
 use Rattle.gixp_graph.specs.Node.{ids_of}

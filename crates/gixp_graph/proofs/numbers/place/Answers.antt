@@ -1,4 +1,3 @@
--- Where a place is.
 use Rattle.std.proofs.Common.{◌≡◌, ◌∙◌, ◌-◌, ◌+◌, sym, ap, arith, ⊎_elim, inl, inr, bit_and, refl, ℕ}
 use Rattle.std.proofs.lemmas.Option.{slice_get_read}
 use Rattle.gixp_graph.specs.Slots.{place_from}

@@ -1,4 +1,3 @@
--- What a tag is.
 use Rattle.gixp_graph.specs.Slots.{tag_of}
 use Rattle.gixp_graph.proofs.numbers.tag_of.Goals as goal
 

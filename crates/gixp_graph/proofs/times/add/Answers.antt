@@ -1,4 +1,3 @@
--- A number goes before the others of its time.
 use Rattle.std.proofs.Common.{rules, arith, ◌≡◌, ◌∙◌, ℤ, sym, subst}
 use Rattle.std.specs.Prelude.{OnOk}
 use Rattle.std.specs.BTreeMap.{insert_entry}

@@ -1,4 +1,4 @@
--- The last list of the map is that of the greatest time.
+-- The last list of the map has the greatest time.
 use Rattle.gixp_graph.proofs.TimesLemmas.{last_taken}
 use Rattle.gixp_graph.proofs.times.take_list.Goals as goal
 

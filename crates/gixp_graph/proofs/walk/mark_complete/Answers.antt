@@ -1,4 +1,4 @@
--- The walk marks just what is complete.
+-- The walk marks exactly the complete commits.
 use Rattle.std.proofs.Common.{refl, [], ◌≡◌, ◌∙◌, ap, sym, subst, Some, arith, rules}
 use Rattle.std.specs.Prelude.{ℤ, ◌≤ℤ◌}
 use lib.Signed.{◌<ℤ◌}
@@ -200,7 +200,7 @@ returns-clause-complete g c =
     (walk_of c.loop-newest.commits c.loop-newest.visited q)) c.in_default-pop_newest.ensures.none v.walk)
     (λ k d l. absurd (omega arith)) v.tips
 
--- ---- which ids were asked for
+-- ---- which ids were read
 
 pub returns-in_default-clause-asked : goal.returns-in_default-clause-asked
 returns-in_default-clause-asked g c = asks_none _ _

@@ -1,4 +1,3 @@
--- What the loop keeps.
 use Rattle.std.proofs.Common.{◌≡◌, ◌+◌, ◌≤◌, length, Some}
 use Rattle.gixp_graph.specs.GraphData.{GraphData, graph_of}
 use Rattle.gixp_graph.specs.Visited.{is_visited, AllVisitedNamed}
@@ -23,7 +22,7 @@ invariant-loop-newest g l =
       tips : AllVisited (is_visited l.commits.ids l.visited) l.ids;
     }
 
--- the commits that weren't visited, and those that wait
+-- the number of commits that weren't visited, and of those that are queued
 abbrev pub decreases-loop-newest : goal.decreases-loop-newest
 decreases-loop-newest g l =
     left (graph_of (g.O.Objects.contents l.fn.objects) l.fn.commits.held) (is_visited l.commits.ids l.visited) + length l.queue

@@ -1,4 +1,3 @@
--- One commit is visited.
 use Rattle.std.proofs.Common.{◌≡◌, ◌∙◌, ap, sym, refl, rules, true, false, not}
 use Rattle.std.proofs.lemmas.Int.{to_z-of_z}
 use mir.Val.{SFits}
@@ -59,7 +58,7 @@ returns-in-Ok-clause-queue_named g c =
     named_one c.args.commits.now.ids c.mark_found.new.commits.ids c.mark_found.ensures.kept _ c.args.number c.args.queue.now
     c.push.new.self c.requires.named c.requires.queue_named c.in-Ok.ensures
 
--- ---- which ids were asked for
+-- ---- which ids were read
 
 pub returns-in_err-time-clause-asked : goal.returns-in_err-time-clause-asked
 returns-in_err-time-clause-asked g c =

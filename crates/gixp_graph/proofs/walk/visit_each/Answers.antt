@@ -1,4 +1,3 @@
--- The commits of some numbers are visited.
 use Rattle.std.proofs.Common.{◌≡◌, ℕ, ◌<◌, ◌∙◌, ap, sym, subst, refl, length, take, get_or, List, arith, ◌⊎◌, []}
 use Rattle.std.proofs.lemmas.List.{take_all, take_more, take-map}
 use Rattle.gixp_hash.specs.declared.object_id.ObjectId.{ObjectId}

@@ -1,4 +1,3 @@
--- What the loop keeps.
 use Rattle.std.proofs.Common.{◌≡◌, ◌≤◌, take}
 use Rattle.gixp_graph.specs.Table.{ids_at, KeepsNumbers}
 use Rattle.gixp_graph.specs.Visited.{AllVisitedNamed}

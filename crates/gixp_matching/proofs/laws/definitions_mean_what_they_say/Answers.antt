@@ -1,4 +1,3 @@
--- The laws, by their lemmas.
 use Rattle.gixp_matching.proofs.LawLemmas.{has-local_names}
 use Rattle.gixp_refspec.proofs.MatchLemmas.{between_middle, between_some}
 use Rattle.gixp_matching.proofs.SortedLemmas.{increasing-local_names}

@@ -1,4 +1,3 @@
--- Filtering by prefix is sound.
 use Rattle.gixp_matching.proofs.SameValidationLemmas.{keeps_answers}
 use Rattle.gixp_matching.proofs.laws.filtering_keeps_answers.Goals as goal
 

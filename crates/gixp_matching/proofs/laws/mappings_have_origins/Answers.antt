@@ -1,4 +1,3 @@
--- Each mapping has a refspec and a source.
 use Rattle.gixp_matching.proofs.OriginLemmas.{have_origins}
 use Rattle.gixp_matching.proofs.laws.mappings_have_origins.Goals as goal
 

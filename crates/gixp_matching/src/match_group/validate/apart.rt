@@ -12,7 +12,7 @@ use crate::match_group::key::{AsMapping, KeyBytes};
 use crate::match_group::sorted::{are_distinct, rises};
 use std::alloc::{AllocError, Global};
 
-/// Takes the local name of a mapping, where it has one, as the last one, and tells whether it is above the one before.
+/// Makes the local name of a mapping, if it has one, the last one. Returns whether it is above the previous one.
 pub(crate) fn local_rises<'a, M: AsMapping>(last: &mut Option<KeyBytes<'a>>, mapping: &'a M) -> bool
     ensures { IsTrue result → (keys : List KeyBytes) → RisesTo by_bytes keys last.old → (more : List KeyBytes)
         × (map key_bytes more ≡ option_to_list (M.mapped mapping.now).local) × RisesTo by_bytes (keys ++ more) last.new }
@@ -23,7 +23,7 @@ pub(crate) fn local_rises<'a, M: AsMapping>(last: &mut Option<KeyBytes<'a>>, map
     }
 }
 
-// Whether each local name is above the one before, so that no two are equal.
+// Whether each local name is above the previous one, so that no two are equal.
 fn are_in_order<M: AsMapping>(mappings: &[M]) -> bool
     ensures { IsTrue result → IsDistinct bytes_eq (locals (map M.mapped mappings.now)) }
 {
@@ -36,7 +36,7 @@ fn are_in_order<M: AsMapping>(mappings: &[M]) -> bool
     true
 }
 
-// Appends the number of the local name of a mapping, where it has one.
+// Appends the hash of the local name of a mapping, if it has one.
 fn push_digest<M: AsMapping>(mapping: &M, digests: &mut Vec<u64>) -> Result<(), AllocError>
     ensures { OnOk result (digests.new.items ≡ digests.old.items ++ map digest (option_to_list (M.mapped mapping.now).local)) }
 {
@@ -46,7 +46,7 @@ fn push_digest<M: AsMapping>(mapping: &M, digests: &mut Vec<u64>) -> Result<(), 
     Ok(())
 }
 
-// The numbers of the local names.
+// The hashes of the local names.
 fn local_digests<M: AsMapping>(alloc: Global, mappings: &[M]) -> Result<Vec<u64>, AllocError>
     ensures { IfOk result (λ digests. digests.items ≡ map digest (locals (map M.mapped mappings.now))) }
 {
@@ -57,7 +57,7 @@ fn local_digests<M: AsMapping>(alloc: Global, mappings: &[M]) -> Result<Vec<u64>
     Ok(digests)
 }
 
-/// Whether no two mappings have one local name, as far as the order of the names or their numbers tell.
+/// Whether the order of the local names, or their hashes, show that no two are equal.
 pub(crate) fn are_apart<M: AsMapping>(alloc: Global, mappings: &[M]) -> Result<bool, AllocError>
     ensures { IfOk result (λ d. IsTrue d → IsDistinct bytes_eq (locals (map M.mapped mappings.now))) }
 {

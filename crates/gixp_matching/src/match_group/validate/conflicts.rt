@@ -20,7 +20,7 @@ use bstr::BString;
 use gixp_refspec::spec::RefSpecRef;
 use std::alloc::{AllocError, Global};
 
-// Whether some mapping has another source than the first.
+// Whether a mapping has another source than the first.
 fn any_other<M: AsMapping>(first: &M, rest: &[&M]) -> bool
     ensures { result ≡ list_any (λ other. not (source_eq (M.mapped first.now).source (M.mapped other.now).source)) rest.now }
 {
@@ -28,7 +28,7 @@ fn any_other<M: AsMapping>(first: &M, rest: &[&M]) -> bool
     rest.iter().any(|other| source != other.key().0)
 }
 
-// Whether two of the mappings have different sources, so that one differs from the first.
+// Whether two of the mappings have different sources: then one differs from the first.
 fn differ<M: AsMapping>(group: &[&M]) -> bool
     ensures { result ≡ differ (lent M.mapped group.now) }
 {
@@ -38,7 +38,6 @@ fn differ<M: AsMapping>(group: &[&M]) -> bool
     }
 }
 
-// The texts of the refspecs.
 fn texts_of(alloc: Global, specs: &[RefSpecRef<'_>]) -> Result<Vec<BString>, AllocError>
     ensures { IfOk result (λ v. map bstring_bytes v.items ≡ map text_of (values specs.now)) }
 {
@@ -49,7 +48,6 @@ fn texts_of(alloc: Global, specs: &[RefSpecRef<'_>]) -> Result<Vec<BString>, All
     Ok(found)
 }
 
-// The text of the refspec of a mapping.
 fn text_of<M: AsMapping>(
     alloc: Global,
     texts: &[BString],
@@ -63,7 +61,6 @@ fn text_of<M: AsMapping>(
     }
 }
 
-// Appends the text of the refspec of a mapping.
 fn push_text<M: AsMapping>(
     alloc: Global,
     texts: &[BString],
@@ -77,7 +74,6 @@ fn push_text<M: AsMapping>(
     Ok(())
 }
 
-// The texts of the refspecs of the mappings.
 fn spec_texts<M: AsMapping>(
     alloc: Global,
     texts: &[BString],
@@ -92,7 +88,6 @@ fn spec_texts<M: AsMapping>(
     Ok(found)
 }
 
-// Appends the source of a mapping.
 fn push_source<M: AsMapping>(mapping: &M, sources: &mut Vec<SourceRef>) -> Result<(), AllocError>
     ensures { OnOk result (sources_in sources.new ≡ sources_in sources.old ++ (M.mapped mapping.now).source ∷ []) }
 {
@@ -100,7 +95,6 @@ fn push_source<M: AsMapping>(mapping: &M, sources: &mut Vec<SourceRef>) -> Resul
     Ok(())
 }
 
-// The sources of the mappings.
 fn sources<M: AsMapping>(alloc: Global, group: &[&M]) -> Result<Vec<SourceRef>, AllocError>
     ensures { IfOk result (λ v. sources_in v ≡ map (λ m. m.source) (lent M.mapped group.now)) }
 {
@@ -111,7 +105,6 @@ fn sources<M: AsMapping>(alloc: Global, group: &[&M]) -> Result<Vec<SourceRef>, 
     Ok(sources)
 }
 
-// The conflict over a local name.
 fn conflict<M: AsMapping>(
     alloc: Global,
     texts: &[BString],
@@ -130,7 +123,7 @@ fn conflict<M: AsMapping>(
     })
 }
 
-// Appends the conflict over a local name, where there is one.
+// Appends the conflict over a local name, if there is one.
 fn push_conflict<M: AsMapping>(
     alloc: Global,
     texts: &[BString],
@@ -147,7 +140,7 @@ fn push_conflict<M: AsMapping>(
     Ok(())
 }
 
-// Whether the mapping has the local name.
+// Whether the mapping has this local name.
 fn has_local<M: AsMapping>(mapping: &M, name: &[u8]) -> bool
     ensures { result ≡ has_local name.now (M.mapped mapping.now) }
 {
@@ -157,7 +150,7 @@ fn has_local<M: AsMapping>(mapping: &M, name: &[u8]) -> bool
     }
 }
 
-// Appends a mapping, where it has the local name.
+// Appends a mapping, if it has this local name.
 fn push_with<'a, M: AsMapping>(
     mapping: &'a M,
     name: &[u8],
@@ -172,7 +165,7 @@ fn push_with<'a, M: AsMapping>(
     Ok(())
 }
 
-// Those of the mappings that have the local name.
+// The mappings that have this local name.
 fn mappings_with<'a, M: AsMapping>(
     alloc: Global,
     mappings: &[&'a M],
@@ -187,14 +180,14 @@ fn mappings_with<'a, M: AsMapping>(
     Ok(own)
 }
 
-// Whether some mapping has the local name.
+// Whether one of the mappings has this local name.
 fn is_among<M: AsMapping>(mappings: &[&M], name: &[u8]) -> bool
     ensures { result ≡ list_any (λ m. has_local name.now (M.mapped m.now)) mappings.now }
 {
     mappings.iter().any(|mapping| has_local(*mapping, name))
 }
 
-// Appends the conflict over the local name of a mapping, where no mapping before has that name.
+// Appends the conflict over the local name of a mapping, unless an earlier mapping has that name.
 fn push_first<M: AsMapping>(
     alloc: Global,
     texts: &[BString],
@@ -215,7 +208,7 @@ fn push_first<M: AsMapping>(
     Ok(())
 }
 
-// Appends the conflicts over the local names of mappings. The names have one number, so that hardly ever there are two.
+// Appends the conflicts over the local names of mappings. These names have one hash, so there are hardly ever two.
 fn push_conflicts<M: AsMapping>(
     alloc: Global,
     texts: &[BString],
@@ -231,7 +224,7 @@ fn push_conflicts<M: AsMapping>(
     Ok(())
 }
 
-// The conflicts over the local names of groups, whose mappings stand behind one another.
+// The conflicts over the local names of groups, whose mappings follow one another.
 fn conflicts_of_groups<M: AsMapping>(
     alloc: Global,
     texts: &[BString],
@@ -251,8 +244,8 @@ fn conflicts_of_groups<M: AsMapping>(
     Ok(issues)
 }
 
-// The conflicts, in byte order of the local names, by the mappings of each number that several have. These are listed
-// one group after the other, since the rows of a group lie far from those of the next.
+// The conflicts, by the mappings of each hash that several local names have. The mappings are listed group by group,
+// since the rows of one group are far from the next group's.
 fn conflicts_by_number<M: AsMapping>(
     alloc: Global,
     specs: &[RefSpecRef<'_>],
@@ -269,8 +262,8 @@ fn conflicts_by_number<M: AsMapping>(
     Ok(issues)
 }
 
-/// The conflicts, in byte order of the local names. Mostly all local names are different, which is seen faster than
-/// the mappings of each name are found.
+/// The conflicts, sorted by the bytes of the local names. Mostly all local names differ. Checking that is faster than
+/// finding the mappings of each name.
 pub(crate) fn conflicts_of<M: AsMapping>(
     alloc: Global,
     specs: &[RefSpecRef<'_>],

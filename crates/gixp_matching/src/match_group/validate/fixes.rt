@@ -1,4 +1,4 @@
-//! Mappings whose local name is no whole name of a ref.
+//! Mappings whose local name isn't a full name of a ref.
 ghost use Rattle.std.specs.Prelude.{◌≡◌, [], ◌∷◌, ◌++◌, not, IfOk, OnOk, filter, map};
 ghost use Rattle.std.specs.List.{list_any};
 ghost use Rattle.bstr.specs.Owned.{bstring_bytes};
@@ -12,7 +12,6 @@ use bstr::BString;
 use gixp_refspec::spec::{RefSpecRef, is_full};
 use std::alloc::{AllocError, Global};
 
-/// The text of the refspec of a mapping.
 pub(crate) fn spec_text<M: AsMapping>(
     alloc: Global,
     specs: &[RefSpecRef<'_>],
@@ -28,7 +27,7 @@ pub(crate) fn spec_text<M: AsMapping>(
     }
 }
 
-/// Whether the mapping has a local name that is no whole name of a ref.
+/// Whether the mapping has a local name that isn't a full name of a ref.
 pub(crate) fn is_partial<M: AsMapping>(mapping: &M) -> bool
     ensures { result ≡ is_partial (M.mapped mapping.now) }
 {
@@ -38,14 +37,14 @@ pub(crate) fn is_partial<M: AsMapping>(mapping: &M) -> bool
     }
 }
 
-// Whether some mapping has a local name that is no whole name of a ref.
+// Whether a mapping has a local name that isn't a full name of a ref.
 fn has_partial<M: AsMapping>(mappings: &[M]) -> bool
     ensures { result ≡ list_any (λ mapping. is_partial (M.mapped mapping)) mappings.now }
 {
     mappings.iter().any(|mapping| is_partial(mapping))
 }
 
-// Appends the note on a mapping that is taken out.
+// Appends the fix for a mapping that is removed.
 fn push_fix<M: AsMapping>(
     alloc: Global,
     specs: &[RefSpecRef<'_>],
@@ -69,7 +68,7 @@ fn push_fix<M: AsMapping>(
     }
 }
 
-// The notes on the mappings that are taken out.
+// The fixes for the mappings that are removed.
 #[tactic(auto, unfolding(crate::specs::Validation::fixes))]
 fn fixes_of<M: AsMapping>(
     alloc: Global,
@@ -85,15 +84,15 @@ fn fixes_of<M: AsMapping>(
     Ok(found)
 }
 
-// Keeps the mappings whose local name is a whole name of a ref, or that have none.
+// Keeps the mappings whose local name is a full name of a ref, or that have none.
 fn keep_whole<M: AsMapping + Drop>(mappings: &mut Vec<M>)
     ensures { mappings.new.items ≡ filter (λ m. not (is_partial (M.mapped m))) mappings.old.items }
 {
     mappings.retain(|mapping| !is_partial(mapping));
 }
 
-/// Takes out the mappings whose local name is no whole name of a ref, and notes each. Mostly there is none, which one
-/// look at each local name tells.
+/// Removes the mappings whose local name isn't a full name of a ref, and returns a fix for each. Mostly there are
+/// none, which one pass over the local names shows.
 pub(crate) fn take_out_partial<M: AsMapping + Drop>(
     alloc: Global,
     specs: &[RefSpecRef<'_>],

@@ -1,4 +1,4 @@
-//! Mappings by the numbers of their local names.
+//! Mappings grouped by the hashes of their local names.
 ghost use Rattle.std.specs.Prelude.{ℕ, List, ◌≡◌, ◌++◌, ◌≤◌, not, drop, filter, length, map, OnOk, IfOk};
 ghost use Rattle.std.specs.List.{flat_map, position, position_or_len};
 ghost use Rattle.std.specs.List.Sorted.{IsPermutation};
@@ -8,7 +8,7 @@ use crate::match_group::digest::name_digest;
 use crate::match_group::key::AsMapping;
 use std::alloc::{AllocError, Global};
 
-/// A mapping that has a local name, the name's number, and the place of the row.
+/// A mapping with a local name, the name's hash, and the index of the row.
 #[derive(Drop)]
 pub(crate) struct Named<'a, M> {
     pub(crate) number: u64,
@@ -16,7 +16,7 @@ pub(crate) struct Named<'a, M> {
     pub(crate) mapping: &'a M,
 }
 
-/// The mappings whose local names have one number, and the place of the first.
+/// The mappings whose local names have one hash, and the index of the first.
 #[derive(Drop)]
 pub(crate) struct Group<'r, 'a, M> {
     pub(crate) number: u64,
@@ -24,7 +24,7 @@ pub(crate) struct Group<'r, 'a, M> {
     pub(crate) rows: &'r [Named<'a, M>],
 }
 
-// Appends a mapping, where it has a local name.
+// Appends a mapping, if it has a local name.
 fn push_named<'a, M: AsMapping>(
     mapping: &'a M,
     rows: &mut Vec<Named<'a, M>>,
@@ -43,7 +43,7 @@ fn push_named<'a, M: AsMapping>(
     Ok(())
 }
 
-// The mappings that have a local name, in their order.
+// The mappings with a local name, in their order.
 fn rows_of<M: AsMapping>(alloc: Global, mappings: &[M]) -> Result<Vec<Named<'_, M>>, AllocError>
     ensures { IfOk result (λ rows. map (shown M.mapped) rows.items ≡ flat_map numbered (map M.mapped mappings.now)) }
 {
@@ -54,7 +54,7 @@ fn rows_of<M: AsMapping>(alloc: Global, mappings: &[M]) -> Result<Vec<Named<'_, 
     Ok(rows)
 }
 
-// Puts the mappings of one number behind one another. They keep their order.
+// Moves the mappings with the same hash next to each other. They keep their order.
 fn put_together<M>(rows: &mut Vec<Named<'_, M>>) -> Result<(), AllocError>
     ensures together { OnOk result (AreTogether rows.new.items) }
     ensures same { OnOk result ((n : ℕ) → filter (has_number n) rows.new.items ≡ filter (has_number n) rows.old.items) }
@@ -63,7 +63,7 @@ fn put_together<M>(rows: &mut Vec<Named<'_, M>>) -> Result<(), AllocError>
     Ok(())
 }
 
-/// The mappings that have a local name; mappings of one hash stand one after another, in their order.
+/// The mappings with a local name. Those with the same hash follow one another, in their order.
 pub(crate) fn table_of<M: AsMapping>(
     alloc: Global,
     mappings: &[M],
@@ -75,14 +75,14 @@ pub(crate) fn table_of<M: AsMapping>(
     Ok(rows)
 }
 
-// The place of the first row with another number.
+// The index of the first row with another hash.
 fn other_in<M>(rows: &[Named<'_, M>], number: u64) -> Option<usize>
     ensures { result ≡ position (λ row. not (has_number number row)) rows.now }
 {
     rows.iter().position(|row| row.number != number)
 }
 
-// How many of the first rows have the number.
+// The number of leading rows with this hash.
 fn run_len<M>(rows: &[Named<'_, M>], number: u64) -> usize
     ensures place { result ≡ position_or_len (λ row. not (has_number number row)) rows.now }
     ensures within { result ≤ length rows.now }
@@ -90,7 +90,7 @@ fn run_len<M>(rows: &[Named<'_, M>], number: u64) -> usize
     other_in(rows, number).unwrap_or(rows.len())
 }
 
-// The first rows, as far as they have the number.
+// The leading rows with this hash.
 fn run_of<'r, 'a, M>(rows: &'r [Named<'a, M>], number: u64) -> &'r [Named<'a, M>]
     ensures run { result.now ≡ run_of number rows.now }
     ensures rest { drop (length result.now) rows.now ≡ after_run number rows.now }
@@ -99,7 +99,7 @@ fn run_of<'r, 'a, M>(rows: &'r [Named<'a, M>], number: u64) -> &'r [Named<'a, M>
     &rows[..run_len(rows, number)]
 }
 
-// Appends the rows of a number, where there are several.
+// Appends a group, if it has several rows.
 fn push_several<'r, 'a, M>(
     groups: &mut Vec<Group<'r, 'a, M>>,
     group: Group<'r, 'a, M>,
@@ -112,7 +112,7 @@ fn push_several<'r, 'a, M>(
     Ok(())
 }
 
-// The rows of each number that has several, in the order of the rows.
+// The groups of all hashes with several rows, in the order of the rows.
 fn several_of<'r, 'a, M>(
     alloc: Global,
     rows: &'r [Named<'a, M>],
@@ -139,14 +139,14 @@ fn several_of<'r, 'a, M>(
     Ok(groups)
 }
 
-// Puts groups into the order of their first rows, so that their mappings are read as they lie; nothing promises an order.
+// Sorts groups by their first rows, so that their mappings are read in memory order. No contract promises this order.
 fn sort_groups<M>(groups: &mut Vec<Group<'_, '_, M>>)
     ensures { IsPermutation groups.old.items groups.new.items }
 {
     groups.sort_unstable_by_key(|group| group.place);
 }
 
-/// The rows of each number that has several.
+/// The groups of all hashes with several rows.
 pub(crate) fn groups_of<'r, 'a, M>(
     alloc: Global,
     rows: &'r [Named<'a, M>],
@@ -159,7 +159,6 @@ pub(crate) fn groups_of<'r, 'a, M>(
     Ok(groups)
 }
 
-// Appends the mappings of rows.
 fn push_mappings<'a, M>(rows: &[Named<'a, M>], mappings: &mut Vec<&'a M>) -> Result<(), AllocError>
     ensures { OnOk result (mappings.new.items ≡ mappings.old.items ++ mappings_of rows.now) }
 {
@@ -169,7 +168,7 @@ fn push_mappings<'a, M>(rows: &[Named<'a, M>], mappings: &mut Vec<&'a M>) -> Res
     Ok(())
 }
 
-/// The mappings of groups, one after the other.
+/// The mappings of groups, group by group.
 pub(crate) fn mappings_of<'a, M>(
     alloc: Global,
     groups: &[Group<'_, 'a, M>],

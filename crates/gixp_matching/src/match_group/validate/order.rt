@@ -1,4 +1,4 @@
-//! Conflicts in byte order of their local names.
+//! Conflicts sorted by the bytes of their local names.
 ghost use Rattle.std.specs.Prelude.{◌≡◌, drop, take, OnOk};
 ghost use Rattle.std.specs.Cmp.Lexicographic.{slice_cmp};
 ghost use Rattle.std.specs.List.Sorted.{IsPermutation, IsSortedByKey};
@@ -10,10 +10,9 @@ use crate::match_group::validate::Issue;
 use std::alloc::AllocError;
 use std::cmp::Ordering;
 
-// So many bytes of a name are compared before the whole of it.
+// How many bytes of a name are compared before the whole name is.
 const WIDTH: usize = 64;
 
-// The local name.
 fn name_of(issue: &Issue) -> &[u8]
     ensures { result.now ≡ destination_of issue.now }
 {
@@ -25,7 +24,7 @@ fn name_of(issue: &Issue) -> &[u8]
     destination_full_ref_name.as_bytes()
 }
 
-// How many of the first bytes are the same in both names.
+// The length of the common prefix of two names.
 fn shared_len(first: &[u8], name: &[u8]) -> usize
     ensures { take result name.now ≡ take result first.now }
 {
@@ -37,7 +36,7 @@ fn shared_len(first: &[u8], name: &[u8]) -> usize
     first.len()
 }
 
-// How many of the first bytes are the same in all local names.
+// The length of the common prefix of all local names.
 fn front_len(issues: &[Issue]) -> usize
     ensures { ShareFront result issues.now }
 {
@@ -52,7 +51,7 @@ fn front_len(issues: &[Issue]) -> usize
     front
 }
 
-// The first eight bytes as a number, the first one highest, as if zeros stood behind the last.
+// The first eight bytes as a big-endian number, padded with zeros.
 #[tactic(auto, unfolding(crate::specs::Found::leading))]
 fn leading(bytes: &[u8]) -> u64
     ensures { result ≡ leading 8 bytes.now }
@@ -64,7 +63,7 @@ fn leading(bytes: &[u8]) -> u64
     number
 }
 
-// What is behind the first bytes of a local name, as a number.
+// The eight bytes after the common prefix, as a number.
 fn number_of(issue: &Issue, front: usize) -> u64
     ensures { result ≡ leading 8 (drop front (destination_of issue.now)) }
 {
@@ -72,7 +71,7 @@ fn number_of(issue: &Issue, front: usize) -> u64
     leading(&name[front.min(name.len())..])
 }
 
-// The bytes behind the first ones of the local name, as if zeros stood behind the last.
+// The bytes after the common prefix, padded with zeros.
 fn part_of(issue: &Issue, front: usize) -> [u8; WIDTH]
     ensures { result ≡ part 64 (drop front (destination_of issue.now)) }
 {
@@ -84,7 +83,7 @@ fn part_of(issue: &Issue, front: usize) -> [u8; WIDTH]
     part
 }
 
-// The byte order of the local names.
+// Compares the bytes of the local names.
 fn by_name(a: &Issue, b: &Issue) -> Ordering
     ensures { result ≡ slice_cmp nat_cmp (destination_of a.now) (destination_of b.now) }
 {
@@ -101,8 +100,8 @@ fn are_in_order(issues: &[Issue]) -> bool {
     true
 }
 
-// Brings conflicts close to byte order of their local names. The eight bytes behind those that all names share mostly tell the
-// order, else the part behind them: both lie beside one another, where names lie far apart.
+// Sorts conflicts almost by the bytes of their local names. The eight bytes after the common prefix mostly decide,
+// else the part after it. Both are stored next to each other, while names are far apart in memory.
 fn sort_by_parts(issues: &mut Vec<Issue>) -> Result<(), AllocError>
     ensures { IsPermutation issues.old.items issues.new.items }
 {
@@ -115,8 +114,9 @@ fn sort_by_parts(issues: &mut Vec<Issue>) -> Result<(), AllocError>
     Ok(())
 }
 
-/// Puts conflicts into byte order of their local names, which are mostly compared with their neighbours alone. A server that makes
-/// all parts equal has to send names so long that comparing them costs less than what else is done with their bytes.
+/// Sorts conflicts by the bytes of their local names. Most names are then only compared with their neighbours. A
+/// server that makes all parts equal has to send names so long that comparing them costs less than the rest of the work on
+/// them.
 pub(crate) fn sort_by_name(issues: &mut Vec<Issue>) -> Result<(), AllocError>
     ensures permutation { IsPermutation issues.old.items issues.new.items }
     ensures order { OnOk result (IsSortedByKey destination_of (slice_cmp nat_cmp) issues.new.items) }

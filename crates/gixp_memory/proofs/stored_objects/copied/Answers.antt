@@ -1,4 +1,3 @@
--- A copy has the same time and parents.
 use Rattle.std.proofs.Common.{◌∙◌, sym, ap, ℤ, rules}
 use Rattle.std.specs.Prelude.{option_map}
 use Rattle.std.proofs.lemmas.Int.{to_z-of_z}

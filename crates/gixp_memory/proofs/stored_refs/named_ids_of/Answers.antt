@@ -1,4 +1,3 @@
--- What each ref holds.
 use Rattle.std.proofs.Common.{ℕ, Vec, rules}
 use Rattle.std.specs.declared.alloc.Global.{Global}
 use Rattle.std.proofs.lemmas.Iterator.{YieldsList-from_map_by}

@@ -1,4 +1,3 @@
--- What each ref leads to.
 use Rattle.std.proofs.Common.{rules}
 use Rattle.std.specs.BTreeMap.{values}
 use Rattle.std.proofs.lemmas.Iterator.{items_from_collect, YieldsList-from_map}

@@ -1,4 +1,3 @@
--- The number so far, one digit more.
 use Rattle.gixp_memory.proofs.TextLemmas.{digit_more, digit_none, digits_all}
 use Rattle.gixp_memory.proofs.texts.digits.Goals as goal
 

@@ -1,4 +1,3 @@
--- The digits so far, and those to come.
 use Rattle.std.proofs.Common.{◌≡◌, ◌<◌, ◌^◌, drop}
 use Rattle.gixp_memory.specs.Repository.{digits_more}
 use Rattle.gixp_memory.proofs.texts.digits.Given as goal

@@ -1,4 +1,3 @@
--- The ids so far, and the words to come.
 use Rattle.std.proofs.Common.{map, drop}
 use Rattle.bstr.specs.BStr.{bstr_bytes}
 use Rattle.gixp_memory.proofs.TextLemmas.{NamedSoFar}

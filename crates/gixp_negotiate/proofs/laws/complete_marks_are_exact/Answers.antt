@@ -1,4 +1,3 @@
--- By what the walk marked.
 use Rattle.gixp_negotiate.proofs.MarkLemmas.{marks_are_exact}
 use Rattle.gixp_negotiate.proofs.laws.complete_marks_are_exact.Goals as goal
 

@@ -1,4 +1,3 @@
--- Marks are added.
 use Rattle.std.proofs.Common.{◌≡◌, subst, sym, true}
 use Rattle.gixp_graph.specs.GraphData.{GraphData}
 use Rattle.gixp_negotiators.specs.Marks.{COMMON, COMMON_REF, SEEN, POPPED, Grows, SeesNone, SeesOnly, SettlesNone, SettlesOnly, ListsNone, ListsOnly, PopsNone, PopsOnly, has_mark}

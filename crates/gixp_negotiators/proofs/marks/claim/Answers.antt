@@ -1,4 +1,3 @@
--- A mark is given.
 use Rattle.gixp_negotiators.proofs.LookLemmas.{none_some}
 use Rattle.gixp_negotiators.specs.Marks.{POPPED, has_all}
 use Rattle.std.proofs.Common.{ap}

@@ -1,4 +1,3 @@
--- A look at a commit.
 use Rattle.std.proofs.Common.{refl}
 use Rattle.gixp_negotiators.specs.MarkLaws.{grows_left}
 use Rattle.gixp_negotiators.proofs.LookLemmas.{grows_looked, held_looked, found_looked, missing_looked, none_looked, absent_looked, timed_looked}

@@ -1,4 +1,3 @@
--- A commit becomes common that was seen.
 use Rattle.std.proofs.Common.{◌≡◌, ◌+◌, ◌≤◌, ◌∷◌, [], arith, refl, true}
 use Rattle.std.proofs.lemmas.List.{length-append}
 use Rattle.gixp_negotiators.specs.Marks.{COMMON, SEEN, has_mark, left}

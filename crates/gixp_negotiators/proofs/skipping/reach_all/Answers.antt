@@ -1,4 +1,3 @@
--- Some commits become common.
 use Rattle.std.proofs.Common.{◌∙◌, arith, refl}
 use Rattle.std.proofs.lemmas.List.Elements.{All-nil}
 use Rattle.gixp_negotiators.specs.Spread.{was_seen}

@@ -21,18 +21,18 @@ returns-in_err-print_part-clause-refused g c =
     let p = err_from_is_err_and c.from_residual-in_err-print_part.result c.from_residual-in_err-print_part.ensures.1 in
     let before = c.parts.printed in
     rw p.1 (some_added _ _ _ _ _ (part_added (g.O.Objects.contents c.args.objects.now) _ _ _ _ _ before.map.mappings.items
-    (reverse before.later.items) c.parts.rest.now c.parts.invariant.0 _ c.is_any-any.result c.known_behind-rest.result.now
+    (reverse before.later.items) c.parts.rest.now c.parts.invariant.0 _ c.is_any-any.result c.known_after-rest.result.now
     (c.in_ok-more.ensures.added (λ _. false) (λ m b r. search rules)) c.is_any-any.ensures
-    (c.known_behind-rest.ensures ∙ ap (λ ms. drop (length ms) c.parts.rest.now) c.deref.ensures.value)))
+    (c.known_after-rest.ensures ∙ ap (λ ms. drop (length ms) c.parts.rest.now) c.deref.ensures.value)))
 
 pub returns-in_err-next_part-clause-refused : goal.returns-in_err-next_part-clause-refused
 returns-in_err-next_part-clause-refused g c =
     let p = err_from_is_err_and c.from_residual-in_err-next_part.result c.from_residual-in_err-next_part.ensures.1 in
     let before = c.parts.printed in
     rw p.1 (some_added _ _ _ _ _ (part_added (g.O.Objects.contents c.args.objects.now) _ _ _ _ _ before.map.mappings.items
-    (reverse before.later.items) c.parts.rest.now c.parts.invariant.0 _ c.is_any-any.result c.known_behind-rest.result.now
+    (reverse before.later.items) c.parts.rest.now c.parts.invariant.0 _ c.is_any-any.result c.known_after-rest.result.now
     (c.in_ok-more.ensures.added (λ _. false) (λ m b r. search rules)) c.is_any-any.ensures
-    (c.known_behind-rest.ensures ∙ ap (λ ms. drop (length ms) c.parts.rest.now) c.deref.ensures.value)))
+    (c.known_after-rest.ensures ∙ ap (λ ms. drop (length ms) c.parts.rest.now) c.deref.ensures.value)))
 
 pub returns-then-not-branch-clause-added : goal.returns-then-not-branch-clause-added
 returns-then-not-branch-clause-added g c =
@@ -43,11 +43,11 @@ returns-then-not-branch-clause-added g c =
     let none : reverse before.later.items ≡ [] =
     sym left ∙ sym c.in_ok-next_part.ensures.left ∙ c.in_ok-next_part.ensures.done (search rules) in
     adding_all _ _ _ _ _ (part_added (g.O.Objects.contents c.args.objects.now) _ _ _ _ _ before.map.mappings.items
-    (reverse before.later.items) c.parts.rest.now c.parts.invariant.0 _ c.is_any-any.result c.known_behind-rest.result.now
+    (reverse before.later.items) c.parts.rest.now c.parts.invariant.0 _ c.is_any-any.result c.known_after-rest.result.now
     (c.in_ok-more.ensures.added (λ _. false) (λ m b r. search rules)) c.is_any-any.ensures
-    (c.known_behind-rest.ensures ∙ ap (λ ms. drop (length ms) c.parts.rest.now) c.deref.ensures.value))
+    (c.known_after-rest.ensures ∙ ap (λ ms. drop (length ms) c.parts.rest.now) c.deref.ensures.value))
     (ap (λ ms. wishes (λ _. false) (g.O.Objects.contents c.args.objects.now) (can_use (codes "ref-in-want") c.args.arguments.now) true ms
-    c.known_behind-rest.result.now) none)
+    c.known_after-rest.result.now) none)
 
 pub parts-preserved : goal.parts-preserved
 parts-preserved g c =
@@ -56,11 +56,11 @@ parts-preserved g c =
     let lines = wishes (λ _. false) (g.O.Objects.contents c.args.objects.now) (can_use (codes "ref-in-want") c.args.arguments.now) true in
     let left : left_of printed ≡ reverse before.later.items =
     left_printed before printed c.in_ok-print_part.ensures.taken c.in_ok-print_part.ensures.later in (
-      subst (λ ms. Adding (lines (left_of c.args.printed.now) c.args.known.now) (lines ms c.known_behind-rest.result.now)
+      subst (λ ms. Adding (lines (left_of c.args.printed.now) c.args.known.now) (lines ms c.known_after-rest.result.now)
           c.is_any-any.result c.args.arguments.now c.add_wants.new.arguments) (sym left ∙ sym c.in_ok-next_part.ensures.left)
           (part_added (g.O.Objects.contents c.args.objects.now) _ _ _ _ _ before.map.mappings.items
-          (reverse before.later.items) c.parts.rest.now c.parts.invariant.0 _ c.is_any-any.result c.known_behind-rest.result.now
+          (reverse before.later.items) c.parts.rest.now c.parts.invariant.0 _ c.is_any-any.result c.known_after-rest.result.now
           (c.in_ok-more.ensures.added (λ _. false) (λ m b r. search rules)) c.is_any-any.ensures
-          (c.known_behind-rest.ensures ∙ ap (λ ms. drop (length ms) c.parts.rest.now) c.deref.ensures.value)),
+          (c.known_after-rest.ensures ∙ ap (λ ms. drop (length ms) c.parts.rest.now) c.deref.ensures.value)),
       c.in_ok-next_part.ensures.text ∙ c.in_ok-print_part.ensures.text ∙ c.parts.invariant.1,
     )

@@ -3,8 +3,8 @@ use Rattle.std.proofs.lemmas.Result.{err_from_is_err_and}
 use Rattle.gixp_planner.proofs.PrintLemmas.{each-next, next-part, next-fails}
 use Rattle.gixp_planner.proofs.print.write_texts.Goals as goal
 
-pub returns-in_err-put : goal.returns-in_err-put
-returns-in_err-put g c =
+pub returns-in_err-append_pieces : goal.returns-in_err-append_pieces
+returns-in_err-append_pieces g c =
     let p = err_from_is_err_and c.from_residual.result c.from_residual.ensures.1 in
     let text = c.deref.result.now in
     let rest = flat_map vec_items (drop (c.loop-text.text-index + 1) c.args.texts.now) in
@@ -12,8 +12,8 @@ returns-in_err-put g c =
       next-fails _ _ _ _ _ (text ++ []) rest _ c.loop-text.invariant
           (each-next vec_items c.args.texts.now c.loop-text.text-index c.text-item.result c.loop-text-test.true c.text-item.is
           ∙ ap (λ t. t ++ rest) (sym (append-nil text ∙ c.deref.ensures.value)))
-          c.in_err-put.ensures.text.0,
-      c.in_err-put.ensures.text.1,
+          c.in_err-append_pieces.ensures.text.0,
+      c.in_err-append_pieces.ensures.text.1,
     )
 
 pub loop-text-preserved : goal.loop-text-preserved
@@ -23,4 +23,4 @@ loop-text-preserved g c =
     next-part _ _ _ _ _ _ (text ++ []) rest _ c.loop-text.invariant
     (each-next vec_items c.args.texts.now c.loop-text.text-index c.text-item.result c.loop-text-test.true c.text-item.is
     ∙ ap (λ t. t ++ rest) (sym (append-nil text ∙ c.deref.ensures.value)))
-    c.in_ok-put.ensures.text
+    c.in_ok-append_pieces.ensures.text

@@ -1,4 +1,3 @@
--- The laws, by their lemmas.
 use Rattle.gixp_progress.proofs.RunLemmas.{run_is_first, run_is_only}
 use Rattle.gixp_progress.proofs.DigitLemmas.{number_by_places}
 use Rattle.gixp_progress.proofs.laws.runs_are_longest.Goals as goal

@@ -1,4 +1,3 @@
--- The first place that passes, or the end.
 use Rattle.std.proofs.Common.{◌∙◌, ap}
 use Rattle.std.specs.Prelude.{unwrap_or, length}
 use Rattle.gixp_progress.specs.Numbers.{is_digit}

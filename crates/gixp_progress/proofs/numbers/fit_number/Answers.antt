@@ -1,4 +1,4 @@
--- The number so far, one digit more.
+-- The number so far, with one more digit.
 use Rattle.std.proofs.Common.{get_or}
 use Rattle.gixp_progress.proofs.NumberLemmas.{digit_more, still_fits, too_large, all_read}
 use Rattle.gixp_progress.proofs.numbers.fit_number.Goals as goal

@@ -1,4 +1,3 @@
--- The refs so far stand in front of those to come.
 use Rattle.std.proofs.Common.{◌≡◌, ◌-◌, ◌≤◌, length, take, drop, map}
 use Rattle.std.specs.Prelude.{All}
 use Rattle.gixp_refs.specs.RefAdvertisement.{in_front}

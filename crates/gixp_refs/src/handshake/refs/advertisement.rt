@@ -1,4 +1,4 @@
-//! The refs that a server says first under versions 0 and 1 (gitprotocol-pack, "Reference Discovery").
+//! The reference advertisement of versions 0 and 1 (gitprotocol-pack, "Reference Discovery").
 ghost use Rattle.std.specs.Prelude.{◌≡◌, MatchResult};
 ghost use Rattle.gixp_refs.specs.V1Refs.{symref_values, ReadsV1, V1Fails, GivesAdvertisement, AdvertisementFails};
 
@@ -11,16 +11,15 @@ use gixp_packetline::ExtendedBufRead;
 use gixp_shallow::ShallowUpdate;
 use std::alloc::Global;
 
-/// The refs of an advertisement under version 0 or 1, of the lines up to the stop and in their order,
-/// and its shallow updates (gitprotocol-pack, "Reference Discovery").
+/// Reads the reference advertisement of version 0 or 1: the refs of the lines up to the flush packet, in their order,
+/// and the shallow updates (gitprotocol-pack, "Reference Discovery").
 ///
-/// The reader is then at the stop. A reader that is at one already gives no refs. A symref without a
-/// line gives none either.
+/// The reader is then at the flush packet. If it is at one already, there are no refs. A symref without a line of its own makes no ref.
 ///
 /// # Errors
 ///
-/// The refusal of [`from_capabilities`], before a line is read; else the first refusal, of a line or
-/// of the reader after the lines, with what [`parse::Error`] says of it. Beside one no ref is given.
+/// The error of [`from_capabilities`], before a line is read. After that the first error of a line or of the reader;
+/// [`parse::Error`] says what each leaves. No ref is returned with an error.
 pub fn from_v1_refs_received_as_part_of_handshake_and_capabilities<R: ExtendedBufRead>(
     alloc: Global,
     in_refs: &mut R,
@@ -37,7 +36,7 @@ pub fn from_v1_refs_received_as_part_of_handshake_and_capabilities<R: ExtendedBu
     read_v1(alloc, in_refs, &targets)
 }
 
-// The refs and the updates of the lines, by the symrefs.
+// Reads the refs and the shallow updates of the lines, with these symrefs.
 fn read_v1<R: ExtendedBufRead>(
     alloc: Global,
     in_refs: &mut R,

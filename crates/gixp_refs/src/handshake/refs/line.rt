@@ -1,4 +1,4 @@
-//! A line of an `ls-refs` answer (gitprotocol-v2, "ls-refs").
+//! Lines of an `ls-refs` response (gitprotocol-v2, "ls-refs").
 ghost use Rattle.std.specs.Prelude.{◌≡◌, None, Some, codes};
 ghost use Rattle.std.specs.Option.{option_copied};
 ghost use Rattle.bstr.specs.Owned.{bstring_bytes};
@@ -16,14 +16,13 @@ use gixp_capabilities::text::cut;
 use gixp_hash::ObjectId;
 use std::alloc::Global;
 
-// What the attributes of a line say.
 #[derive(Clone, Copy)]
 pub(crate) struct Attributes<'a> {
     symref_target: Option<&'a [u8]>,
     peeled: Option<ObjectId>,
 }
 
-// Whether a target is the word for none.
+// Whether a target is `(null)`, which means none.
 pub(super) fn is_null(target: &[u8]) -> bool
     ensures { result ≡ is_text target.now (codes "(null)") }
 {
@@ -58,7 +57,7 @@ fn unknown_attribute(alloc: Global, attribute: &[u8], line: &[u8]) -> Error
     }
 }
 
-// One more attribute of the line, beside those that it had.
+// Adds one more attribute of the line.
 fn read_attribute<'a>(
     alloc: Global,
     line: &[u8],
@@ -91,7 +90,6 @@ fn read_attribute<'a>(
     }
 }
 
-// The attributes after a name.
 fn read_attributes<'a>(
     alloc: Global,
     line: &[u8],
@@ -115,7 +113,7 @@ fn read_attributes<'a>(
     }
 }
 
-// An id, or none for `unborn`.
+// Reads an id; `None` for `unborn`.
 #[inline(always)]
 fn read_first(text: &[u8]) -> Result<Option<ObjectId>, Error>
     ensures { AnswersRefs object_of (first_piece text.now) result }
@@ -126,7 +124,6 @@ fn read_first(text: &[u8]) -> Result<Option<ObjectId>, Error>
     Ok(Some(read_id(text)?))
 }
 
-// The ref of an id, a name and attributes.
 #[inline(always)]
 fn make_born(
     alloc: Global,
@@ -166,7 +163,7 @@ fn make_born(
     }
 }
 
-// The ref of a name without an id, which needs a target and no more.
+// Makes a ref without an id. It needs a target; a peeled value is then ignored.
 fn make_unborn(alloc: Global, full_ref_name: BString, had: Attributes<'_>) -> Result<Ref, Error>
     ensures { AnswersRefs ref_value (value_of None (bstring_bytes full_ref_name) (attribute_values had.entry)) result }
 {
@@ -185,11 +182,11 @@ fn make_unborn(alloc: Global, full_ref_name: BString, had: Attributes<'_>) -> Re
     Err(Error::InvariantViolation { message })
 }
 
-/// The ref of a line of an `ls-refs` answer, for one who takes the lines (gitprotocol-v2, "ls-refs").
+/// Reads the ref of a line of an `ls-refs` response, for callers that read the lines themselves (gitprotocol-v2, "ls-refs").
 ///
 /// # Errors
 ///
-/// The first refusal of the line, with what [`Error`] says of it.
+/// The first error of the line; [`Error`] lists them.
 #[inline(always)]
 pub fn parse_v2(alloc: Global, line: &[u8]) -> Result<Ref, Error>
     ensures { AnswersRefs ref_value (v2_line line.now) result }

@@ -1,4 +1,4 @@
-//! Why there are no refs.
+//! Why reading refs fails.
 ghost use Rattle.std.specs.Prelude.{◌≡◌};
 ghost use Rattle.gixp_packetline.specs.Reading.{refusal_of};
 
@@ -10,25 +10,25 @@ use std::fmt;
 use std::io::ErrorKind;
 use thiserror::Error as DeriveError;
 
-/// What doesn't go together. It shows as a sentence, also by `Debug`.
+/// How lines or attributes contradict each other. `Display` and `Debug` write it as a sentence.
 #[derive(Clone, Copy, PartialEq, Eq)]
 pub enum Invariant {
-    /// A version 2 ref line without an id has no target either.
+    /// A version 2 ref line has no id, no target and no peeled value.
     UnbornObject,
-    /// A version 2 ref line without an id has a peeled one.
+    /// A version 2 ref line has a peeled value, but neither an id nor a target.
     UnbornTag,
-    /// The target of a version 2 ref line without an id is `(null)`.
+    /// A version 2 ref line has no id, and its target is `(null)`.
     UnbornNullTarget,
-    /// A peeled version 1 line comes after no ref line, or after the line of a symbolic ref.
+    /// A peeled version 1 line follows no ref line, or the line of a symref.
     PeeledAlone,
-    /// A peeled version 1 line comes after the ref line of another path.
+    /// A peeled version 1 line follows the ref line of another path.
     PeeledElsewhere,
 }
 
 impl Invariant {
     ghost use Rattle.gixp_refs.specs.ParseError.{invariant_text};
 
-    /// The sentence that it shows as.
+    /// The sentence that `Display` writes.
     pub fn as_str(&self) -> &'static str
         ensures { result.now ≡ invariant_text self.now }
     {
@@ -57,20 +57,19 @@ impl fmt::Debug for Invariant {
     }
 }
 
-/// Why an answer has no refs. Nothing of the answer is given beside one.
+/// Why reading refs fails. No ref is returned with an error.
 ///
-/// What is left after each of a reader's errors is what `read::Error` says of it. After an error
-/// of a line, that line and those before it are taken. A line that an error carries stands in it
-/// without the white space at its end.
+/// `read::Error` says what an error of the reader leaves. After an error of a line, this line and those before it are
+/// taken. A line in an error lacks the white space at its end.
 #[derive(Debug, Drop, DeriveError)]
 pub enum Error {
-    /// A read failed with this kind, or the stream ended before the stop (`UnexpectedEof`).
+    /// A read failed with this kind, or the stream ended before the flush or delimiter packet (`UnexpectedEof`).
     #[error("Io")]
     Io(ErrorKind),
-    /// Four bytes begin no frame.
+    /// Four bytes begin no packet line.
     #[error("{0}")]
     DecodePacketline(PacketError),
-    /// What should be an object id is none.
+    /// A text in place of an object id is not one.
     #[error("{0}")]
     Id(decode::Error),
     /// A capability `symref` isn't a name, a colon and a target.
@@ -85,13 +84,13 @@ pub enum Error {
     /// A version 2 ref line has an attribute other than `peeled` and `symref-target`.
     #[error("The ref attribute {attribute:?} is unknown. Found in line {line:?}")]
     UnknownAttribute { attribute: BString, line: BString },
-    /// Lines or attributes don't go together.
+    /// Lines or attributes contradict each other.
     #[error("{message}")]
     InvariantViolation { message: Invariant },
-    /// The server answered an error, with this message.
+    /// The server sent an `ERR ` line with this message.
     #[error("UploadPack")]
     UploadPack { message: BString },
-    /// The reader was refused otherwise: `UnexpectedFrame`, `NotUtf8`, `BadBand` or `Interrupted`.
+    /// Another error of the reader: `UnexpectedFrame`, `NotUtf8`, `BadBand` or `Interrupted`.
     #[error("Reader")]
     Reader(read::Error),
     /// An allocation failed.

@@ -1,4 +1,4 @@
-//! Refs that name other refs, as capabilities tell them (gitprotocol-capabilities, "symref").
+//! Symrefs in capabilities (gitprotocol-capabilities, "symref").
 ghost use Rattle.std.specs.Prelude.{◌≡◌, is_some, IfOk, OnOk};
 ghost use Rattle.std.specs.BTreeMap.{insert_entry};
 ghost use Rattle.std.specs.Option.{option_map};
@@ -18,7 +18,7 @@ use gixp_capabilities::{Capabilities, Capability};
 use std::alloc::{AllocError, Global};
 use std::collections::BTreeMap;
 
-// A name, and its target where that is told.
+// A name, and its target unless the server sent `(null)`.
 pub(crate) type Symref = (BString, Option<BString>);
 
 fn malformed(alloc: Global, symref: &[u8]) -> Error
@@ -30,7 +30,6 @@ fn malformed(alloc: Global, symref: &[u8]) -> Error
     }
 }
 
-// The symref of a name and a target that are both there.
 fn make_symref(alloc: Global, name: &[u8], target: &[u8]) -> Result<Symref, Error>
     ensures { AnswersRefs symref_value (made_symref name.now target.now) result }
 {
@@ -42,7 +41,7 @@ fn make_symref(alloc: Global, name: &[u8], target: &[u8]) -> Result<Symref, Erro
     Ok((name, Some(target)))
 }
 
-// The symref of a value of a capability `symref`.
+// Reads the value of a capability `symref`.
 fn read_value(alloc: Global, value: &[u8]) -> Result<Symref, Error>
     ensures { AnswersRefs symref_value (symref_by value.now (cut 58 value.now)) result }
 {
@@ -53,7 +52,7 @@ fn read_value(alloc: Global, value: &[u8]) -> Result<Symref, Error>
     }
 }
 
-// The symref of a capability, if it is one that has a value.
+// Reads the symref of a capability; `None` if it is another capability or has no value.
 pub(crate) fn read_symref(
     alloc: Global,
     capability: Capability<'_>,
@@ -69,10 +68,9 @@ pub(crate) fn read_symref(
     }
 }
 
-// The targets of the symrefs by their names.
 pub(crate) type Targets = BTreeMap<BString, Option<BString>>;
 
-// The targets by their names; of a name that comes again the first counts.
+// Maps names to targets. The first symref of a name counts.
 pub(crate) fn by_name(alloc: Global, mut symrefs: Vec<Symref>) -> Result<Targets, AllocError>
     ensures { IfOk result (λ targets. TellAlike (symref_values symrefs.items) (symref_values targets.entries)) }
 {
@@ -83,7 +81,7 @@ pub(crate) fn by_name(alloc: Global, mut symrefs: Vec<Symref>) -> Result<Targets
     Ok(targets)
 }
 
-// Puts a target under a name, in place of the one that it had.
+// Inserts a target under a name, in place of an earlier one.
 fn put(targets: &mut Targets, name: BString, target: Option<BString>) -> Result<(), AllocError>
     ensures { OnOk result (targets.new.entries ≡ insert_entry name_cmp targets.old.entries name target) }
 {
@@ -91,7 +89,7 @@ fn put(targets: &mut Targets, name: BString, target: Option<BString>) -> Result<
     Ok(())
 }
 
-// The target of the symref of this name, if there is one and it is told.
+// The target of the symref of this name, if there is one and the server sent its target.
 pub(crate) fn target_of<'a>(targets: &'a Targets, name: &BString) -> Option<&'a BString>
     ensures { option_map (λ s. bstring_bytes s.now) result
         ≡ told_target (symref_named (symref_values targets.now.entries) (bstring_bytes name.now)) }
@@ -102,22 +100,20 @@ pub(crate) fn target_of<'a>(targets: &'a Targets, name: &BString) -> Option<&'a 
     }
 }
 
-// Whether a symref has this name.
 pub(crate) fn is_symref(targets: &Targets, name: &BString) -> bool
     ensures { result ≡ is_some (symref_named (symref_values targets.now.entries) (bstring_bytes name.now)) }
 {
     targets.get(name).is_some()
 }
 
-/// The refs that name other refs, as the capabilities `symref` tell them: each name with its target,
-/// or none where that is `(null)`, in their order (gitprotocol-capabilities, "symref").
+/// Reads the symrefs of the capabilities `symref`, in their order (gitprotocol-capabilities, "symref"). A target is
+/// `None` where the server sent `(null)`.
 ///
-/// A name may come more than once; the first one counts.
+/// A name may occur more than once; the first one counts.
 ///
 /// # Errors
 ///
-/// The first refusal: `MalformedSymref` for a value that isn't a name, a colon and a target; or
-/// `Memory`.
+/// The first error: `MalformedSymref` for a value that isn't a name, a colon and a target; or `Memory`.
 pub fn from_capabilities(
     alloc: Global,
     capabilities: &Capabilities,

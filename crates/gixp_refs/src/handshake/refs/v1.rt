@@ -1,4 +1,4 @@
-//! The lines of an advertisement under versions 0 and 1 (gitprotocol-pack, "Reference Discovery").
+//! Lines of a reference advertisement of version 0 or 1 (gitprotocol-pack, "Reference Discovery").
 ghost use Rattle.std.specs.Prelude.{◌≡◌, ◌++◌, ◌==◌, map, Ok, Err, MatchResult, Some};
 ghost use Rattle.std.specs.List.{list_all};
 ghost use Rattle.gixp_refs.specs.declared.handshake.refs.parse.Error.TheVariants.{Memory};
@@ -20,12 +20,12 @@ use gixp_hash::{ObjectId, decode};
 use gixp_shallow::ShallowUpdate;
 use std::alloc::Global;
 
-// What a line is.
+// The meaning of a line.
 #[derive(Clone, Copy)]
 pub(crate) enum Line<'a> {
     // It only carries the capabilities.
     Nothing,
-    // What a tag leads to.
+    // The peeled value of a tag.
     Peeled { left: &'a [u8], base: &'a [u8] },
     Named { object: ObjectId, name: &'a [u8] },
     Shallow(ObjectId),
@@ -40,7 +40,6 @@ fn malformed(alloc: Global, line: &[u8]) -> Error
     }
 }
 
-// The id that a text is, or why it is none.
 fn id_in(text: &[u8]) -> Result<ObjectId, decode::Error>
     ensures { MatchResult result (λ id. id_value text.now ≡ Ok id.bytes) (λ e. id_value text.now ≡ Err (bad_id e)) }
 {
@@ -53,7 +52,7 @@ fn is_zeros(text: &[u8]) -> bool
     text.iter().all(|byte| *byte == b'0')
 }
 
-// A line whose path ends in `^{}`.
+// Reads a line whose path ends in `^{}`.
 fn peeled_line<'a>(left: &'a [u8], base: &'a [u8]) -> Line<'a>
     ensures { line_of result ≡ peeled_line left.now base.now }
 {
@@ -64,7 +63,7 @@ fn peeled_line<'a>(left: &'a [u8], base: &'a [u8]) -> Line<'a>
     }
 }
 
-// A line whose path ends otherwise.
+// Reads a line whose path doesn't end in `^{}`.
 fn read_plain<'a>(left: &[u8], path: &'a [u8]) -> Result<Line<'a>, Error>
     ensures { AnswersRefs line_of (plain_line left.now path.now (id_value left.now)) result }
 {
@@ -88,7 +87,6 @@ fn read_path<'a>(left: &'a [u8], path: &'a [u8]) -> Result<Line<'a>, Error>
     }
 }
 
-// What a line is, or its refusal.
 pub(crate) fn read_line(alloc: Global, line: &[u8]) -> Result<Line<'_>, Error>
     ensures { AnswersRefs line_of (v1_line line.now) result }
 {
@@ -100,14 +98,14 @@ pub(crate) fn read_line(alloc: Global, line: &[u8]) -> Result<Line<'_>, Error>
     }
 }
 
-// A ref line after which a peeled one may stand.
+// A ref line that a peeled line may follow.
 #[derive(Drop)]
 pub(crate) struct RefLine {
     object: ObjectId,
     name: BString,
 }
 
-// The ref of a ref line alone.
+// The ref of a ref line without a peeled line.
 fn make_single(targets: &Targets, line: RefLine) -> Result<Ref, Error>
     ensures { AnswersRefs ref_value (Ok (single (symref_values targets.now.entries) (named_value line))) result }
 {
@@ -129,7 +127,7 @@ fn make_single(targets: &Targets, line: RefLine) -> Result<Ref, Error>
     })
 }
 
-// The ref of a ref line and the peeled line after it.
+// The ref of a ref line and its peeled line.
 fn make_pair(targets: &Targets, line: RefLine, left: &[u8], base: &[u8]) -> Result<Ref, Error>
     ensures { AnswersRefs ref_value (pair (symref_values targets.now.entries) (Some (named_value line)) left.now base.now) result }
 {
@@ -151,7 +149,7 @@ fn make_pair(targets: &Targets, line: RefLine, left: &[u8], base: &[u8]) -> Resu
     })
 }
 
-// What the lines so far say: whole refs, a ref line that is open, and updates.
+// The state after some lines: the finished refs, the open ref line, and the shallow updates.
 #[derive(Drop)]
 pub(crate) struct Advertised {
     refs: Vec<Ref>,
@@ -170,7 +168,7 @@ impl Advertised {
         }
     }
 
-    // Takes in one more line. What it is after a refusal is left open.
+    // Adds one more line. After an error the state is arbitrary.
     pub(crate) fn add(&mut self, alloc: Global, targets: &Targets, line: &[u8]) -> Result<(), Error>
         ensures { AnswersRefs (λ _. so_far_value self.new)
             (with_text (symref_values targets.now.entries) (so_far_value self.old) line.now) result }
@@ -178,7 +176,7 @@ impl Advertised {
         self.add_line(alloc, targets, read_line(alloc, line)?)
     }
 
-    // The refs and the updates of all lines.
+    // The refs and the shallow updates of all lines.
     pub(crate) fn finish(
         mut self,
         targets: &Targets,
@@ -212,7 +210,7 @@ impl Advertised {
         }
     }
 
-    // A ref line: the one before stays without a peeled line.
+    // Adds a ref line. The open one has no peeled line.
     fn add_named(
         &mut self,
         alloc: Global,
@@ -229,7 +227,7 @@ impl Advertised {
         Ok(())
     }
 
-    // The ref line that is open stays without a peeled line.
+    // Finishes the open ref line, which has no peeled line.
     fn close(&mut self, targets: &Targets) -> Result<(), Error>
         ensures { MatchResult result (λ _. so_far_value self.new ≡ with_closed (symref_values targets.now.entries)
             (so_far_value self.old)) (λ e. e ≡ Memory) }
@@ -240,7 +238,6 @@ impl Advertised {
         }
     }
 
-    // A peeled line.
     fn peel(&mut self, targets: &Targets, left: &[u8], base: &[u8]) -> Result<(), Error>
         ensures { AnswersRefs (λ _. so_far_value self.new) (with_pair (so_far_value self.old)
             (pair (symref_values targets.now.entries) (so_far_value self.old).open_line left.now base.now)) result }

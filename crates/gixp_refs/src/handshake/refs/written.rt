@@ -1,4 +1,4 @@
-//! Lines of refs as git writes them (gitprotocol-v2, "ls-refs").
+//! Lines of refs, as git writes them (gitprotocol-v2, "ls-refs").
 ghost use Rattle.std.specs.Prelude.{◌≡◌, ◌++◌, ◌∷◌, ℕ, List, true, IfSome, codes};
 ghost use Rattle.std.specs.List.{list_all};
 ghost use Rattle.gixp_refs.specs.WrittenLine.{is_lower, is_written_id, IsWrittenLine};
@@ -6,7 +6,7 @@ ghost use Rattle.gixp_refs.specs.WrittenLine.{is_lower, is_written_id, IsWritten
 use crate::trim::trim_end;
 use gixp_capabilities::text::cut;
 
-// Whether it is a digit of lower case.
+// Whether this is a lower-case hexadecimal digit.
 #[inline(always)]
 fn is_lower(digit: u8) -> bool
     ensures { result ≡ is_lower digit }
@@ -14,7 +14,7 @@ fn is_lower(digit: u8) -> bool
     matches!(digit, b'0'..=b'9' | b'a'..=b'f')
 }
 
-// Whether all are. Each is looked at, so that there is no branch for it.
+// Whether all are lower-case hexadecimal digits. It tests each of them, so that there is no branch for each.
 #[inline(always)]
 fn are_lower(digits: &[u8]) -> bool
     ensures { result ≡ list_all is_lower digits.now }
@@ -26,7 +26,7 @@ fn are_lower(digits: &[u8]) -> bool
     all
 }
 
-// Whether this is the text of an id as git writes it.
+// Whether a text is an id as git writes it.
 #[inline(always)]
 fn is_written_id(text: &[u8]) -> bool
     ensures { result ≡ is_written_id text.now }
@@ -34,7 +34,7 @@ fn is_written_id(text: &[u8]) -> bool
     text.len() == 40 && are_lower(text)
 }
 
-// What comes after such an id and a blank.
+// The text after such an id and a blank.
 #[inline(always)]
 fn after_id(text: &[u8]) -> Option<&[u8]>
     ensures { IfSome result (λ rest. (id : List ℕ) × (is_written_id id ≡ true) × (text.now ≡ id ++ 32 ∷ rest.now)) }
@@ -49,7 +49,7 @@ fn after_id(text: &[u8]) -> Option<&[u8]>
     }
 }
 
-// Whether this is the attribute that tells where a tag leads to.
+// Whether this is the attribute `peeled`.
 #[inline(always)]
 fn is_peeled(attribute: &[u8]) -> bool
     ensures { result ≡ true → (id : List ℕ) × (is_written_id id ≡ true) × (attribute.now ≡ codes "peeled:" ++ id) }
@@ -60,10 +60,10 @@ fn is_peeled(attribute: &[u8]) -> bool
     }
 }
 
-/// The line without the white space at its end, where that is the line that git writes for its ref, but for its LF. So are
-/// lines with ids in lower case and without a target; none says nothing of a line.
+/// Returns the line without the white space at its end, if git writes exactly this line, and an LF, for its ref. It
+/// does so for lines with ids in lower case and without a target. `None` says nothing about a line.
 ///
-/// It is for one who prints lines as git does, and saves reading the ids.
+/// Programs that print lines as git does save reading the ids.
 #[inline(always)]
 pub fn written_text(line: &[u8]) -> Option<&[u8]>
     ensures { IfSome result (λ text. IsWrittenLine line.now text.now) }

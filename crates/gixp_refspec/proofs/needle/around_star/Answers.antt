@@ -1,4 +1,3 @@
--- The parts around the first asterisk.
 use Rattle.std.proofs.Common.{◌+◌, ◌∙◌, ap, sym, take, drop, length, arith}
 use Rattle.std.proofs.lemmas.List.{take_all, length-drop}
 use Rattle.gixp_refspec.proofs.StarLemmas.{star_at, no_star}

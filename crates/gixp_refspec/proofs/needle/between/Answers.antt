@@ -1,4 +1,3 @@
--- What is left behind the front and before the back is the middle.
 use Rattle.std.proofs.Common.{None, Some, sym}
 use Rattle.std.proofs.lemmas.Bool.Decides.{Decides-eqb}
 use Rattle.std.proofs.lemmas.Slice.Eq.{strip_prefix_is, strip_suffix_is}

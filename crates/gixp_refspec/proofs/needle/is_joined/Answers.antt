@@ -1,4 +1,3 @@
--- The name is front, middle and back, one after another.
 use Rattle.std.proofs.Common.{None, Some}
 use Rattle.std.proofs.lemmas.Bool.Decides.{Decides-eqb}
 use Rattle.std.proofs.lemmas.Slice.Eq.{strip_prefix_is}

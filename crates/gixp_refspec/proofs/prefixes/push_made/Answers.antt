@@ -1,4 +1,3 @@
--- The rules so far.
 use Rattle.gixp_refspec.specs.Matching.{joined, rule_of}
 use Rattle.gixp_refspec.specs.Texts.{texts}
 use Rattle.gixp_packetline.proofs.ListLemmas.{appended_more}

@@ -1,4 +1,4 @@
--- The rules so far.
+-- The prefixes by the rules so far were appended.
 use Rattle.std.proofs.Common.{◌≡◌, ◌++◌, take, map}
 use Rattle.gixp_refspec.specs.Matching.{joined, rule_of}
 use Rattle.gixp_refspec.specs.Texts.{texts}

@@ -1,4 +1,3 @@
--- The candidates of a short name.
 use Rattle.gixp_refspec.specs.Matching.{candidates}
 use Rattle.gixp_refspec.proofs.PrefixLemmas.{adds_short}
 use Rattle.gixp_refspec.proofs.prefixes.push_prefixes.Goals as goal

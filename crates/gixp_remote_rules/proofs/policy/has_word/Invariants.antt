@@ -1,4 +1,4 @@
--- What the words to come decide.
+-- Only the words that remain can be the word.
 use Rattle.std.proofs.Common.{◌≡◌, map, drop}
 use Rattle.std.specs.List.{list_any}
 use Rattle.std.specs.Str.{bytes_eq}

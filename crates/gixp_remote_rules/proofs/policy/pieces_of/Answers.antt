@@ -1,4 +1,3 @@
--- Each piece, as it is lent.
 use Rattle.std.proofs.Common.{◌==◌, rules, tests}
 use Rattle.std.specs.List.{slice_split}
 use Rattle.std.proofs.lemmas.List.{map-id}

@@ -1,4 +1,4 @@
--- One test, said in two ways.
+-- The same test, written in two ways.
 use Rattle.std.proofs.Common.{◌≡◌, map}
 use Rattle.std.specs.Char.{to_ascii_lowercase}
 use Rattle.std.proofs.lemmas.Slice.Eq.{bytes_eq-Decides}

@@ -1,4 +1,3 @@
--- Whether the ids are those of the old boundary.
 use Rattle.std.proofs.Common.{◌∙◌, sym}
 use Rattle.gixp_remote_session.proofs.BoundaryLemmas.{same_ids}
 use Rattle.gixp_remote_session.proofs.boundary.replaced.Goals as goal

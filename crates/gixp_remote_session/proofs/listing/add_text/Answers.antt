@@ -1,4 +1,3 @@
--- The set with a name more.
 use Rattle.gixp_remote_session.proofs.ListLemmas.{text_added}
 use Rattle.gixp_remote_session.proofs.listing.add_text.Goals as goal
 

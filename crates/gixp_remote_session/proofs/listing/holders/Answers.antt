@@ -1,4 +1,3 @@
--- One name more.
 use Rattle.gixp_remote_session.proofs.ListLemmas.{no_texts, holders_more}
 use Rattle.gixp_remote_session.proofs.listing.holders.Goals as goal
 

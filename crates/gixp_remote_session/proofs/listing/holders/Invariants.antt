@@ -1,4 +1,3 @@
--- The names of the refs so far.
 use Rattle.std.proofs.Common.{◌≡◌, ℕ, List, take}
 use Rattle.gixp_remote_session.specs.RefLines.{has_text, is_held}
 use Rattle.gixp_remote_session.proofs.listing.holders.Given as goal

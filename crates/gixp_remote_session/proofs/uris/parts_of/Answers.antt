@@ -1,4 +1,4 @@
--- The line is its first 41 bytes and the URI, and these are the name and a space.
+-- The line is its first 41 bytes and the URI, and these bytes are the hash and a space.
 use Rattle.std.proofs.Common.{◌++◌, Some, ap, sym, ◌∙◌, append_assoc, drop, arith}
 use Rattle.std.specs.Prelude.{codes}
 use Rattle.std.proofs.lemmas.List.{take-append-drop}

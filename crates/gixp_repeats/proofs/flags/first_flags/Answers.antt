@@ -1,4 +1,4 @@
--- A sort brings each repeat next to what it repeats.
+-- A sort moves each repeat next to the key that it repeats.
 use Rattle.std.proofs.Common.{◌∙◌, ap, true}
 use Rattle.gixp_repeats.specs.Repeats.{marked, tested_from}
 use Rattle.gixp_repeats.proofs.RepeatLemmas.{marked_after_sort}

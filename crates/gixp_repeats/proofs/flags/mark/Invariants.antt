@@ -1,4 +1,4 @@
--- What is left to be marked, after the flags so far, are the flags of all.
+-- To mark the remaining rows from these flags gives the flags of all rows.
 use Rattle.std.proofs.Common.{◌≡◌, drop}
 use Rattle.gixp_repeats.specs.Repeats.{marked, marked_after}
 use Rattle.gixp_repeats.proofs.flags.mark.Given as goal

@@ -1,4 +1,3 @@
--- No flag was taken.
 use Rattle.std.proofs.Common.{◌∙◌}
 use Rattle.std.proofs.lemmas.Result.{IfOk-weaker}
 use Rattle.gixp_repeats.proofs.RepeatLemmas.{tested_all}

@@ -1,5 +1,5 @@
-//! Argument lines and haves. Those that have nothing but an id beside their word are kept as the id,
-//! so that a request for very many objects takes no text for each.
+//! Argument lines and haves. A line of a word and an id is stored as the id, so that a request for very many objects
+//! needs no text for each.
 ghost use Rattle.std.specs.Prelude.{◌≡◌, ◌<◌, [], ◌∷◌, ◌++◌, length, map, position, IfOk, IfSome, OnOk, OnErr};
 ghost use Rattle.std.specs.List.{list_any};
 ghost use Rattle.gixp_requests.specs.Command.{texts};
@@ -16,11 +16,10 @@ use std::alloc::{AllocError, Global};
 pub(crate) enum Line {
     /// The line `want <id>`.
     Want(ObjectId),
-    /// Any other, as its text; and the first want where it also has the features.
+    /// Any other line as text; also the first want if it has features.
     Text(BString),
 }
 
-// Appends a line.
 pub(crate) fn push_line(lines: &mut Vec<Line>, line: Line) -> Result<(), AllocError>
     ensures ok { OnOk result (line_texts lines.new ≡ line_texts lines.old ++ line_text line ∷ []) }
     ensures err { OnErr result (line_texts lines.new ≡ line_texts lines.old) }
@@ -29,7 +28,6 @@ pub(crate) fn push_line(lines: &mut Vec<Line>, line: Line) -> Result<(), AllocEr
     Ok(())
 }
 
-// Appends a have.
 pub(crate) fn push_have(haves: &mut Vec<ObjectId>, id: ObjectId) -> Result<(), AllocError>
     ensures ok { OnOk result (have_texts haves.new ≡ have_texts haves.old ++ have_text id ∷ []) }
     ensures err { OnErr result (have_texts haves.new ≡ have_texts haves.old) }
@@ -38,7 +36,6 @@ pub(crate) fn push_have(haves: &mut Vec<ObjectId>, id: ObjectId) -> Result<(), A
     Ok(())
 }
 
-// The lines of these texts.
 pub(crate) fn text_lines(alloc: Global, words: Vec<BString>) -> Result<Vec<Line>, AllocError>
     ensures { IfOk result (λ lines. line_texts lines ≡ texts words) }
 {
@@ -49,7 +46,7 @@ pub(crate) fn text_lines(alloc: Global, words: Vec<BString>) -> Result<Vec<Line>
     Ok(lines)
 }
 
-// A word of five bytes, its blank among them, and an id.
+// A word of five bytes, the last of them a blank, and an id.
 pub(crate) fn id_line(word: &[u8; 5], id: &ObjectId) -> [u8; 45]
     ensures { result ≡ word.now ++ id_text id.now }
 {
@@ -74,7 +71,6 @@ fn any_want(lines: &[Line]) -> bool
     lines.iter().any(|line| is_want(line))
 }
 
-// Whether one of the lines asks for an object.
 pub(crate) fn has_want(lines: &[Line]) -> bool
     ensures { result ≡ list_any is_want (map line_text lines.now) }
 {
@@ -88,7 +84,7 @@ fn want_at(lines: &[Line]) -> Option<usize>
     lines.iter().position(|line| is_want(line))
 }
 
-// The place of the first want.
+// The index of the first want.
 pub(crate) fn first_want(lines: &[Line]) -> Option<usize>
     ensures place { result ≡ position is_want (map line_text lines.now) }
     ensures within { IfSome result (λ i. i < length lines.now) }
@@ -96,7 +92,7 @@ pub(crate) fn first_want(lines: &[Line]) -> Option<usize>
     want_at(lines)
 }
 
-// Lets the line at a place, if there is one, change places with the first.
+// Exchanges the line at this index, if there is one, with the first line.
 pub(crate) fn exchange(lines: &mut [Line], place: Option<usize>)
     requires { IfSome place (λ i. i < length lines.old) }
     ensures { lines.new ≡ exchanged lines.old place }

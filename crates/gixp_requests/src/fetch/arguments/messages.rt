@@ -1,4 +1,4 @@
-//! The messages of a request for a pack.
+//! The messages of a fetch request.
 ghost use Rattle.std.specs.Prelude.{◌≡◌, ◌<◌, false, [], ◌∷◌, ◌++◌, length, codes, map, OnOk, IfOk};
 ghost use Rattle.bstr.specs.Owned.{bstring_bytes};
 ghost use Rattle.gixp_wire.specs.Message.{text, flush, delimiter, message_value, command_lines, command_values};
@@ -17,7 +17,7 @@ use gixp_hash::ObjectId;
 use gixp_wire::{Message, Transport};
 use std::alloc::{AllocError, Global};
 
-// Appends the line of a feature, if it has a value.
+// Appends the line of a feature if it has a value.
 fn push_sent(alloc: Global, lines: &mut Vec<BString>, feature: &Feature) -> Result<(), AllocError>
     ensures { OnOk result (texts lines.new ≡ texts lines.old ++ sent_features (feature_value feature.now ∷ [])) }
 {
@@ -29,7 +29,7 @@ fn push_sent(alloc: Global, lines: &mut Vec<BString>, feature: &Feature) -> Resu
     Ok(())
 }
 
-// The lines of the features that have a value.
+// The lines of the features that have a value; others aren't sent under version 2.
 pub(crate) fn sent_features(alloc: Global, features: &[Feature]) -> Result<Vec<BString>, AllocError>
     ensures { IfOk result (λ lines. texts lines ≡ sent_features (feature_values features.now)) }
 {
@@ -40,7 +40,6 @@ pub(crate) fn sent_features(alloc: Global, features: &[Feature]) -> Result<Vec<B
     Ok(lines)
 }
 
-// Appends a message.
 fn push<'a>(messages: &mut Vec<Message<'a>>, message: Message<'a>) -> Result<(), AllocError>
     ensures { OnOk result (map message_value messages.new.items ≡ map message_value messages.old.items
         ++ message_value message.entry ∷ []) }
@@ -49,7 +48,6 @@ fn push<'a>(messages: &mut Vec<Message<'a>>, message: Message<'a>) -> Result<(),
     Ok(())
 }
 
-// Appends lines.
 fn push_lines<'a>(messages: &mut Vec<Message<'a>>, lines: &'a [BString]) -> Result<(), AllocError>
     ensures { OnOk result (map message_value messages.new.items ≡ map message_value messages.old.items
         ++ map text (map bstring_bytes lines.now)) }
@@ -60,7 +58,7 @@ fn push_lines<'a>(messages: &mut Vec<Message<'a>>, lines: &'a [BString]) -> Resu
     Ok(())
 }
 
-// The messages in front of the arguments of a fetch of version 2.
+// The messages before the arguments of a `fetch` of version 2.
 fn command_messages<'a>(
     alloc: Global,
     features: &'a [BString],
@@ -75,7 +73,7 @@ fn command_messages<'a>(
     Ok(messages)
 }
 
-// The messages after its haves: `done`, where it is asked for, and the flush packet.
+// The messages after the haves: `done`, if requested, and a flush packet.
 fn command_end(done: bool) -> &'static [Message<'static>]
     ensures { map message_value result.now ≡ map text (done_lines done) ++ flush ∷ [] }
 {
@@ -85,7 +83,7 @@ fn command_end(done: bool) -> &'static [Message<'static>]
     &[Message::Flush]
 }
 
-// Sends a fetch of version 2: what comes in front of its arguments, these, the haves and its end.
+// Sends a `fetch` of version 2: the messages before its arguments, the arguments, the haves, and its end.
 fn send_arguments<'a, T: Transport>(
     transport: &mut T,
     front: &'a [Message<'a>],
@@ -108,7 +106,7 @@ fn send_arguments<'a, T: Transport>(
     )
 }
 
-// Sends a fetch of version 2.
+// Sends a `fetch` of version 2.
 pub(crate) fn send_command<T: Transport>(
     transport: &mut T,
     alloc: Global,
@@ -126,7 +124,7 @@ pub(crate) fn send_command<T: Transport>(
     send_arguments(transport, &messages, lines, haves, done)
 }
 
-// A flush packet, where there are lines.
+// A flush packet, if there are lines.
 fn flush_behind(lines: &[Line]) -> &'static [Message<'static>]
     ensures { map message_value result.now ≡ flush_behind (map line_text lines.now) }
 {
@@ -136,7 +134,7 @@ fn flush_behind(lines: &[Line]) -> &'static [Message<'static>]
     &[Message::Flush]
 }
 
-// The end of a request of versions 0 and 1.
+// The last message of a request of version 0 or 1.
 fn upload_end(done: bool) -> &'static [Message<'static>]
     ensures { map message_value result.now ≡ done_value done ∷ [] }
 {
@@ -146,7 +144,7 @@ fn upload_end(done: bool) -> &'static [Message<'static>]
     &[Message::Flush]
 }
 
-// Sends a request of versions 0 and 1. For as long the first want changes places with the first line.
+// Sends a request of version 0 or 1. During the call the first want and the first line are exchanged.
 pub(crate) fn send_upload<T: Transport>(
     transport: &mut T,
     lines: &mut [Line],

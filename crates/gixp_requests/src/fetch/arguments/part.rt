@@ -1,5 +1,4 @@
-//! The parts of a request, and how they are sent: each line is written from where it stands, and the
-//! line of an id from a few bytes on the stack.
+//! The parts of a request. Each line is written from where it is stored, and the line of an id from a few bytes on the stack.
 ghost use Rattle.std.specs.Prelude.{◌≡◌, true, None, map};
 ghost use Rattle.std.specs.List.{list_all};
 ghost use Rattle.gixp_packetline.specs.FrameText.{frame_text, texts_of};
@@ -16,15 +15,15 @@ use gixp_wire::{Message, Transport, fits_line};
 /// A part of a request.
 #[derive(Clone, Copy)]
 pub(crate) enum Part<'a> {
-    /// Some messages.
+    /// Any messages.
     Messages(&'a [Message<'a>]),
     /// Argument lines.
     Lines(&'a [Line]),
-    /// Objects that are there, each by a line `have <id>`.
+    /// The commits that the client has, each as a line `have <id>`.
     Haves(&'a [ObjectId]),
 }
 
-// Whether an argument line can be sent.
+// Whether an argument line fits into a packet line.
 fn line_fits(line: &Line) -> bool
     ensures { result ≡ fits (line_text line.now) }
 {
@@ -52,7 +51,7 @@ fn haves_fit(ids: &[ObjectId]) -> bool
     ids.iter().all(|id| fits_line(&id_line(b"have ", id)))
 }
 
-// Whether each message of a part can be sent.
+// Whether each message of a part fits into a packet line.
 fn part_fits(part: &Part<'_>) -> bool
     ensures { result ≡ list_all value_fits (part_values part.now) }
 {
@@ -69,14 +68,13 @@ fn each_fits(parts: &[Part<'_>]) -> bool
     parts.iter().all(|part| part_fits(part))
 }
 
-// Whether each message of the parts can be sent.
+// Whether each message of the parts fits into a packet line.
 fn parts_fit(parts: &[Part<'_>]) -> bool
     ensures { result ≡ list_all value_fits (parts_values parts.now) }
 {
     each_fits(parts)
 }
 
-// Writes an argument line.
 fn write_line<T: Transport>(transport: &mut T, line: &Line) -> Result<(), Error>
     requires { fits (line_text line.now) ≡ true }
     ensures { Writes (T.reading transport.old) (T.reading transport.new) (frame_text (line_frame (line_text line.now))) result }
@@ -87,14 +85,13 @@ fn write_line<T: Transport>(transport: &mut T, line: &Line) -> Result<(), Error>
     }
 }
 
-// Writes the line of a have.
 fn write_have<T: Transport>(transport: &mut T, id: &ObjectId) -> Result<(), Error>
     ensures { Writes (T.reading transport.old) (T.reading transport.new) (frame_text (line_frame (have_text id.now))) result }
 {
     transport.write_text(&id_line(b"have ", id))
 }
 
-// Writes argument lines of a request that is begun.
+// Writes argument lines of a request that was begun.
 fn write_lines<T: Transport>(transport: &mut T, lines: &[Line]) -> Result<(), Error>
     requires whole { (T.reading transport.old).held.broken ≡ None }
     requires fit { all_lines_fit lines.now ≡ true }
@@ -106,7 +103,7 @@ fn write_lines<T: Transport>(transport: &mut T, lines: &[Line]) -> Result<(), Er
     Ok(())
 }
 
-// Writes the lines of haves, of a request that is begun.
+// Writes `have` lines of a request that was begun.
 fn write_haves<T: Transport>(transport: &mut T, ids: &[ObjectId]) -> Result<(), Error>
     requires whole { (T.reading transport.old).held.broken ≡ None }
     ensures { WritesAll (T.reading transport.old) (T.reading transport.new) (texts_of (have_frames ids.now)) result }
@@ -117,7 +114,7 @@ fn write_haves<T: Transport>(transport: &mut T, ids: &[ObjectId]) -> Result<(), 
     Ok(())
 }
 
-// Writes a part of a request that is begun.
+// Writes a part of a request that was begun.
 fn write_part<T: Transport>(transport: &mut T, part: &Part<'_>) -> Result<(), Error>
     requires whole { (T.reading transport.old).held.broken ≡ None }
     requires fit { list_all value_fits (part_values part.now) ≡ true }
@@ -130,7 +127,7 @@ fn write_part<T: Transport>(transport: &mut T, part: &Part<'_>) -> Result<(), Er
     }
 }
 
-// Writes the parts of a request that is begun.
+// Writes the parts of a request that was begun.
 fn write_parts<T: Transport>(transport: &mut T, parts: &[Part<'_>]) -> Result<(), Error>
     requires whole { (T.reading transport.old).held.broken ≡ None }
     requires fit { list_all value_fits (parts_values parts.now) ≡ true }
@@ -142,7 +139,6 @@ fn write_parts<T: Transport>(transport: &mut T, parts: &[Part<'_>]) -> Result<()
     Ok(())
 }
 
-// Sends a request of these parts.
 pub(crate) fn send<T: Transport>(transport: &mut T, parts: &[Part<'_>]) -> Result<(), Error>
     ensures { SendsValues (T.reading transport.old) (T.reading transport.new) (parts_values parts.now) result }
 {

@@ -10,7 +10,6 @@ use bstr::BString;
 use gixp_hash::ObjectId;
 use std::alloc::{AllocError, Global};
 
-// Appends a text.
 pub(crate) fn push_text(list: &mut Vec<BString>, text: BString) -> Result<(), AllocError>
     ensures ok { OnOk result (texts list.new ≡ texts list.old ++ bstring_bytes text ∷ []) }
     ensures err { OnErr result (texts list.new ≡ texts list.old) }
@@ -19,7 +18,6 @@ pub(crate) fn push_text(list: &mut Vec<BString>, text: BString) -> Result<(), Al
     Ok(())
 }
 
-// The two texts, one after the other.
 pub(crate) fn joined(alloc: Global, front: &[u8], back: &[u8]) -> Result<BString, AllocError>
     ensures { IfOk result (λ text. bstring_bytes text ≡ front.now ++ back.now) }
 {
@@ -29,7 +27,7 @@ pub(crate) fn joined(alloc: Global, front: &[u8], back: &[u8]) -> Result<BString
     Ok(BString::new(text))
 }
 
-// Whether a feature goes into the first want.
+// Whether the first want has this feature.
 fn is_on(feature: &Feature, include_tag: bool, deepen_relative: bool) -> bool
     ensures { result ≡ is_on include_tag deepen_relative (feature_value feature.now) }
 {
@@ -42,7 +40,6 @@ fn is_on(feature: &Feature, include_tag: bool, deepen_relative: bool) -> bool
     }
 }
 
-// Appends a feature to a line.
 pub(crate) fn push_feature(line: &mut Vec<u8>, feature: &Feature) -> Result<(), AllocError>
     ensures { OnOk result (line.new.items ≡ line.old.items ++ feature_text (feature_value feature.now)) }
 {
@@ -54,7 +51,7 @@ pub(crate) fn push_feature(line: &mut Vec<u8>, feature: &Feature) -> Result<(), 
     Ok(())
 }
 
-// Appends a blank and the feature, if it is on.
+// Appends a blank and the feature if the first want has it.
 fn push_if_on(
     line: &mut Vec<u8>,
     feature: &Feature,
@@ -71,7 +68,7 @@ fn push_if_on(
     Ok(())
 }
 
-// Appends the features that are on, each after a blank.
+// Appends the features of the first want, each after a blank.
 fn push_on(
     line: &mut Vec<u8>,
     features: &[Feature],
@@ -86,7 +83,6 @@ fn push_on(
     Ok(())
 }
 
-// Appends a blank and a text.
 fn push_spaced(line: &mut Vec<u8>, text: &[u8]) -> Result<(), AllocError>
     ensures { OnOk result (line.new.items ≡ line.old.items ++ spaced (text.now ∷ [])) }
 {
@@ -95,7 +91,6 @@ fn push_spaced(line: &mut Vec<u8>, text: &[u8]) -> Result<(), AllocError>
     Ok(())
 }
 
-// Appends the texts, each after a blank.
 fn push_added(line: &mut Vec<u8>, added: &[BString]) -> Result<(), AllocError>
     ensures { OnOk result (line.new.items ≡ line.old.items ++ spaced (map bstring_bytes added.now)) }
 {
@@ -105,7 +100,7 @@ fn push_added(line: &mut Vec<u8>, added: &[BString]) -> Result<(), AllocError>
     Ok(())
 }
 
-// What the features give after the first want, each after a blank.
+// The features of the first want, each after a blank.
 fn spaced_features(
     alloc: Global,
     features: &[Feature],
@@ -122,7 +117,7 @@ fn spaced_features(
     Ok(text)
 }
 
-// What comes after the first want: a blank, and the features joined by blanks.
+// The text after the id of the first want: a blank, and the features joined by blanks.
 pub(crate) fn features_text(
     alloc: Global,
     features: &[Feature],
@@ -140,7 +135,6 @@ pub(crate) fn features_text(
     Ok(text)
 }
 
-// The line of a want, with what comes after the id.
 pub(crate) fn want_line(alloc: Global, id: &ObjectId, behind: &[u8]) -> Result<BString, AllocError>
     ensures { IfOk result (λ line. bstring_bytes line ≡ codes "want " ++ (id_text id.now ++ behind.now)) }
 {

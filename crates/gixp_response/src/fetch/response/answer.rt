@@ -1,4 +1,4 @@
-//! An answer to a fetch.
+//! Responses to a fetch request.
 ghost use Rattle.std.specs.Prelude.{◌≡◌, MatchResult, OnErr, OnOk, [], ◌∷◌, ◌++◌, ◌+◌, ◌≤◌, ◌<◌, Bool, List, length, take, drop, map, true, false};
 ghost use Rattle.std.specs.List.{list_any};
 ghost use Rattle.gixp_response.specs.AnswerLine.{wanted_value};
@@ -20,8 +20,7 @@ use gixp_wire::Feature;
 use std::alloc::{AllocError, Global};
 use std::marker::Model;
 
-/// The answer of a server to a fetch request, up to its pack (gitprotocol-v2, "fetch";
-/// gitprotocol-pack, "Packfile Negotiation").
+/// The response of a server to a fetch request, up to the pack (gitprotocol-v2, "fetch"; gitprotocol-pack, "Packfile Negotiation").
 #[derive(Debug, Drop)]
 pub struct Response {
     acknowledgements: Vec<Acknowledgement>,
@@ -60,26 +59,24 @@ impl Clone for Response {
 }
 
 impl Response {
-    /// Reads the answer to a request, under the stops of this version, from which the reader goes on
-    /// after a stop that it is at.
+    /// Reads the response to a request under this version. If the reader is at a flush or delimiter packet, it goes on after it.
     ///
-    /// Under version 2 an answer is a list of sections; sections of one header are joined. It ends in the
-    /// header `packfile`, after which the pack begins, or in a section that a flush ends. Under
-    /// versions 0 and 1 it is the shortest beginning of what is to come that ends
+    /// A response of version 2 is a list of sections; sections with the same header are joined. It ends with the header
+    /// `packfile`, after which the pack begins, or with a section that a flush packet ends. A response of version 0 or
+    /// 1 is the shortest beginning of the stream that ends
     ///
-    /// - in a `NAK`, where the client wants to negotiate, unless it expects a pack and a `ready` came;
-    /// - in two flushes;
-    /// - in front of a line that is neither an acknowledgement nor a shallow update, which begins the
-    ///   pack and is still to come;
-    /// - at the stream's end, but not right after a flush.
+    /// - with a `NAK`, if the client wants to negotiate, unless it expects a pack and a `ready` came before;
+    /// - with two flush packets;
+    /// - before a line that is neither an acknowledgement nor a shallow update; this line begins the pack, and is still to come;
+    /// - at the end of the stream, but not right after a flush packet.
     ///
-    /// What comes after the answer is still to come.
+    /// The packet lines after the response are still to come.
     ///
     /// # Errors
     ///
-    /// The first refusal, of a line or of the reader, with what [`Error`] says of it. Under version 2
-    /// a line is refused that is no text, no header or no item of its section, and a stop where a
-    /// header is due.
+    /// The first error of a line or of the reader; [`Error`] says what each leaves. In version 2 these are errors too:
+    /// a line that is not UTF-8, not a header or not an item of its section, and a flush or delimiter packet in place
+    /// of a header.
     pub fn from_line_reader<R: ExtendedBufRead>(
         alloc: Global,
         version: Protocol,
@@ -108,12 +105,12 @@ impl Response {
         }
     }
 
-    /// Whether the features that a client may use are enough to read answers: under versions 0 and 1
-    /// it needs `multi_ack_detailed`, and one of `side-band` and `side-band-64k`.
+    /// Checks that the client may use the features that it needs to read responses. Versions 0 and 1 need
+    /// `multi_ack_detailed`, and one of `side-band` and `side-band-64k`.
     ///
     /// # Errors
     ///
-    /// `MissingServerCapability` with the first that is missing.
+    /// `MissingServerCapability` with the first missing feature.
     pub fn check_required_features(version: Protocol, features: &[Feature]) -> Result<(), Error>
         ensures { Misses (missing_feature version features.now) result }
     {
@@ -135,41 +132,39 @@ impl Response {
         }
     }
 
-    /// Whether a pack begins after the answer.
+    /// Whether a pack follows the response.
     pub fn has_pack(&self) -> bool
         ensures { result ≡ self.now.pack }
     {
         self.has_pack
     }
 
-    /// What the server says of the commits that were offered, in order. Under versions 0 and 1 a
-    /// commit in common stands once, at its first place.
+    /// The acknowledgements of the server, in order. Under versions 0 and 1 each common commit occurs once, at its first position.
     pub fn acknowledgements(&self) -> &[Acknowledgement]
         ensures { result.now ≡ self.now.acknowledgements }
     {
         &self.acknowledgements
     }
 
-    /// The changes of the shallow boundary, in order.
+    /// The updates of the shallow boundary, in order.
     pub fn shallow_updates(&self) -> &[ShallowUpdate]
         ensures { result.now ≡ self.now.shallow_updates }
     {
         &self.shallow_updates
     }
 
-    /// What the refs that were expected for by their names lead to, in order. Only version 2 has any.
+    /// The objects of the refs that the request named by `want-ref`, in order. Only version 2 has these.
     pub fn wanted_refs(&self) -> &[WantedRef]
         ensures { map wanted_value result.now ≡ self.now.wanted_refs }
     {
         &self.wanted_refs
     }
 
-    /// Adds the updates, if any, after the answer's own: under version 1 a server sends the boundary of a
-    /// shallow repository with its refs.
+    /// Appends these updates, if there are any. Under version 1 a server sends the boundary of a shallow repository with its refs.
     ///
     /// # Errors
     ///
-    /// An allocation failed. The answer is as it was.
+    /// An allocation failed. The response is unchanged.
     pub fn append_v1_shallow_updates(
         &mut self,
         updates: Option<Vec<ShallowUpdate>>,
@@ -183,7 +178,7 @@ impl Response {
         }
     }
 
-    // An answer that says nothing yet.
+    // A response without items.
     pub(crate) fn empty(alloc: Global) -> Response
         ensures { result ≡ no_more false }
     {
@@ -203,7 +198,7 @@ impl Response {
         Ok(())
     }
 
-    // Keeps the acknowledgements whose flag is true.
+    // Removes the acknowledgements whose flag is false.
     pub(crate) fn keep_flagged(&mut self, flags: &[bool])
         requires { length flags.now ≡ length self.old.acknowledgements }
         ensures { self.new ≡ record self.old { acknowledgements = flagged self.old.acknowledgements flags.now } }
@@ -227,7 +222,7 @@ impl Response {
         Ok(())
     }
 
-    // The same answer in front of a pack.
+    // The same response, followed by a pack.
     pub(crate) fn with_pack(self) -> Response
         ensures { result ≡ record self { pack = true } }
     {
@@ -237,7 +232,7 @@ impl Response {
     }
 }
 
-// Moves what has a flag down to those that were kept, and returns how many are kept then.
+// Moves the element at `at` to the end of the kept ones if its flag is true. Returns how many are kept then.
 fn keep_one(found: &mut Vec<Acknowledgement>, kept: usize, at: usize, flag: bool) -> usize
     requires within { (kept ≤ at) × (at < length found.old.items) }
     ensures within { result ≤ at + 1 }
@@ -252,7 +247,7 @@ fn keep_one(found: &mut Vec<Acknowledgement>, kept: usize, at: usize, flag: bool
     kept + 1
 }
 
-// Keeps what has a flag, with no allocation.
+// Removes the elements whose flag is false, without an allocation.
 fn keep_flagged(found: &mut Vec<Acknowledgement>, flags: &[bool])
     requires { length flags.now ≡ length found.old.items }
     ensures { found.new.items ≡ flagged found.old.items flags.now }
@@ -264,7 +259,6 @@ fn keep_flagged(found: &mut Vec<Acknowledgement>, flags: &[bool])
     found.truncate(kept);
 }
 
-// Whether a feature of this name is among some.
 fn has_feature(features: &[Feature], name: &str) -> bool
     ensures { result ≡ has_name name.now (feature_names features.now) }
 {

@@ -1,4 +1,4 @@
-//! Answers under versions 0 and 1 (gitprotocol-pack, "Packfile Negotiation").
+//! Responses of versions 0 and 1 (gitprotocol-pack, "Packfile Negotiation").
 ghost use Rattle.std.specs.Prelude.{◌≡◌, ◌⊎◌, MatchResult, OnOk, Some, not, ◌&&◌, ◌||◌};
 ghost use Rattle.gixp_packetline.specs.Reading.{refusal_of};
 ghost use Rattle.gixp_packetline.specs.declared.protocol.Protocol.TheVariants.{V0, V1};
@@ -17,14 +17,14 @@ use gixp_shallow::ShallowUpdate;
 use std::alloc::{AllocError, Global};
 use std::io::ErrorKind;
 
-// What a line in front of the pack says.
+// The meaning of a line before the pack.
 #[derive(Clone, Copy)]
 pub(crate) enum Said {
     Acknowledgement(Acknowledgement),
     ShallowUpdate(ShallowUpdate),
 }
 
-// What a line says, or none where it begins the pack.
+// The meaning of a line; `None` where it begins the pack.
 fn read_said(line: &[u8]) -> Option<Said>
     ensures { item_said result ≡ line_item line.now }
 {
@@ -40,7 +40,7 @@ fn read_said(line: &[u8]) -> Option<Said>
     }
 }
 
-// Reads the shortest beginning that is an answer.
+// Reads the shortest beginning that is a response.
 pub(crate) fn read_beginning<R: ExtendedBufRead>(
     alloc: Global,
     version: Protocol,
@@ -93,28 +93,28 @@ pub(crate) fn read_beginning<R: ExtendedBufRead>(
     }
 }
 
-// Whether a refusal is that of the stream's end, and not right after a stop.
+// Whether an error is the end of the stream, and not right after a flush packet.
 fn ends_answer(e: &read::Error, behind_stop: bool) -> bool
     ensures { result ≡ (is_at_end (refusal_of e.now) && not behind_stop) }
 {
     is_end(e) && !behind_stop
 }
 
-// Whether a server is ready by a line, or was so before it.
+// Whether a `ready` came, in this line or before.
 fn ready_by(said: Said, came_ready: bool) -> bool
     ensures { result ≡ (is_ready (item_said (Some said)) || came_ready) }
 {
     is_ready(said) || came_ready
 }
 
-// Whether a line says that nothing is in common, to a client that goes on about that.
+// Whether this line is a `NAK` that ends the response.
 fn ends_by_nak(said: Said, expects_pack: bool, negotiates: bool, came_ready: bool) -> bool
     ensures { result ≡ ((is_nak (item_said (Some said)) && negotiates) && not (expects_pack && came_ready)) }
 {
     is_nak(said) && negotiates && !(expects_pack && came_ready)
 }
 
-// Whether a refusal is that of the stream's end.
+// Whether an error is the end of the stream.
 fn is_end(e: &read::Error) -> bool
     ensures { result ≡ is_at_end (refusal_of e.now) }
 {
@@ -142,7 +142,7 @@ fn is_nak(said: Said) -> bool
     }
 }
 
-// Adds what a line says, also where it names a commit again.
+// Adds the meaning of a line, even if it names a commit again.
 fn keep(answer: &mut Response, repeats: &mut Repeats, said: Said) -> Result<(), AllocError>
     requires { AreNoted answer.old.acknowledgements repeats.old }
     ensures ok { OnOk result (without_repeats answer.new ≡ said_with (without_repeats answer.old) (item_said (Some said))) }
@@ -167,7 +167,7 @@ fn keep_acknowledgement(
     answer.push_acknowledgement(found)
 }
 
-// The answer, each commit in common at its first place alone.
+// The response with each common commit at its first position only.
 fn finished(answer: Response, repeats: Repeats) -> Response
     requires { AreNoted answer.acknowledgements repeats }
     ensures { result ≡ without_repeats answer }

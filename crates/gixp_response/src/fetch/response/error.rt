@@ -1,4 +1,4 @@
-//! Why there is no answer.
+//! Why reading a response fails.
 ghost use Rattle.std.specs.Prelude.{◌≡◌};
 
 use bstr::{BStr, BString};
@@ -10,8 +10,8 @@ use std::fmt;
 use std::io::ErrorKind;
 use thiserror::Error as DeriveError;
 
-/// What a server must have for its answers to be read under versions 0 and 1. It shows as its name,
-/// also by `Debug`, which quotes it.
+/// A feature that a server must have so that its responses of versions 0 and 1 can be read. `Display` writes its name,
+/// and `Debug` quotes it.
 #[derive(Clone, Copy, PartialEq, Eq)]
 pub enum RequiredFeature {
     /// `multi_ack_detailed`.
@@ -23,7 +23,7 @@ pub enum RequiredFeature {
 impl RequiredFeature {
     ghost use Rattle.gixp_response.specs.ResponseError.{required_text};
 
-    /// The name that it shows as.
+    /// The name that `Display` writes.
     pub fn as_str(&self) -> &'static str
         ensures { result.now ≡ required_text self.now }
     {
@@ -47,34 +47,32 @@ impl fmt::Debug for RequiredFeature {
     }
 }
 
-/// Why an answer, or a line of one, isn't there. Nothing of the answer is given beside one.
+/// Why reading a response, or a line of one, fails. No part of the response is returned with an error.
 ///
-/// What is left after each of a reader's errors is what `read::Error` says of it. After an error of
-/// a line, that line and those before it are taken. A line that an error carries stands in it as it
-/// was handed in, its LF included.
+/// `read::Error` says what an error of the reader leaves. After an error of a line, this line and those before it are
+/// taken. A line in an error is the line as it was read, with its LF.
 #[derive(Debug, Drop, DeriveError)]
 pub enum Error {
-    /// A read failed with this kind, or the stream ended too early, also by a stop where a section's
-    /// header is due (`UnexpectedEof`).
+    /// A read failed with this kind, or the stream ended early (`UnexpectedEof`), also with a flush or delimiter packet
+    /// in place of a section's header.
     #[error("Failed to read from line reader")]
     Io(ErrorKind),
-    /// The server answered an error, with this message.
+    /// The server sent an `ERR ` line with this message.
     #[error("{message}")]
     UploadPack { message: BString },
-    /// A call that speaks to the server was refused.
+    /// A call to the server failed.
     #[error("{0}")]
     Transport(client::Error),
-    /// The server has no such feature, which is needed.
+    /// The server doesn't have this feature, which is required.
     #[error("Currently we require feature {feature:?}, which is not supported by the server")]
     MissingServerCapability { feature: RequiredFeature },
-    /// A line that has no place where it stands.
+    /// A line that is not allowed where it occurs.
     #[error("Encountered an unknown line prefix in {line:?}")]
     UnknownLineType { line: String },
-    /// A section of another kind, as `packfile-uris`.
+    /// A section of an unknown kind, such as `packfile-uris`.
     #[error("Unknown or unsupported header: {header:?}")]
     UnknownSectionHeader { header: String },
-    /// The reader was refused otherwise: `Decode`, `UnexpectedFrame`, `NotUtf8`, `BadBand` or
-    /// `Interrupted`.
+    /// Another error of the reader: `Decode`, `UnexpectedFrame`, `NotUtf8`, `BadBand` or `Interrupted`.
     #[error("Reader")]
     Reader(read::Error),
     /// An allocation failed.

@@ -1,4 +1,4 @@
-//! Lines of answers (gitprotocol-v2, "fetch"; gitprotocol-pack, "Packfile Negotiation").
+//! Lines of responses (gitprotocol-v2, "fetch"; gitprotocol-pack, "Packfile Negotiation").
 ghost use Rattle.std.specs.Prelude.{◌≡◌, Some, None, Option};
 ghost use Rattle.std.specs.Option.{option_copied};
 ghost use Rattle.gixp_response.specs.AnswerLine.{behind, is_word, described, acknowledged, acknowledgement_line, common_id, shallow_update_line, wanted_ref_line, wanted_value};
@@ -11,24 +11,24 @@ use gixp_hash::ObjectId;
 use gixp_shallow::ShallowUpdate;
 use std::alloc::{AllocError, Global};
 
-/// What a server says of the commits that a client named (gitprotocol-pack, "Packfile Negotiation";
+/// The server's acknowledgement of the commits that the client has (gitprotocol-pack, "Packfile Negotiation";
 /// gitprotocol-v2, "fetch", `acknowledgments`).
 #[derive(Clone, Copy, Debug, PartialEq, Eq, PartialOrd, Ord, Hash)]
 pub enum Acknowledgement {
     /// The server has this commit too.
     Common(ObjectId),
-    /// The server can make a pack.
+    /// The server is ready to send a pack.
     Ready,
-    /// The server has none of the commits that this request offered.
+    /// The server has none of the commits that this request named.
     Nak,
 }
 
-/// What a ref that was asked for by its name leads to (gitprotocol-v2, "fetch", `wanted-refs`).
+/// The object of a ref that the request named by `want-ref` (gitprotocol-v2, "fetch", `wanted-refs`).
 #[derive(Debug, Drop, PartialEq, Eq, PartialOrd, Ord, Hash)]
 pub struct WantedRef {
-    /// The object that the server has under this name.
+    /// The object that this ref has on the server.
     pub id: ObjectId,
-    /// The name, as it was asked for.
+    /// The name of the ref, as in the request.
     pub path: BString,
 }
 
@@ -44,12 +44,12 @@ impl Clone for WantedRef {
 }
 
 impl Acknowledgement {
-    /// Reads a line, of which white space at the end doesn't count: `ready` or `NAK`, alone or in
-    /// front of a blank and anything, or `ACK <id>` alone, with `common` or with `ready`.
+    /// Reads a line: `ready` or `NAK`, alone or followed by a blank and any text; or `ACK <id>`, alone or followed by
+    /// `common` or `ready`. White space at the end is ignored.
     ///
     /// # Errors
     ///
-    /// `UnknownLineType` with the line for any other, or `Memory` where there is none for that text.
+    /// `UnknownLineType` with the line for any other. `Memory` where an allocation fails for that error.
     pub fn from_line(alloc: Global, line: &str) -> Result<Acknowledgement, Error>
         ensures { ReadsLine (acknowledgement_line line.now) line.now result }
     {
@@ -59,7 +59,7 @@ impl Acknowledgement {
         }
     }
 
-    /// The commit that the server has too.
+    /// The commit that the server has too, if this names one.
     pub fn id(&self) -> Option<&ObjectId>
         ensures { option_copied result ≡ common_id self.now }
     {
@@ -70,11 +70,11 @@ impl Acknowledgement {
     }
 }
 
-/// Reads a line, of which white space at the end doesn't count: `shallow <id>` or `unshallow <id>`.
+/// Reads a line `shallow <id>` or `unshallow <id>`. White space at the end is ignored.
 ///
 /// # Errors
 ///
-/// `UnknownLineType` with the line for any other, or `Memory` where there is none for that text.
+/// `UnknownLineType` with the line for any other. `Memory` where an allocation fails for that error.
 pub fn shallow_update_from_line(alloc: Global, line: &str) -> Result<ShallowUpdate, Error>
     ensures { ReadsLine (shallow_update_line line.now) line.now result }
 {
@@ -85,13 +85,11 @@ pub fn shallow_update_from_line(alloc: Global, line: &str) -> Result<ShallowUpda
 }
 
 impl WantedRef {
-    /// Reads a line, of which white space at the end doesn't count: `<id> <path>`, cut at the first
-    /// blank.
+    /// Reads a line `<id> <path>`, split at its first blank. White space at the end is ignored.
     ///
     /// # Errors
     ///
-    /// `UnknownLineType` with the line for any other, or `Memory` where there is none for the path or
-    /// that text.
+    /// `UnknownLineType` with the line for any other. `Memory` where an allocation fails, for the path or for that error.
     pub fn from_line(alloc: Global, line: &str) -> Result<WantedRef, Error>
         ensures { ReadsOwned wanted_value (wanted_ref_line line.now) line.now result }
     {
@@ -109,7 +107,6 @@ impl WantedRef {
     }
 }
 
-// The error that carries a line.
 fn unknown_line(alloc: Global, line: &str) -> Error
     ensures { IsAnswerRefusal result (unknown_line line.now) }
 {
@@ -119,14 +116,14 @@ fn unknown_line(alloc: Global, line: &str) -> Error
     }
 }
 
-// What comes after a beginning.
+// The text after this word, if the text begins with it.
 fn behind<'a>(text: &'a [u8], word: &[u8]) -> Option<&'a [u8]>
     ensures { option_copied result ≡ behind word.now text.now }
 {
     text.strip_prefix(word)
 }
 
-// Whether a text is a word, or begins with it and a blank.
+// Whether a text is this word, or begins with it and a blank.
 fn is_word(text: &[u8], word: &[u8]) -> bool
     ensures { result ≡ is_word word.now text.now }
 {
@@ -137,7 +134,7 @@ fn is_word(text: &[u8], word: &[u8]) -> bool
     }
 }
 
-// What is said of an id.
+// The acknowledgement of an id with this status.
 fn describe(id: ObjectId, description: &[u8]) -> Option<Acknowledgement>
     ensures { result ≡ described (Some id.bytes) description.now }
 {
@@ -150,7 +147,7 @@ fn describe(id: ObjectId, description: &[u8]) -> Option<Acknowledgement>
     }
 }
 
-// An id, and what is said of it.
+// The acknowledgement of the text after `ACK `.
 fn read_acknowledged(text: &[u8]) -> Option<Acknowledgement>
     ensures { result ≡ acknowledged (Some text.now) }
 {
@@ -164,7 +161,6 @@ fn read_acknowledged(text: &[u8]) -> Option<Acknowledgement>
     }
 }
 
-// The acknowledgement that a line is.
 pub(crate) fn read_acknowledgement(line: &[u8]) -> Option<Acknowledgement>
     ensures { result ≡ acknowledgement_line line.now }
 {
@@ -181,7 +177,6 @@ pub(crate) fn read_acknowledgement(line: &[u8]) -> Option<Acknowledgement>
     }
 }
 
-// The shallow update that a line is.
 pub(crate) fn read_shallow_update(line: &[u8]) -> Option<ShallowUpdate>
     ensures { result ≡ shallow_update_line line.now }
 {

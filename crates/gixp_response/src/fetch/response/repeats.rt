@@ -1,4 +1,4 @@
-//! Commits that are named as common more than once, which a sort tells whatever a server names.
+//! Commits that are named as common more than once, found by sorting.
 ghost use Rattle.std.specs.Prelude.{List, length, ◌≡◌, ◌∷◌, ◌++◌, [], not, OnOk};
 ghost use Rattle.std.specs.List.Sorted.{IsPermutation, IsSorted};
 ghost use Rattle.gixp_hash.specs.ObjectId.{id_cmp};
@@ -12,11 +12,11 @@ use gixp_repeats::mark;
 use std::alloc::{AllocError, Global};
 use std::cmp::Ordering;
 
-// A commit that is named as common, and the place of its acknowledgement.
+// A commit named as common, and the position of its acknowledgement.
 pub(crate) type Row = (ObjectId, usize);
 
-// What tells the repeats once all acknowledgements have come. An answer may have ended by then, and no allocation may fail,
-// so what is needed is taken with each of them.
+// Finds the repeats once all acknowledgements were read. By then the response may have ended, and no allocation may
+// fail. So `note` allocates for each acknowledgement.
 #[derive(Drop)]
 pub(crate) struct Repeats {
     pub(crate) rows: Vec<Row>,
@@ -34,8 +34,9 @@ fn front_of(id: &ObjectId) -> u64
     ])
 }
 
-// Compares commits by their first bytes, and only where these are the same by all of them and by their places. Ids are as
-// good as random: the test is guessed right, and a comparison of two numbers is left, of which the sort makes no branch.
+// Compares two rows by the first bytes of their commits; only if these are equal by all bytes and then by position. Ids
+// are as good as random, so a processor predicts this branch, and the sort compiles the comparison of two numbers
+// without a branch.
 fn compare(a: &Row, b: &Row) -> Ordering
     ensures { result ≡ row_cmp a.now b.now }
 {
@@ -48,7 +49,7 @@ fn compare(a: &Row, b: &Row) -> Ordering
     }
 }
 
-// Brings commits that are one next to each other, by their places, with no allocation.
+// Sorts the rows, so that equal commits are next to each other in order of position. It allocates nothing.
 fn put_in_order(rows: &mut Vec<Row>)
     ensures permutation { IsPermutation rows.old.items rows.new.items }
     ensures sorted { IsSorted row_cmp rows.new.items }
@@ -66,7 +67,7 @@ impl Repeats {
         }
     }
 
-    // Adds a row for a commit that is named as common.
+    // Adds a row if this acknowledgement names a common commit.
     fn push_row(&mut self, found: Acknowledgement) -> Result<(), AllocError>
         ensures rows { OnOk result (self.new.rows.items ≡ self.old.rows.items ++ named_from (length self.old.flags.items) (found ∷ [])) }
         ensures flags { self.new.flags.items ≡ self.old.flags.items }
@@ -81,7 +82,6 @@ impl Repeats {
         }
     }
 
-    // Notes one more acknowledgement.
     pub(crate) fn note(&mut self, found: Acknowledgement) -> Result<(), AllocError>
         ensures { OnOk result ((had : List AcknowledgementData) → AreNoted had self.old → AreNoted (had ++ found ∷ []) self.new) }
     {
@@ -90,7 +90,7 @@ impl Repeats {
         Ok(())
     }
 
-    // For each acknowledgement, whether it names no commit that was named before it.
+    // For each acknowledgement, whether no earlier one names the same common commit.
     pub(crate) fn into_flags(self) -> Vec<bool>
         ensures { (had : List AcknowledgementData) → AreNoted had self
             → result.items ≡ tested_from (λ place. not (is_repeat id_cmp (named_from 0 had) place)) 0 had }

@@ -1,4 +1,4 @@
-//! Answers under version 2 (gitprotocol-v2, "fetch").
+//! Responses of version 2 (gitprotocol-v2, "fetch").
 ghost use Rattle.std.specs.Prelude.{◌≡◌, MatchOption, MatchResult, false, true};
 ghost use Rattle.std.specs.Str.{is_utf8};
 ghost use Rattle.gixp_packetline.specs.declared.protocol.Protocol.TheVariants.{V2};
@@ -16,7 +16,7 @@ use gixp_packetline::{ExtendedBufRead, MessageKind, Protocol, read};
 use std::alloc::Global;
 use std::io::ErrorKind;
 
-// A kind of section.
+// The kinds of sections.
 #[derive(Clone, Copy)]
 pub(crate) enum Section {
     Acknowledgments,
@@ -24,14 +24,13 @@ pub(crate) enum Section {
     WantedRefs,
 }
 
-// What a header opens: a section, or the pack.
+// A header: it begins a section or the pack.
 #[derive(Clone, Copy)]
 pub(crate) enum Header {
     Of(Section),
     Packfile,
 }
 
-// The header that a text is.
 fn header_of(text: &[u8]) -> Option<Header>
     ensures { result ≡ header_of text.now }
 {
@@ -48,7 +47,6 @@ fn header_of(text: &[u8]) -> Option<Header>
     }
 }
 
-// A line as text.
 pub(crate) fn text_of(line: &[u8]) -> Option<&str>
     ensures { MatchOption result (is_utf8 line.now ≡ false) (λ text. (text.now ≡ line.now) × (is_utf8 line.now ≡ true)) }
 {
@@ -58,7 +56,6 @@ pub(crate) fn text_of(line: &[u8]) -> Option<&str>
     }
 }
 
-// The error that carries a header.
 fn unknown_header(alloc: Global, header: &str) -> Error
     ensures { IsAnswerRefusal result (unknown_header header.now) }
 {
@@ -68,7 +65,6 @@ fn unknown_header(alloc: Global, header: &str) -> Error
     }
 }
 
-// What a line opens where a header is due.
 fn read_header(alloc: Global, line: &[u8]) -> Result<Header, Error>
     ensures { AnswersResponse (λ (h : Header). h) (read_header line.now) result }
 {
@@ -110,7 +106,7 @@ fn add_wanted_ref(alloc: Global, line: &str, answer: &mut Response) -> Result<()
     Ok(())
 }
 
-// What a line in a section adds to the answer.
+// Reads a line of a section, and adds its item to the response.
 fn add_item(
     alloc: Global,
     section: Section,
@@ -130,7 +126,7 @@ fn add_item(
     }
 }
 
-// Reads an answer of sections.
+// Reads a response of version 2.
 pub(crate) fn read_sections<R: ExtendedBufRead>(
     alloc: Global,
     reader: &mut R,
@@ -164,7 +160,6 @@ pub(crate) fn read_sections<R: ExtendedBufRead>(
     }
 }
 
-// Whether a reader is at a flush.
 fn is_flush(stopped: Option<MessageKind>) -> bool
     ensures { result ≡ is_flush stopped }
 {

@@ -1,4 +1,3 @@
--- Equal wishes have equal values.
 use Rattle.gixp_shallow.proofs.WishLemmas.{same_boundary}
 use Rattle.gixp_shallow.proofs.same.is_same_boundary.Goals as goal
 

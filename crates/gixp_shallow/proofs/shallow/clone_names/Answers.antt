@@ -1,4 +1,3 @@
--- Each name's clone has its bytes.
 use Rattle.std.proofs.Common.{◌≡◌, List, [], ◌∷◌, map, refl}
 use Rattle.std.specs.List.{AllZip}
 use Rattle.gixp_refspec.specs.declared.name.PartialName.{PartialName}

@@ -1,4 +1,4 @@
--- No separator stands before the rest.
+-- No separator begins before the rest.
 use Rattle.std.proofs.Common.{◌≡◌, length}
 use Rattle.gixp_url.specs.Url.{has_separator}
 use Rattle.gixp_url.proofs.address.has_separator.Given as goal

@@ -1,4 +1,4 @@
--- What was read, and what the rest comes to.
+-- The bytes so far, and what the rest decodes to.
 use Rattle.std.proofs.Common.{◌≡◌, ◌++◌, length}
 use Rattle.gixp_url.specs.Decoded.{decoded}
 use Rattle.gixp_url.proofs.decode.decoded.Given as goal

@@ -1,4 +1,4 @@
--- No bracket follows an at sign before the rest.
+-- No bracket follows an `@` before the rest.
 use Rattle.std.proofs.Common.{◌≡◌, ◌+◌, length}
 use Rattle.gixp_url.specs.Host.{bracket_from}
 use Rattle.gixp_url.proofs.host.bracket_at.Given as goal

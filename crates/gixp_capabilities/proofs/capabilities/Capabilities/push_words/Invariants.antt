@@ -1,4 +1,4 @@
--- What was appended and what is left make the whole.
+-- The appended capabilities and those of the rest of the text are all capabilities.
 use Rattle.std.proofs.Common.{◌≡◌, ◌++◌}
 use Rattle.gixp_capabilities.specs.Capabilities.{capabilities_of_words}
 use Rattle.gixp_capabilities.proofs.CapabilityLemmas.{words_left, text_left}

@@ -1,4 +1,3 @@
--- The refs so far.
 use Rattle.std.proofs.Common.{◌≡◌, map}
 use Rattle.gixp_memory.specs.Repository.{named_id_of}
 use Rattle.gixp_client.specs.Changes.{listed_value}

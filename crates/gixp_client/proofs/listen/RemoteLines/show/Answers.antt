@@ -1,4 +1,3 @@
--- One byte more, and the end.
 use Rattle.std.proofs.Common.{rules}
 use Rattle.gixp_client.proofs.ShownLemmas.{shows_byte, shows_end}
 use Rattle.gixp_client.proofs.listen.RemoteLines.show.Goals as goal

@@ -1,4 +1,4 @@
--- Whatever is shown from here on, with the text to come, is shown from the beginning, with the whole text.
+-- The output of the rest after the output so far is the output of the whole text.
 use Rattle.std.proofs.Common.{ℕ, Bool, List, Option, length}
 use Rattle.gixp_client.specs.Listening.{ShowsLines, after_text}
 use Rattle.gixp_client.proofs.listen.RemoteLines.show.Given as goal

@@ -1,4 +1,3 @@
--- The value of the text, behind the others.
 use Rattle.gixp_client.proofs.request.Request.add_refspec.Goals as goal
 
 pub returns-in_ok-push-in-Ok-clause-added : goal.returns-in_ok-push-in-Ok-clause-added

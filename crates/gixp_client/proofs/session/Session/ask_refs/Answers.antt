@@ -1,4 +1,3 @@
--- All refs, as they are listed, or why they aren't.
 use Rattle.std.proofs.Common.{refl, inr}
 use Rattle.gixp_client.proofs.MapLemmas.{as_lists, refused_by}
 use Rattle.gixp_client.proofs.session.Session.ask_refs.Goals as goal

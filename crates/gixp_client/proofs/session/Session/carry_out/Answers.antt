@@ -1,4 +1,4 @@
--- A fetch by a copy of the changes of the boundary that came with the handshake, and where the session stands after it.
+-- The fetch uses a copy of the shallow updates of the handshake.
 use Rattle.gixp_client.proofs.RunLemmas.{same_call, carried_by, kept_whole}
 use Rattle.gixp_client.proofs.session.Session.carry_out.Goals as goal
 

@@ -1,4 +1,3 @@
--- A fetch of a session, and what is told of it.
 use Rattle.std.proofs.Common.{ap, sym, inr, refl, ◌∙◌}
 use Rattle.gixp_client.proofs.RunLemmas.{in_session, refused_in_session}
 use Rattle.gixp_client.proofs.SettleLemmas.{came_of, refused_of, stands_of, known_of}

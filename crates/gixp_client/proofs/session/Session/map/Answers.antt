@@ -1,4 +1,3 @@
--- A ref map of a session.
 use Rattle.std.proofs.Common.{inr, refl}
 use Rattle.gixp_client.proofs.MapLemmas.{state_behind_map, unmapped_by, whole_by}
 use Rattle.gixp_client.proofs.RunLemmas.{as_obtained}

@@ -1,4 +1,3 @@
--- The refs that are lent.
 use Rattle.std.proofs.Common.{refl, ap}
 use Rattle.gixp_client.specs.ClientNames.{named_by}
 use Rattle.gixp_client.proofs.MapLemmas.{gives_by, some_is_not_none}

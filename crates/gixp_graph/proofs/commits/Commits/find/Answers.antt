@@ -1,4 +1,3 @@
--- Whether an id has a number.
 use Rattle.std.proofs.Common.{◌≡◌, ◌<◌, length, sym, subst}
 use Rattle.std.specs.Prelude.{IfSome, IfNone}
 use Rattle.gixp_graph.specs.Node.{ids_of}

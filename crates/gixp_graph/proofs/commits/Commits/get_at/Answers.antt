@@ -1,4 +1,3 @@
--- What a number's commit shows.
 use Rattle.std.proofs.Common.{refl, ◌<◌, length, arith, rules}
 use Rattle.std.proofs.lemmas.Int.{to_z-of_z}
 use mir.Val.{SFits}

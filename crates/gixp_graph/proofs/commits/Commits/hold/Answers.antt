@@ -1,4 +1,3 @@
--- A number's commit is held.
 use Rattle.std.proofs.Common.{refl, ◌≡◌, ◌≤◌, ◌<◌, ◌∙◌, sym, ap, length, arith, take, drop, length-append, ◌∷◌, [], ◌-◌}
 use Rattle.std.proofs.lemmas.Int.{to_z-of_z}
 use mir.Val.{to_z, of_z}

@@ -1,10 +1,9 @@
--- What the loop keeps.
 use Rattle.std.proofs.Common.{◌≡◌, ◌≤◌, length, take, drop}
 use Rattle.gixp_graph.specs.Table.{ids_at, KeepsNumbers}
 use Rattle.gixp_graph.specs.Node.{ids_of, held_in, IsTable}
 use Rattle.gixp_graph.proofs.commits.Commits.hold.Given as goal
 
--- what is held is as before, and the parents so far have numbers
+-- the held commits are the same as before, and the parents so far have numbers
 abbrev pub invariant-loop-id : goal.invariant-loop-id
 invariant-loop-id l = record {
   table : IsTable l.self-inside.nodes.items l.self-inside.numbers l.self-inside.parents.items;

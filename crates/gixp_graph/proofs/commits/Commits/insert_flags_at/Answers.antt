@@ -1,4 +1,3 @@
--- The marks of a number's commit.
 use Rattle.std.proofs.Common.{refl, ◌<◌, ◌∙◌, sym, length}
 use Rattle.gixp_graph.specs.Node.{ids_of}
 use Rattle.gixp_graph.proofs.HeldLemmas.{flagged_none}

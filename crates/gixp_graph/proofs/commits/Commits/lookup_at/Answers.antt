@@ -1,4 +1,3 @@
--- A commit that is held already.
 use Rattle.std.proofs.Common.{sym}
 use Rattle.gixp_graph.specs.GraphData.{GraphData, graph_of}
 use Rattle.gixp_graph.proofs.HeldLemmas.{known_looked_up}

@@ -1,4 +1,3 @@
--- One number more.
 use Rattle.std.proofs.Common.{◌∙◌, ap}
 use Rattle.gixp_graph.specs.Table.{Table}
 use Rattle.gixp_graph.proofs.GrowLemmas.{held_number}

@@ -1,4 +1,3 @@
--- What the loop keeps.
 use Rattle.std.proofs.Common.{◌≡◌, take}
 use Rattle.gixp_graph.specs.Table.{ids_at, AllNamed, KeepsNumbers}
 use Rattle.gixp_graph.proofs.commits.Commits.numbers.Given as goal

@@ -1,4 +1,3 @@
--- The numbers of one commit's parents.
 use Rattle.std.proofs.Common.{◌≡◌, ℕ, ◌<◌, ◌++◌, ◌∙◌, if◌then◌else◌, List, ap, length}
 use Rattle.std.specs.Prelude.{Result, Ok, Err, OnOk, is_ok}
 use Rattle.std.proofs.lemmas.Result.{on_ok_weaker}
@@ -7,7 +6,6 @@ use Rattle.gixp_graph.specs.Node.{ids_of, parent_numbers_of}
 use Rattle.gixp_graph.proofs.NodeLemmas.{parents_at_node}
 use Rattle.gixp_graph.proofs.commits.Commits.parent_numbers.Goals as goal
 
--- what a list has once others were added
 added : {T E : Type 0} (r : Result T E) (new more old : List ℕ) → new ≡ if is_ok r then more else old → OnOk r (new ≡ more)
 added (Ok x) new more old e = e
 added (Err x) new more old e = tt

@@ -1,4 +1,3 @@
--- The parents of a number's commit.
 use Rattle.std.proofs.Common.{◌<◌, ◌∙◌, ap, length}
 use Rattle.std.proofs.lemmas.Result.{IfOk-weaker}
 use Rattle.gixp_graph.specs.GraphData.{parents_in}

@@ -1,4 +1,3 @@
--- An empty map has nothing.
 use Rattle.std.proofs.Common.{sym, ap}
 use Rattle.std.specs.Prelude.{option_and_then}
 use Rattle.std.specs.FinMap.{get-empty}

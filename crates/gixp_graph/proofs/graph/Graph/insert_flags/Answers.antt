@@ -1,4 +1,4 @@
--- Marks keep what is held to what the objects have.
+-- Held commits with more marks are still equal to the objects' commits.
 use Rattle.std.proofs.Common.{rules}
 use Rattle.gixp_graph.specs.GraphData.{graph_of}
 use Rattle.gixp_graph.proofs.FaithfulLemmas.{faithful_flagged}

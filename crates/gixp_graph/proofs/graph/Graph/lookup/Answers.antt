@@ -1,4 +1,4 @@
--- A look-up keeps what is held to what the objects have.
+-- After a look-up the held commits are still equal to the objects' commits.
 use Rattle.std.proofs.Common.{◌∙◌, ap, rules}
 use Rattle.std.proofs.lemmas.Result.{IfOk-weaker}
 use Rattle.gixp_graph.specs.GraphData.{GraphData, graph_of, shown_time}

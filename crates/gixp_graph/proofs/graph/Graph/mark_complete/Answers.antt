@@ -1,4 +1,3 @@
--- The walk, by what the objects have.
 use Rattle.std.proofs.lemmas.Result.{on_ok_weaker}
 use Rattle.gixp_graph.specs.GraphData.{GraphData, graph_of}
 use Rattle.gixp_graph.proofs.ExactLemmas.{sound_exact, complete_exact, held_exact, reads_exact}

@@ -1,4 +1,3 @@
--- An empty graph holds nothing but what its objects have.
 use Rattle.std.proofs.Common.{rules}
 use Rattle.gixp_graph.proofs.FaithfulLemmas.{faithful_empty}
 use Rattle.gixp_graph.proofs.graph.Graph.new.Goals as goal

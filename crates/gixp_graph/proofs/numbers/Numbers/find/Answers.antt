@@ -1,4 +1,3 @@
--- The number of an id.
 use Rattle.std.proofs.Common.{◌≡◌, ◌<◌, ◌-◌, ◌∙◌, ℕ, length, arith, ap, subst, refl, Some, None, List, Option, true, false}
 use Rattle.std.specs.Prelude.{IfNone}
 use Rattle.std.proofs.lemmas.Option.{slice_get_read}
@@ -11,7 +10,7 @@ use Rattle.gixp_graph.specs.Slots.{tag_of, place_of, other_at, IsReached, IsNoOt
 use Rattle.gixp_graph.proofs.SlotLemmas.{place_of_parts, place_within, never_free, other_found}
 use Rattle.gixp_graph.proofs.numbers.Numbers.find.Goals as goal
 
--- where no number that the map has is that of an id, and the map would have it, no number is
+-- where neither the number in the slot nor the map's is the id's, no number is
 none_new : (o : Option ℕ) (ids : List ObjectId) (others : List (ObjectId × ℕ)) (id : ObjectId) → IfNone o (IsNoOther ids others id)
     → ((n : ℕ) → n < length ids → id_at ids n ≡ id → other_at others id ≡ Some n) → IfNone o (IsNew ids id)
 none_new None ids others id h has = (λ n l e. h n l e (has n l e))

@@ -1,4 +1,3 @@
--- One number more in the new slots.
 use Rattle.std.proofs.Common.{◌≡◌, ◌<◌, ◌≤◌, ◌∙◌, ℕ, List, length, arith, sym, subst, ⊎_elim}
 use Rattle.std.proofs.lemmas.Bool.{cases_lt}
 use Rattle.gixp_graph.specs.declared.commits.Node.{Node}

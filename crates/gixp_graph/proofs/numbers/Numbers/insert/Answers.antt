@@ -1,4 +1,3 @@
--- One number more.
 use Rattle.gixp_graph.proofs.numbers.Numbers.insert.Goals as goal
 use Rattle.gixp_graph.specs.Node.{ids_of}
 use Rattle.gixp_graph.specs.Table.{id_at}

@@ -1,4 +1,3 @@
--- A number in its slot or in the map.
 use Rattle.std.proofs.Common.{ap}
 use Rattle.gixp_graph.specs.Slots.{other_at}
 use Rattle.gixp_graph.proofs.SlotLemmas.{reached_other, apart_at}

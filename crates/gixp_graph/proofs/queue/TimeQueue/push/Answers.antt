@@ -1,4 +1,4 @@
--- Of two entries the newer stands before the map.
+-- Of two entries the newer one stays apart from the map.
 use Rattle.std.proofs.Common.{◌∙◌, ℤ, ◌∷◌, ◌++◌, sym, ap, subst}
 use Rattle.std.specs.List.Sorted.{IsPermutation}
 use Rattle.std.proofs.lemmas.Int.{to_z-of_z}

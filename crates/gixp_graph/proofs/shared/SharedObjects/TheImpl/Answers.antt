@@ -1,4 +1,4 @@
--- A call means to the graph what its clauses say; nothing is written down.
+-- Each call has the meaning that its clauses state. Nothing is recorded.
 use Rattle.std.proofs.Common.{ap, refl, inl, rules}
 use Rattle.gixp_graph.proofs.shared.SharedObjects.TheImpl.Goals as goal
 

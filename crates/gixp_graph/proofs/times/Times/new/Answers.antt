@@ -1,4 +1,3 @@
--- An empty map has no entries.
 use Rattle.gixp_graph.proofs.TimesLemmas.{no_entries}
 use Rattle.gixp_graph.proofs.times.Times.new.Goals as goal
 

@@ -1,4 +1,4 @@
--- The time of the list beside the map, or the last of the map.
+-- The time of the list that was taken out, or the last time of the map.
 use Rattle.std.proofs.Common.{rules, ℤ, sym, subst, true≢false}
 use Rattle.std.specs.Prelude.{All, ◌≤ℤ◌}
 use Rattle.std.proofs.lemmas.Int.{to_z-of_z}

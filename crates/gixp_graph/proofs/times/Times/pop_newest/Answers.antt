@@ -1,4 +1,3 @@
--- The first number of the list of the greatest time is taken.
 use Rattle.std.proofs.Common.{rules, ◌≡◌, ℤ, ◌∷◌, [], sym, subst}
 use Rattle.std.specs.Prelude.{All, ◌≤ℤ◌}
 use Rattle.std.specs.List.Sorted.{IsPermutation}

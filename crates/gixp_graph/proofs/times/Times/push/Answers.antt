@@ -1,4 +1,4 @@
--- What was taken out is put back first.
+-- The list that was taken out is put back first.
 use Rattle.std.proofs.Common.{sym, subst}
 use Rattle.gixp_graph.specs.Times.{AllEnd}
 use Rattle.gixp_graph.proofs.TimesLemmas.{restored, pushed_ok}

@@ -1,4 +1,3 @@
--- What was told of a listing.
 use Rattle.gixp_handshake.proofs.ObtainProgressLemmas.{listed_told}
 use Rattle.gixp_handshake.proofs.handshake.ref_map.fetch_map.Goals as goal
 

@@ -1,4 +1,3 @@
--- The ref map, of the refs that came or of those that are listed.
 use Rattle.gixp_requests.specs.Feature.{feature_value}
 use Rattle.gixp_requests.specs.Command.{table_of}
 use Rattle.gixp_handshake.proofs.ObtainLemmas.{shown_mappings, listed_mappings, unlisted_mappings}

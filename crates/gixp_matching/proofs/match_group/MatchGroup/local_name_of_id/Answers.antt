@@ -1,4 +1,3 @@
--- The local name by the refspec at the place.
 use Rattle.std.proofs.Common.{◌∙◌, ap}
 use Rattle.std.proofs.lemmas.Result.{IfOk-weaker}
 use Rattle.gixp_refspec.specs.RefSpec.{value_of}

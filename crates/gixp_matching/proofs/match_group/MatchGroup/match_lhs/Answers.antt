@@ -1,4 +1,4 @@
--- The mappings of fewer refs are those of all.
+-- Fewer refs give the same mappings.
 use Rattle.gixp_matching.specs.MatchGroup.{group_specs, names}
 use Rattle.gixp_matching.proofs.SameValidationLemmas.{answers_all}
 use Rattle.gixp_matching.proofs.match_group.MatchGroup.match_lhs.Goals as goal

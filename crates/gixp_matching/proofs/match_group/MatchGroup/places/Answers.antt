@@ -1,4 +1,3 @@
--- Each mapping follows from its place.
 use Rattle.gixp_matching.specs.MatchGroup.{group_specs, names}
 use Rattle.gixp_matching.proofs.FollowLemmas.{repeated_follow}
 use Rattle.gixp_matching.proofs.match_group.MatchGroup.places.Goals as goal

@@ -1,4 +1,4 @@
--- The refspec that was found makes all mappings; where none is answered, no lone positive pattern is there.
+-- Where a refspec is found, it makes all mappings. Where none is found, there is no single positive pattern.
 use Rattle.gixp_matching.proofs.SingleLemmas.{no_lone, no_pattern, only_is_positive, other_source, pattern_source, single_makes}
 use Rattle.gixp_matching.proofs.match_group.MatchGroup.single.Goals as goal
 

@@ -1,4 +1,3 @@
--- What stays of the mappings, as values.
 use Rattle.std.proofs.Common.{refl}
 use Rattle.gixp_matching.specs.MatchGroup.{mapped_of}
 use Rattle.gixp_matching.proofs.KeptLemmas.{kept_values}

@@ -1,4 +1,3 @@
--- The state after the words so far.
 use Rattle.std.proofs.Common.{◌≡◌, take}
 use Rattle.std.specs.List.{fold}
 use Rattle.gixp_matching.specs.Digest.{with_word}

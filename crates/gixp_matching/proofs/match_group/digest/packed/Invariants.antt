@@ -1,4 +1,3 @@
--- The number of the bytes so far.
 use Rattle.std.proofs.Common.{◌≡◌, take}
 use Rattle.std.specs.List.{fold}
 use Rattle.gixp_matching.specs.Digest.{step}

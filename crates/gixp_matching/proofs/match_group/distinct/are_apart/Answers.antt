@@ -1,4 +1,4 @@
--- Mappings whose numbers are all different are first ones.
+-- Mappings with different hashes are all first ones.
 use Rattle.std.proofs.Common.{map, subst}
 use Rattle.std.specs.List.{IsDistinct}
 use Rattle.gixp_matching.proofs.DigestLemmas.{firsts_by_number}

@@ -1,4 +1,3 @@
--- Keys of the mappings so far, each above the one before.
 use Rattle.std.proofs.Common.{◌≡◌, List, take, map}
 use Rattle.gixp_matching.specs.Apart.{parts, key_parts}
 use Rattle.gixp_matching.specs.Rising.{RisesTo}

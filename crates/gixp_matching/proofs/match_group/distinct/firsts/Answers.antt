@@ -1,4 +1,4 @@
--- Mappings that are all new stay, and of others the flags keep the first.
+-- Without flags all mappings stay; else the flags keep the first ones.
 use Rattle.std.proofs.Common.{◌≡◌, ◌∙◌, [], ap, sym, subst, true, length, map}
 use Rattle.std.specs.List.{list_all}
 use Rattle.std.proofs.lemmas.List.{length-map}

@@ -1,4 +1,3 @@
--- A sort tells which mappings are first ones.
 use Rattle.std.proofs.Common.{◌∙◌, ap, sym, map}
 use Rattle.gixp_matching.specs.Apart.{key_parts, parts}
 use Rattle.gixp_matching.specs.Digest.{with_digest, number_parts}

@@ -1,4 +1,3 @@
--- One number more.
 use Rattle.std.proofs.Common.{[], ◌∷◌, ◌++◌, ◌∙◌, ap}
 use Rattle.gixp_matching.specs.Apart.{parts}
 use Rattle.gixp_matching.specs.Digest.{parts_digest}

@@ -1,4 +1,3 @@
--- The numbers of the mappings so far.
 use Rattle.std.proofs.Common.{◌≡◌, take, map}
 use Rattle.gixp_matching.specs.Apart.{parts}
 use Rattle.gixp_matching.specs.Digest.{parts_digest}

@@ -1,4 +1,3 @@
--- The keys of the mappings so far.
 use Rattle.std.proofs.Common.{◌≡◌, take, map}
 use Rattle.gixp_matching.specs.Apart.{parts, key_parts}
 use Rattle.gixp_matching.proofs.match_group.distinct.keys_of.Given as goal

@@ -1,4 +1,3 @@
--- One key more.
 use Rattle.std.proofs.Common.{map}
 use Rattle.gixp_matching.specs.Apart.{key_parts}
 use Rattle.gixp_matching.specs.Digest.{with_digest, number_parts}

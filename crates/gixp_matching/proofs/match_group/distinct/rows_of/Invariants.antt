@@ -1,4 +1,3 @@
--- The keys so far.
 use Rattle.std.proofs.Common.{◌≡◌, take, map}
 use Rattle.gixp_matching.specs.Apart.{key_parts}
 use Rattle.gixp_matching.specs.Digest.{with_digest, number_parts}

@@ -1,4 +1,3 @@
--- One place more.
 use Rattle.std.proofs.Common.{[], ◌++◌, ◌∙◌, ap}
 use Rattle.std.specs.Prelude.{option_to_list}
 use Rattle.gixp_matching.specs.MatchGroup.{mapped_in, names, group_specs}

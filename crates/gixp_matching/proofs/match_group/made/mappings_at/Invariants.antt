@@ -1,4 +1,3 @@
--- The mappings of the places so far.
 use Rattle.std.proofs.Common.{◌≡◌, take, map}
 use Rattle.gixp_matching.specs.MatchGroup.{mapped_in, names, group_specs}
 use Rattle.gixp_matching.specs.Places.{place_value, made_of}

@@ -1,4 +1,3 @@
--- Each mapping is made again of its place.
 use Rattle.std.proofs.Common.{◌∙◌, ap, map}
 use Rattle.std.proofs.lemmas.Result.{IfOk-weaker}
 use Rattle.gixp_matching.specs.MatchGroup.{group_specs, names}

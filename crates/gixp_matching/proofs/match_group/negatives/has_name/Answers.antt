@@ -1,4 +1,3 @@
--- Refs of the name are found where there are some.
 use Rattle.gixp_matching.specs.Rows.{is_row_of}
 use Rattle.gixp_matching.proofs.NegativeLemmas.{kept_some}
 use Rattle.gixp_matching.proofs.match_group.negatives.has_name.Goals as goal

@@ -1,4 +1,3 @@
--- One refspec more, and the names in order.
 use Rattle.std.proofs.Common.{arith}
 use Rattle.gixp_matching.proofs.NegativeLemmas.{prepared_more, prepared_all}
 use Rattle.gixp_matching.proofs.match_group.negatives.prepare.Goals as goal

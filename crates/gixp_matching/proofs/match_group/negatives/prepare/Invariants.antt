@@ -1,4 +1,3 @@
--- The negative refspecs so far.
 use Rattle.std.proofs.Common.{◌≡◌, ℕ, List, take}
 use Rattle.std.specs.List.{list_any}
 use Rattle.gixp_matching.specs.Mappings.{excludes}

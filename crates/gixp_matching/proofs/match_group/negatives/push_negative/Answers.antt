@@ -1,4 +1,3 @@
--- One name or one needle more.
 use Rattle.std.proofs.Common.{sym}
 use Rattle.gixp_refspec.specs.declared.needle.Needle.TheVariants.{Exact as the_exact}
 use Rattle.gixp_refspec.specs.RefSpec.{value_of}

@@ -1,4 +1,3 @@
--- The ids so far, and those to come.
 use Rattle.std.proofs.Common.{◌++◌, ap}
 use Rattle.gixp_refspec.specs.RefSpec.{value_of}
 use Rattle.gixp_matching.specs.MatchGroup.{values}

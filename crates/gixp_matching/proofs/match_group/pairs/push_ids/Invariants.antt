@@ -1,4 +1,3 @@
--- The ids so far, and those to come.
 use Rattle.std.proofs.Common.{◌≡◌, ◌++◌, drop, map}
 use Rattle.std.specs.List.{flat_map, enumerate_from}
 use Rattle.gixp_matching.specs.Mappings.{id_mappings}

@@ -1,4 +1,3 @@
--- Keys and local names that rise, and that are whole.
 use Rattle.std.proofs.Common.{[], ◌∷◌, ◌++◌, ◌∙◌, ◌≤◌, ap, sym, map, length, refl, arith}
 use Rattle.std.specs.Prelude.{option_to_list}
 use Rattle.std.specs.List.{list_any}

@@ -1,4 +1,4 @@
--- Keys and local names so far, each above the one before; no local name so far is partial.
+-- Keys and local names ascend so far; no local name so far is partial.
 use Rattle.std.proofs.Common.{◌≡◌, false, List, take, map}
 use Rattle.std.specs.List.{list_any}
 use Rattle.gixp_matching.specs.declared.match_group.key.KeyBytes.{KeyBytes}

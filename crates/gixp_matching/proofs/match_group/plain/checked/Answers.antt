@@ -1,4 +1,4 @@
--- Plain mappings stay, and others are gone through.
+-- Plain mappings stay; others are compared and validated.
 use Rattle.std.proofs.Common.{◌≡◌, ◌∙◌, false, ap, sym, subst, map, refl, List, Ok}
 use Rattle.std.specs.List.{list_any}
 use Rattle.std.specs.Prelude.{IfOk}

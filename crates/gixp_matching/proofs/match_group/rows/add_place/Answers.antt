@@ -1,4 +1,3 @@
--- A set with one number more.
 use Rattle.gixp_matching.specs.Rows.{shown}
 use Rattle.gixp_matching.proofs.PlaceLemmas.{place_added}
 use Rattle.gixp_matching.proofs.match_group.rows.add_place.Goals as goal

@@ -1,4 +1,3 @@
--- The place of one ref more.
 use Rattle.std.proofs.Common.{take, map, subst, sym}
 use Rattle.gixp_matching.specs.Rows.{shown, AddsPlaces}
 use Rattle.gixp_packetline.proofs.ListLemmas.{take-map_more}

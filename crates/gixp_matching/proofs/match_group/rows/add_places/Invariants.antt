@@ -1,4 +1,3 @@
--- The places so far.
 use Rattle.std.proofs.Common.{take, map}
 use Rattle.gixp_matching.specs.Rows.{shown, AddsPlaces}
 use Rattle.gixp_matching.proofs.match_group.rows.add_places.Given as goal

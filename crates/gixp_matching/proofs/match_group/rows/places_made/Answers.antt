@@ -1,4 +1,3 @@
--- The refs of one name more.
 use Rattle.std.proofs.Common.{ℕ, List, ◌≤◌, ◌∙◌, ap, sym, subst, length, take, map, filter, arith}
 use Rattle.std.specs.Borrow.{Bor}
 use Rattle.std.proofs.lemmas.List.{take_all, length-map}

@@ -1,4 +1,3 @@
--- The places of the refs of the names so far.
 use Rattle.std.proofs.Common.{take, map}
 use Rattle.gixp_refspec.specs.Matching.{joined, rule_of}
 use Rattle.gixp_matching.specs.Rows.{HasPlaces}

@@ -1,4 +1,3 @@
--- The places in order.
 use Rattle.std.proofs.Common.{sym, subst}
 use Rattle.std.proofs.lemmas.Result.{IfOk-weaker}
 use Rattle.gixp_refspec.specs.Matching.{candidates}

@@ -1,4 +1,4 @@
--- Between two partition points stand the refs of the name.
+-- The rows between the two partition points have the name.
 use Rattle.std.proofs.Common.{◌≡◌, ◌∙◌, ◌≤◌, ◌-◌, true, false, length, take, drop, ap, sym, subst, rules}
 use Rattle.std.specs.Prelude.{not}
 use Rattle.std.specs.List.Sorted.{IsPartitionedBy, IsPartitionPoint}

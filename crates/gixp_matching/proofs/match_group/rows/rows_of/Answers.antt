@@ -1,4 +1,3 @@
--- One ref more.
 use Rattle.std.proofs.Common.{map}
 use Rattle.gixp_matching.specs.MatchGroup.{name_of}
 use Rattle.gixp_matching.specs.Rows.{shown}

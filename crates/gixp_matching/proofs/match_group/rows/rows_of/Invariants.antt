@@ -1,4 +1,3 @@
--- The refs so far, and those to come.
 use Rattle.std.proofs.Common.{◌≡◌, ◌++◌, drop, map, filter}
 use Rattle.std.specs.List.{enumerate_from}
 use Rattle.gixp_matching.specs.MatchGroup.{names}

@@ -1,4 +1,3 @@
--- A stable sort by name.
 use Rattle.std.proofs.Common.{rules}
 use Rattle.std.proofs.lemmas.Fn.{always_returns_same}
 use Rattle.gixp_matching.proofs.RowLemmas.{named_stays}

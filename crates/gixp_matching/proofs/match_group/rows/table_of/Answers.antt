@@ -1,4 +1,3 @@
--- Refs of the names that are sought, which were listed and sorted.
 use Rattle.std.proofs.Common.{map, ap, ◌∙◌}
 use Rattle.bstr.specs.Owned.{bstring_bytes}
 use Rattle.gixp_matching.specs.MatchGroup.{names}

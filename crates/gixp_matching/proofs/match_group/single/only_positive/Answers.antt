@@ -1,4 +1,4 @@
--- Where no place is answered, none is positive, or two are.
+-- Where none is found, no refspec is positive, or two are.
 use Rattle.std.proofs.Common.{◌≡◌, ◌+◌, true, ℕ, Option, sym, subst, drop, arith}
 use Rattle.std.specs.List.{list_any}
 use Rattle.std.proofs.lemmas.Grind.{common_steps}

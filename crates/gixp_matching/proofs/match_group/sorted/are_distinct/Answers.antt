@@ -1,4 +1,3 @@
--- Keys that rise once they are sorted are all different.
 use Rattle.std.proofs.Common.{◌≡◌, Less, length, subst}
 use Rattle.std.specs.List.{AllAdjacentBelow}
 use Rattle.gixp_matching.proofs.DistinctLemmas.{distinct_sorted}

@@ -1,4 +1,3 @@
--- Each key so far is below the next.
 use Rattle.std.proofs.Common.{◌≡◌, Less}
 use Rattle.std.specs.List.{AllAdjacentBelow}
 use Rattle.gixp_matching.proofs.match_group.sorted.is_rising.Given as goal

@@ -1,4 +1,3 @@
--- One key more that is above the last one.
 use Rattle.gixp_matching.proofs.RisingLemmas.{rises_more}
 use Rattle.gixp_matching.proofs.match_group.sorted.rises.Goals as goal
 

@@ -1,4 +1,3 @@
--- The set with a name more.
 use Rattle.bstr.specs.Owned.{bstring_bytes}
 use Rattle.gixp_matching.proofs.SoughtLemmas.{name_added}
 use Rattle.gixp_matching.proofs.match_group.sought.add_name.Goals as goal

@@ -1,4 +1,3 @@
--- One name more.
 use Rattle.bstr.specs.Owned.{bstring_bytes}
 use Rattle.gixp_matching.proofs.SoughtLemmas.{names_more}
 use Rattle.gixp_matching.proofs.match_group.sought.names_of.Goals as goal

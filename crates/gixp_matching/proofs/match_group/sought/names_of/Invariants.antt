@@ -1,4 +1,3 @@
--- The names so far.
 use Rattle.std.proofs.Common.{◌≡◌, ℕ, List, take, map}
 use Rattle.bstr.specs.Owned.{bstring_bytes}
 use Rattle.gixp_matching.specs.Sought.{is_among, has_key}

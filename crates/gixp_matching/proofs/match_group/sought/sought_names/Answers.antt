@@ -1,4 +1,3 @@
--- The names of one refspec more.
 use Rattle.gixp_refspec.specs.RefSpec.{value_of}
 use Rattle.gixp_refspec.specs.Texts.{texts}
 use Rattle.gixp_matching.specs.Sought.{sought_by}

@@ -1,4 +1,3 @@
--- The names of the refspecs so far.
 use Rattle.std.proofs.Common.{◌≡◌, take}
 use Rattle.std.specs.List.{flat_map}
 use Rattle.gixp_refspec.specs.Texts.{texts}

@@ -1,4 +1,3 @@
--- The last bytes of one name more.
 use Rattle.bstr.specs.Owned.{bstring_bytes}
 use Rattle.gixp_matching.proofs.SoughtLemmas.{tails_more}
 use Rattle.gixp_matching.proofs.match_group.sought.tails_of.Goals as goal

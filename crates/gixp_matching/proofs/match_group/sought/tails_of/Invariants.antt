@@ -1,4 +1,3 @@
--- The last bytes of the names so far.
 use Rattle.std.proofs.Common.{◌≡◌, ℕ, List, true, take, map}
 use Rattle.bstr.specs.Owned.{bstring_bytes}
 use Rattle.gixp_matching.specs.Digest.{tail}

@@ -1,4 +1,3 @@
--- One line more, or none.
 use Rattle.std.proofs.Common.{◌≡◌, ◌+◌, ◌-◌, ◌∙◌, arith, ap, map, refl}
 use Rattle.bstr.specs.BStr.{bstr_bytes}
 use Rattle.gixp_memory.specs.Repository.{commit_line}

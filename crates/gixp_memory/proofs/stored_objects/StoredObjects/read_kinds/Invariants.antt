@@ -1,4 +1,3 @@
--- The lines so far.
 use Rattle.bstr.specs.BStr.{bstr_bytes}
 use Rattle.gixp_memory.specs.Repository.{kind_line}
 use Rattle.gixp_memory.proofs.TextLemmas.{ReadSoFar}

@@ -1,4 +1,3 @@
--- The commit of what is stored.
 use Rattle.std.proofs.Common.{◌∙◌, sym, ap, subst}
 use Rattle.std.specs.Prelude.{IfOk, option_map, ◌≡◌}
 use Rattle.gixp_graph.specs.Object.{Objects, commit_at, commit_of}

@@ -1,4 +1,3 @@
--- The kind of what is stored.
 use Rattle.std.proofs.Common.{◌∙◌, sym, ap}
 use Rattle.gixp_graph.specs.Object.{Objects, kind_at}
 use Rattle.gixp_memory.proofs.StoredLemmas.{kind_in, kind_stored}

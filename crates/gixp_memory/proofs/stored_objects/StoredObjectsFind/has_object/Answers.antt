@@ -1,4 +1,3 @@
--- Whether an object is stored.
 use Rattle.std.proofs.Common.{◌∙◌, sym, ap}
 use Rattle.std.specs.FinMap as finite
 use Rattle.gixp_graph.specs.Object.{Objects}

@@ -1,4 +1,3 @@
--- A ref is put among the others.
 use Rattle.std.proofs.Common.{◌∙◌, List, ap, map}
 use Rattle.gixp_memory.specs.Repository.{PeeledRef, with_ref}
 use Rattle.gixp_memory.specs.RefEntries.{named_ref}

@@ -1,4 +1,3 @@
--- The id that a name holds.
 use Rattle.std.proofs.Common.{◌∙◌, List, sym, ap}
 use Rattle.gixp_memory.specs.Repository.{PeeledRef, ref_named}
 use Rattle.gixp_memory.proofs.StoredLemmas.{held_stored, id_stored}

@@ -1,4 +1,3 @@
--- What each ref holds, in the order of their names.
 use Rattle.std.proofs.Common.{◌∙◌, ap, map}
 use Rattle.gixp_memory.specs.Repository.{held_ref}
 use Rattle.gixp_memory.proofs.StoredLemmas.{held_refs_stored}

@@ -1,4 +1,3 @@
--- What each ref leads to, in the order of their names.
 use Rattle.std.proofs.Common.{◌∙◌, ap}
 use Rattle.gixp_memory.specs.Repository.{peeled_ids}
 use Rattle.gixp_memory.proofs.StoredLemmas.{peeled_stored}

@@ -1,4 +1,3 @@
--- An id more in the set.
 use Rattle.gixp_negotiate.proofs.DistinctLemmas.{index_more}
 use Rattle.gixp_negotiate.proofs.negotiate.distinct.insert_once.Goals as goal
 

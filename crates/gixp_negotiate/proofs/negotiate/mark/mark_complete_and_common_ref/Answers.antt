@@ -1,4 +1,3 @@
--- Nothing is plain before, and the rest is decided.
 use Rattle.std.proofs.Common.{sym}
 use Rattle.gixp_negotiate.proofs.negotiate.mark.mark_complete_and_common_ref.Goals as goal
 

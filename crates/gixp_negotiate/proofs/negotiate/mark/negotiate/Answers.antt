@@ -1,4 +1,3 @@
--- Why the negotiator refused.
 use Rattle.std.proofs.Common.{inl, ap, ◌∙◌, ◌++◌}
 use Rattle.gixp_negotiate.specs.Marking.{listed}
 use Rattle.gixp_negotiate.specs.Stopped.{telling_stopped}

@@ -1,4 +1,3 @@
--- One call more.
 use Rattle.std.proofs.lemmas.Result.{err_from_is_err_and}
 use Rattle.gixp_negotiate.proofs.LookLemmas.{calls_some}
 use Rattle.std.proofs.Common.{◌∙◌, subst, sym, take, [], get_or, arith}

@@ -1,4 +1,3 @@
--- The ids whose lines were added before one that couldn't be.
 use Rattle.std.proofs.lemmas.Result.{err_from_is_err_and}
 use Rattle.gixp_negotiate.proofs.RoundLemmas.{names_front}
 use Rattle.gixp_negotiate.proofs.negotiate.one_round.name_each.Goals as goal

@@ -1,4 +1,3 @@
--- A parent waits.
 use Rattle.std.proofs.Common.{refl, subst}
 use Rattle.std.specs.Prelude.{IsSome}
 use Rattle.std.proofs.lemmas.Bool.{or_left}

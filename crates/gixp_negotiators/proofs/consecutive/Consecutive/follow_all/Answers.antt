@@ -1,4 +1,3 @@
--- Parents wait.
 use Rattle.std.proofs.Common.{◌∙◌, arith, refl}
 use Rattle.std.proofs.lemmas.List.Elements.{All-nil}
 use Rattle.gixp_negotiators.proofs.GrowLemmas.{grows_none, grows_on}

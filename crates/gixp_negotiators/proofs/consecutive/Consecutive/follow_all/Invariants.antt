@@ -1,4 +1,3 @@
--- What the loop keeps.
 use Rattle.std.proofs.Common.{◌≡◌, ◌+◌, ◌≤◌, take, false}
 use Rattle.std.specs.Prelude.{All, IsTrue}
 use Rattle.std.specs.BinaryHeap.{heap_len, heap_items}

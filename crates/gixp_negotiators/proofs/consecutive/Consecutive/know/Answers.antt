@@ -1,4 +1,3 @@
--- A commit waits that the server has as a ref.
 use Rattle.gixp_negotiators.proofs.FromLemmas.{rises_none, rises_after}
 use Rattle.std.proofs.Common.{◌≡◌, ◌∙◌, ◌∷◌, [], arith, true, true≢false, refl, subst, sym}
 use Rattle.std.proofs.lemmas.Bool.{or_left}

@@ -1,4 +1,3 @@
--- Ancestors are marked.
 use Rattle.gixp_negotiators.proofs.FromLemmas.{rises_none, rises_after}
 use Rattle.std.proofs.Common.{subst}
 use Rattle.std.specs.Prelude.{IsSome}

@@ -1,4 +1,3 @@
--- A commit and its ancestors are marked.
 use Rattle.gixp_negotiators.proofs.FromLemmas.{rises_none, rises_settled}
 use Rattle.gixp_negotiators.proofs.GrowLemmas.{grows_on}
 use Rattle.gixp_negotiators.proofs.FitLemmas.{timed_on}

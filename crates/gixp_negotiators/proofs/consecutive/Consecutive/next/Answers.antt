@@ -1,4 +1,3 @@
--- The next is found.
 use Rattle.std.proofs.Common.{◌∙◌, ◌≡◌, ◌<◌, ℕ, ⊎_elim, arith, refl, subst}
 use Rattle.gixp_negotiators.specs.Waiting.{Fits}
 use Rattle.std.specs.BinaryHeap.{heap_items}

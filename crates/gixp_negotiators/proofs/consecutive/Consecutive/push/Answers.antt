@@ -1,4 +1,3 @@
--- A commit waits.
 use Rattle.std.proofs.Common.{◌≡◌, ◌∙◌, ℕ, ◌+◌, ◌||◌, ◌⊎◌, ⊎_elim, Bool, ap, arith, refl, sym, true, false, Some, true≢false}
 use Rattle.std.specs.Prelude.{bit_and}
 use Rattle.std.proofs.Common.{rules, w64}
@@ -21,7 +20,7 @@ use Rattle.gixp_negotiators.proofs.StepLemmas.{unseen_marked}
 use Rattle.gixp_negotiators.proofs.SeeLemmas.{sees_same, sees_one}
 use Rattle.gixp_negotiators.proofs.consecutive.Consecutive.push.Goals as goal
 
--- none of these marks is that of a commit that was taken, and one is that of a common commit
+-- none of these sets has the mark of a commit that was taken
 apart_pop : (m : ℕ) → (m ≡ 8) ⊎ ((m ≡ 10) ⊎ (m ≡ 12)) → bit_and m 16 ≡ 0
 apart_pop m e = ⊎_elim (λ e. ap (λ n. bit_and n 16) e)
     (λ r. ⊎_elim (λ e. ap (λ n. bit_and n 16) e) (λ e. ap (λ n. bit_and n 16) e) r) e
@@ -30,7 +29,7 @@ apart_two : (m : ℕ) → (m ≡ 8) ⊎ ((m ≡ 10) ⊎ (m ≡ 12)) → has_all 
 apart_two m e f = ⊎_elim (λ e. ap (λ n. bit_and n 2) e)
     (λ r. ⊎_elim (λ e. absurd (true≢false (sym (ap (has_all COMMON) e) ∙ f))) (λ e. ap (λ n. bit_and n 2) e) r) e
 
--- whether the commit is common then
+-- whether the commit is common afterwards
 common_after : (g h : GraphData) (id : ObjectId) (flags : Flags) (marks : ℕ) → Claims SEEN g h id flags → has_mark marks h.held id ≡ true
     → (bit_and marks 2 ≡ 0 → SettlesNone g h) → (has_all COMMON marks ≡ false → bit_and marks 2 ≡ 0)
     → has_mark COMMON h.held id ≡ (has_all COMMON flags.0 || has_all COMMON marks)

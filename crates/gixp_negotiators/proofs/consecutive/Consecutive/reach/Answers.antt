@@ -1,4 +1,3 @@
--- A commit becomes common, and is due.
 use Rattle.std.proofs.Common.{◌∷◌, []}
 use Rattle.gixp_negotiators.proofs.FromLemmas.{owes_same, owes_push}
 use Rattle.gixp_negotiators.specs.Spread.{is_there}

@@ -1,4 +1,3 @@
--- Some commits become common.
 use Rattle.gixp_negotiators.proofs.FromLemmas.{within_none, within_step, owes_same, owes_step}
 use Rattle.std.proofs.Common.{◌∙◌, arith, refl}
 use Rattle.std.proofs.lemmas.List.Elements.{All-nil}

@@ -1,4 +1,3 @@
--- What the loop keeps.
 use Rattle.std.proofs.Common.{◌≡◌, ◌+◌, ◌≤◌, length, take, true}
 use Rattle.std.specs.Prelude.{All}
 use Rattle.std.specs.BinaryHeap.{heap_items}

@@ -1,4 +1,3 @@
--- A commit becomes common.
 use Rattle.std.proofs.Common.{refl}
 use Rattle.gixp_negotiators.specs.Marks.{COMMON, Claims}
 use Rattle.gixp_negotiators.proofs.FitLemmas.{timed_grown, timed_fits, settled}

@@ -1,4 +1,3 @@
--- What is common spreads.
 use Rattle.gixp_graph.specs.GraphData.{parents_in}
 use Rattle.gixp_negotiators.proofs.FromLemmas.{within_none, within_after, owes_same}
 use Rattle.std.proofs.Common.{◌≡◌, ◌∙◌, refl, subst, sym, false}

@@ -1,4 +1,3 @@
--- What is common spreads on.
 use Rattle.gixp_negotiators.proofs.FromLemmas.{rises_first, rises_next, due_first, due_next}
 use Rattle.std.proofs.Common.{◌∙◌, ◌≡◌, ◌++◌, ◌∷◌, Some, arith, rules, true, []}
 use Rattle.std.proofs.lemmas.Bool.{or_right}

@@ -1,4 +1,3 @@
--- What the loop keeps.
 use Rattle.std.proofs.Common.{◌≡◌, ◌+◌, ◌≤◌, [], length, true}
 use Rattle.std.specs.Prelude.{All, IsSome, ◌||◌}
 use Rattle.std.specs.BinaryHeap.{heap_len, heap_items}
@@ -28,6 +27,6 @@ invariant-loop-next g l = record {
   unrefused : l.graph.refusals ≡ l.fn.graph.refusals;
 }
 
--- the commits that aren't common, and those that wait for their parents to be so
+-- the number of commits that aren't common, and of due commits
 abbrev pub decreases-loop-next : goal.decreases-loop-next
 decreases-loop-next g l = left COMMON l.graph.graph + length l.due.items

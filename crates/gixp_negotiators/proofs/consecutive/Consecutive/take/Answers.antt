@@ -1,4 +1,3 @@
--- A commit is taken.
 use Rattle.std.proofs.Common.{◌≡◌, ◌∙◌, ◌-◌, ◌||◌, ap, sym, refl, false}
 use Rattle.gixp_negotiators.specs.Marks.{COMMON, COMMON_REF, POPPED, Claims, has_all}
 use Rattle.gixp_negotiators.specs.MarkLaws.{not_true}

@@ -1,4 +1,3 @@
--- A parent is handed a distance.
 use Rattle.std.proofs.Common.{◌∙◌, refl, sym, ap, subst}
 use Rattle.gixp_negotiators.specs.Marks.{POPPED, has_mark}
 use Rattle.gixp_negotiators.specs.Spread.{AllRead, AllHeld}

@@ -1,4 +1,3 @@
--- Parents wait.
 use Rattle.std.proofs.Common.{◌∙◌, arith, refl, sym, true≢false}
 use Rattle.gixp_negotiators.specs.Spread.{AllHeld}
 use Rattle.gixp_negotiators.proofs.UnreadLemmas.{unread_same, unread_on, held_first, held_then}

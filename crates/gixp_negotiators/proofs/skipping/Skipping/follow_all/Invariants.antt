@@ -1,4 +1,3 @@
--- What the loop keeps.
 use Rattle.std.proofs.Common.{◌≡◌, ◌+◌, ◌≤◌, take, true, false}
 use Rattle.std.specs.Prelude.{◌≢◌, All}
 use Rattle.gixp_negotiators.specs.declared.skipping.Legacy.TheVariants.{Common}

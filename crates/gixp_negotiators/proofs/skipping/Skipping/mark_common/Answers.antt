@@ -1,4 +1,3 @@
--- What is common spreads on.
 use Rattle.std.proofs.Common.{◌≡◌, ◌∙◌, ◌++◌, ◌∷◌, [], Some, true, false, true≢false, ap, sym, arith, refl, rules}
 use Rattle.std.specs.BTreeSet.{contains}
 use Rattle.gixp_hash.specs.ObjectId.{id_cmp}

@@ -1,4 +1,3 @@
--- The next is found.
 use Rattle.std.proofs.Common.{◌∙◌, ⊎_elim, ◌+◌, arith, refl, subst, sym, ap}
 use Rattle.gixp_negotiators.specs.Spread.{AllHeld}
 use Rattle.gixp_negotiators.proofs.UnreadLemmas.{unread_same, unread_on, held_first, held_then}

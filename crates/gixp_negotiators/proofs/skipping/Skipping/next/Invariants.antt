@@ -1,4 +1,3 @@
--- What the loop keeps.
 use Rattle.std.proofs.Common.{◌≡◌, ◌+◌, ◌≤◌}
 use Rattle.std.specs.BinaryHeap.{heap_len, heap_items}
 use Rattle.gixp_negotiators.specs.Marks.{SEEN, Grows, ListsNone, left}
@@ -20,6 +19,6 @@ invariant-loop-first g l = record {
   unrefused : l.graph.refusals ≡ l.fn.graph.refusals;
 }
 
--- the objects that weren't seen, and the commits that wait
+-- the number of objects that weren't seen, and of queued commits
 abbrev pub decreases-loop-first : goal.decreases-loop-first
 decreases-loop-first g l = left SEEN l.graph.graph + heap_len l.self.queue.waiting

@@ -1,4 +1,3 @@
--- A commit gets what it is handed.
 use Rattle.gixp_negotiators.proofs.FitLemmas.{counts_all}
 use Rattle.gixp_negotiators.proofs.skipping.Skipping.pass.Goals as goal
 

@@ -1,4 +1,3 @@
--- A commit waits.
 use Rattle.std.proofs.Common.{◌≡◌, Some, ◌∙◌, ◌||◌, ◌⊎◌, ⊎_elim, ℕ, ap, arith, refl, sym, true≢false}
 use Rattle.std.specs.BTreeSet.{contains}
 use Rattle.std.specs.BTreeMap.{is_at}
@@ -21,7 +20,7 @@ use Rattle.gixp_negotiators.proofs.FitLemmas.{seen_grown, fits_admitted, queues_
 use Rattle.gixp_negotiators.proofs.StepLemmas.{unseen_marked}
 use Rattle.gixp_negotiators.proofs.skipping.Skipping.push.Goals as goal
 
--- none of these marks is that of a commit that was taken, or of a common one
+-- none of these sets has the mark of a commit that was taken
 apart_pop : (m : ℕ) → (m ≡ 8) ⊎ (m ≡ 12) → bit_and m 16 ≡ 0
 apart_pop m e = ⊎_elim (λ e. ap (λ n. bit_and n 16) e) (λ e. ap (λ n. bit_and n 16) e) e
 

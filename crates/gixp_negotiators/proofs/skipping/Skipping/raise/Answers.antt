@@ -1,4 +1,3 @@
--- A distance is handed on.
 use Rattle.std.proofs.Common.{◌≡◌, subst, true, false}
 use Rattle.std.specs.Prelude.{nat_lt}
 use Rattle.std.proofs.lemmas.Bool.{le-ltb, lt-ltb}

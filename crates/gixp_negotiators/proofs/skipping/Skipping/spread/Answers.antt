@@ -1,4 +1,3 @@
--- What is common spreads.
 use Rattle.std.proofs.Common.{◌∙◌, subst}
 use Rattle.gixp_negotiators.specs.Spread.{was_seen, SettlesAmong}
 use Rattle.gixp_negotiators.proofs.GrowLemmas.{grows_none}

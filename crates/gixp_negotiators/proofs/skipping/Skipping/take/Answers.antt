@@ -1,4 +1,3 @@
--- A commit is taken.
 use Rattle.gixp_negotiators.proofs.PassingLemmas.{takes_none, takes_some, legacy_apart}
 use Rattle.gixp_negotiators.specs.Passing.{Skipped, Hands}
 use Rattle.std.proofs.Common.{ap, subst}

@@ -1,4 +1,4 @@
--- What was passed over has another name.
+-- The symrefs before the rest have another name.
 use Rattle.std.proofs.Common.{◌≡◌, map, length}
 use Rattle.std.specs.Prelude.{All}
 use Rattle.gixp_refs.specs.RefAdvertisement.{symref_named}

@@ -1,4 +1,3 @@
--- The symrefs so far stand in front of those to come.
 use Rattle.std.proofs.Common.{◌≡◌, map}
 use Rattle.std.specs.Prelude.{All, IfSome}
 use Rattle.std.specs.Option.{option_map}

@@ -1,4 +1,3 @@
--- One line more.
 use Rattle.std.proofs.Common.{[], ◌∷◌, ◌++◌, ◌∙◌, ap}
 use Rattle.bstr.specs.Owned.{bstring_bytes}
 use Rattle.gixp_refspec.specs.Texts.{texts}

@@ -1,4 +1,3 @@
--- Each item of the clone is the item that it was made of.
 use Rattle.gixp_refspec.specs.RefSpec.{owned_value_of}
 use Rattle.gixp_refmap.proofs.CloneLemmas.{same_values}
 use Rattle.gixp_refmap.proofs.refmap.init.copied_specs.Goals as goal

@@ -1,4 +1,4 @@
--- What the places to come need, all need.
+-- Once the remaining places are valid, all are.
 use Rattle.std.proofs.Common.{◌≤◌, length, take, map, reverse}
 use Rattle.gixp_refmap.specs.Made.{Falls}
 use Rattle.gixp_refmap.proofs.refmap.made.are_in_order.Given as goal

@@ -1,4 +1,3 @@
--- One mapping more.
 use Rattle.std.proofs.Common.{map}
 use Rattle.gixp_refs.specs.Ref.{ref_value}
 use Rattle.gixp_matching.specs.MatchGroup.{group_specs}

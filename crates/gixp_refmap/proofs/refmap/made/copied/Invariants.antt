@@ -1,4 +1,3 @@
--- The mappings of the places so far.
 use Rattle.std.proofs.Common.{take, map}
 use Rattle.std.specs.List.{AllZip}
 use Rattle.gixp_refs.specs.Ref.{ref_value}

@@ -1,4 +1,4 @@
--- The mappings of the places that were taken, of which the last stands first, and what is left.
+-- The mappings of the places that were taken, the last one first, and the places and refs that are left.
 use Rattle.std.proofs.Common.{◌≡◌, ◌++◌, List, length, map, reverse}
 use Rattle.std.specs.List.{AllByRecursion, AllZip}
 use Rattle.gixp_refs.specs.declared.handshake.Ref.{Ref}

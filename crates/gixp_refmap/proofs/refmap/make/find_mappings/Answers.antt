@@ -1,4 +1,3 @@
--- The mappings, and what holds of all refs.
 use Rattle.std.proofs.Common.{◌∙◌, length, map, ap, subst, List}
 use Rattle.std.specs.List.{AllZip}
 use Rattle.gixp_refs.specs.Ref.{ref_value}

@@ -1,4 +1,4 @@
--- From what was made to what a ref map holds.
+-- From the mappings that were made to the mappings of a ref map.
 use Rattle.std.proofs.Common.{Result, Vec, List, [], map, refl, subst, arith}
 use Rattle.std.specs.declared.alloc.Global.{Global}
 use Rattle.std.proofs.lemmas.List.{length-map}
@@ -17,7 +17,7 @@ use Rattle.gixp_refmap.proofs.refmap.make.finished.Goals as goal
 abbrev Validated : Type 0
 Validated = Result (Vec Mapping Global × Vec Fix Global) ValidationError
 
--- the first ones of what was made
+-- the first of equal mappings
 abbrev first_ones : List Mapping → List Mapping
 first_ones made = flagged made (first_flags [] (map matched made))
 

@@ -1,4 +1,3 @@
--- One ref more.
 use Rattle.std.proofs.Common.{[], ◌∷◌, ◌++◌, ◌∙◌, ap}
 use Rattle.std.proofs.lemmas.List.{map-append}
 use Rattle.gixp_refs.specs.Ref.{ref_value}

@@ -1,4 +1,4 @@
--- What is made of all places is all mappings.
+-- The mappings from all places are all mappings.
 use Rattle.std.proofs.Common.{◌≡◌, ◌∙◌, ℕ, List, Vec, map, ap, subst}
 use Rattle.std.specs.List.{AllByRecursion, AllZip}
 use Rattle.std.specs.declared.alloc.Global.{Global}

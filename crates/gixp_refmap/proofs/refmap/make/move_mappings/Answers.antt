@@ -1,4 +1,3 @@
--- The mappings, and what holds of all refs.
 use Rattle.std.proofs.Common.{◌∙◌, length, map, ap}
 use Rattle.gixp_refs.specs.Ref.{ref_value}
 use Rattle.gixp_matching.specs.MatchGroup.{group_specs, values}

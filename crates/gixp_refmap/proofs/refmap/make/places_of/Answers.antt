@@ -1,4 +1,3 @@
--- The places are those of refs and ids that are there.
 use Rattle.std.proofs.Common.{◌≡◌, ◌∙◌, ℕ, List, map, ap, subst}
 use Rattle.std.specs.List.{AllByRecursion}
 use Rattle.gixp_refs.specs.Ref.{ref_value}

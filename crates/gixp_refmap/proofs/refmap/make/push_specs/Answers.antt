@@ -1,4 +1,3 @@
--- One refspec more.
 use Rattle.std.proofs.Common.{[], ◌∷◌, ◌++◌, ◌∙◌, ap, map}
 use Rattle.std.proofs.lemmas.List.{map-append}
 use Rattle.gixp_refspec.specs.RefSpec.{value_of, owned_value_of}

@@ -1,4 +1,3 @@
--- One more.
 use Rattle.std.proofs.Common.{◌<◌, ◌∙◌, get_or, length, set, ap, subst, List}
 use Rattle.gixp_refmap.specs.declared.refmap.mapping.Mapping.{Mapping}
 use Rattle.gixp_refmap.specs.declared.refmap.mapping.SpecIndex.{SpecIndex}

@@ -1,4 +1,3 @@
--- Those so far have the place in their own list.
 use Rattle.std.proofs.Common.{◌≡◌, ◌++◌, take, drop, map}
 use Rattle.gixp_refmap.specs.Made.{in_its_list}
 use Rattle.gixp_refmap.proofs.refmap.make.put_in_lists.Given as goal

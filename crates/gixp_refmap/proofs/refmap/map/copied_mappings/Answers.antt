@@ -1,4 +1,3 @@
--- Each item of the clone is the item that it was made of.
 use Rattle.gixp_refmap.specs.Values.{mapping_value}
 use Rattle.gixp_refmap.proofs.CloneLemmas.{same_values}
 use Rattle.gixp_refmap.proofs.refmap.map.copied_mappings.Goals as goal

@@ -1,4 +1,3 @@
--- The copies so far are of the refs so far.
 use Rattle.std.proofs.Common.{◌≡◌, take, map}
 use Rattle.gixp_refs.specs.Ref.{ref_value}
 use Rattle.gixp_refmap.proofs.refmap.map.copied_refs.Given as goal

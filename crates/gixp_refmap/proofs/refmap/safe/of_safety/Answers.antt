@@ -1,4 +1,3 @@
--- Those among the mappings so far.
 use Rattle.gixp_refmap.specs.SafeNames.{is_of_safety, pointed_to}
 use Rattle.gixp_refmap.proofs.SafeLemmas.{chosen_more}
 use Rattle.gixp_refmap.proofs.refmap.safe.of_safety.Goals as goal

@@ -1,4 +1,3 @@
--- Those among the mappings so far.
 use Rattle.std.proofs.Common.{◌≡◌, take}
 use Rattle.std.specs.Prelude.{filter}
 use Rattle.gixp_refmap.specs.SafeNames.{is_of_safety, pointed_to}

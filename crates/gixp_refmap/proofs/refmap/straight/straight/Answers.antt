@@ -1,4 +1,3 @@
--- One ref more.
 use Rattle.std.proofs.Common.{◌≡◌, ◌∷◌, ◌++◌, ◌∙◌, [], ap, map, sym}
 use Rattle.gixp_refs.specs.Ref.{ref_value}
 use Rattle.gixp_matching.specs.Single.{single_pair}

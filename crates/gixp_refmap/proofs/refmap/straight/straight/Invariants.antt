@@ -1,4 +1,4 @@
--- The mappings of the refs that were taken, of which the last stands first, and the refs that are left.
+-- The mappings of the refs that were taken, the last one first, and the refs that are left.
 use Rattle.std.proofs.Common.{◌≡◌, ◌++◌, List, length, map, reverse}
 use Rattle.std.specs.List.{AllZip, flat_map, enumerate_from}
 use Rattle.gixp_refs.specs.declared.handshake.Ref.{Ref}

@@ -1,4 +1,3 @@
--- The entries so far.
 use Rattle.std.proofs.Common.{[]}
 use Rattle.gixp_requests.specs.Feature.{feature_values}
 use Rattle.gixp_requests.specs.Command.{entry_of}

@@ -1,4 +1,3 @@
--- The words so far.
 use Rattle.std.proofs.Common.{ℕ, List, Bor}
 use Rattle.gixp_requests.specs.Feature.{feature_values}
 use Rattle.gixp_requests.specs.Offers.{supports, plain_feature}

@@ -1,4 +1,4 @@
--- The words so far.
+-- The words so far were appended.
 use Rattle.std.proofs.Common.{◌≡◌, take, map}
 use Rattle.std.specs.Prelude.{filter}
 use Rattle.gixp_requests.specs.Feature.{feature_values}

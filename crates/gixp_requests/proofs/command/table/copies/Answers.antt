@@ -1,4 +1,3 @@
--- The words so far.
 use Rattle.std.proofs.Common.{ℕ, List, [], Bor}
 use Rattle.gixp_requests.specs.Command.{texts}
 use Rattle.gixp_packetline.proofs.ListLemmas.{appended_more}

@@ -1,4 +1,4 @@
--- The words so far.
+-- The words so far were appended.
 use Rattle.std.proofs.Common.{◌≡◌, take}
 use Rattle.gixp_requests.specs.Command.{texts, words_of}
 use Rattle.gixp_requests.proofs.command.table.copies.Given as goal

@@ -1,4 +1,3 @@
--- The test of what the features mean.
 use Rattle.std.proofs.Common.{sym, ◌∙◌}
 use Rattle.std.specs.Str.{bytes_eq}
 use Rattle.gixp_requests.specs.Feature.{FeatureValue, feature_value}

@@ -1,4 +1,3 @@
--- The entries so far.
 use Rattle.gixp_requests.specs.Feature.{feature_values}
 use Rattle.gixp_requests.specs.Command.{WordEntry, entry_of, goes_with, texts}
 use Rattle.gixp_requests.proofs.AppendLemmas.{filtered_more}

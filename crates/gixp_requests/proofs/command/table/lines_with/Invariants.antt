@@ -1,4 +1,4 @@
--- The entries so far.
+-- The entries so far were appended.
 use Rattle.std.proofs.Common.{◌≡◌, take}
 use Rattle.gixp_requests.specs.Feature.{feature_values}
 use Rattle.gixp_requests.specs.Command.{texts, entries_of, lines_with}

@@ -1,4 +1,3 @@
--- The test of the words.
 use Rattle.std.proofs.Common.{ℕ, List, Bor, nat_eq, sym, ◌∙◌}
 use Rattle.std.specs.List.{starts_with}
 use Rattle.gixp_packetline.proofs.ListLemmas.{any_of_map}

@@ -1,4 +1,3 @@
--- The test of what the features mean.
 use Rattle.std.proofs.Common.{sym, ap, ◌∙◌}
 use Rattle.std.specs.Option.{option_map}
 use Rattle.gixp_requests.specs.Feature.{feature_value}

@@ -1,4 +1,4 @@
--- One complete commit more, and the end.
+-- One more complete commit, and the end.
 use Rattle.std.proofs.Common.{◌∙◌, sym, subst, map, arith}
 use Rattle.std.specs.Prelude.{Contains}
 use Rattle.std.proofs.lemmas.List.Elements.{All-contains}

@@ -1,4 +1,3 @@
--- A commit that is found and isn't known.
 use Rattle.std.proofs.Common.{◌∙◌, sym}
 use Rattle.gixp_test_lower.proofs.ListedLemmas.{some_listed}
 use Rattle.gixp_test_lower.proofs.SlowLemmas.{on_not, on_false}

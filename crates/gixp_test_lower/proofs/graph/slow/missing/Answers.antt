@@ -1,4 +1,3 @@
--- A tip or a parent that is missing.
 use Rattle.std.proofs.Common.{◌∙◌, sym, subst, Option, Some, rules}
 use Rattle.std.proofs.lemmas.Int.{to_z-of_z}
 use mir.Val.{SFits}

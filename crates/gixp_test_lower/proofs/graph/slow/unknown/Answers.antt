@@ -1,4 +1,3 @@
--- One id more.
 use Rattle.std.proofs.Common.{subst, []}
 use Rattle.std.proofs.lemmas.List.{take_all}
 use Rattle.std.proofs.lemmas.List.Elements.{All-more}

@@ -1,4 +1,3 @@
--- One known commit more.
 use Rattle.std.proofs.Common.{subst, [], Some}
 use Rattle.std.specs.Prelude.{All, ℤ}
 use Rattle.std.proofs.lemmas.Int.{to_z-of_z}

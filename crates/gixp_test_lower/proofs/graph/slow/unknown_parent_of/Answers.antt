@@ -1,4 +1,3 @@
--- The parents of a commit from the cutoff on.
 use Rattle.std.proofs.Common.{◌∙◌, sym, ap, subst, rules, arith}
 use Rattle.std.specs.Prelude.{◌≤ℤ◌, option_map, Contains}
 use lib.Signed.{◌<ℤ◌}

@@ -1,4 +1,3 @@
--- A search for one commit among the ancestors of another.
 use Rattle.std.proofs.Common.{◌≡◌, ◌≢◌, ◌∙◌, ap, sym, subst, refl, true, false, true≢false, Some, arith, rules}
 use Rattle.std.specs.Prelude.{IsSome}
 use Rattle.std.specs.BTreeSet as tree

@@ -1,4 +1,3 @@
--- What the loop keeps, and what is left of it.
 use Rattle.std.proofs.Common.{◌≡◌, ℕ, ◌+◌, ◌≤◌, true, Some}
 use Rattle.gixp_graph.specs.Object.{commit_at}
 use Rattle.gixp_updates.specs.Limits.{LooksWithin}
@@ -17,6 +16,6 @@ invariant-loop-newest g l = record {
   failures : l.fn.graph.failures ≤ l.graph.failures;
 }
 
--- the commits that weren't looked for, and those that wait
+-- the number of objects that weren't looked up, and of queued commits
 abbrev pub decreases-loop-newest : goal.decreases-loop-newest
 decreases-loop-newest g l = unseen l.fn.graph.graph.objects (search_of l.walk) + waiting_len l.walk.heap

@@ -1,4 +1,3 @@
--- One look at the ancestors of a commit.
 use Rattle.std.proofs.Common.{◌≡◌, refl}
 use Rattle.gixp_graph.specs.Object.{commit_at}
 use Rattle.gixp_updates.specs.declared.refs.update.Mode.TheVariants.{FastForward, Forced, RejectedNonFastForward}

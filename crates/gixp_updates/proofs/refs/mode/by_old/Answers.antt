@@ -1,4 +1,3 @@
--- A ref by what it holds.
 use Rattle.std.proofs.Common.{◌≡◌}
 use Rattle.gixp_graph.specs.Object.{commit_at}
 use Rattle.gixp_updates.specs.declared.refs.update.Mode.TheVariants.{NoChangeNeeded}

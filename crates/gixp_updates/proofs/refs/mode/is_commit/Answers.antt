@@ -1,4 +1,3 @@
--- A look-up.
 use Rattle.gixp_updates.proofs.LookLemmas.{looks_up}
 use Rattle.gixp_updates.proofs.refs.mode.is_commit.Goals as goal
 

@@ -1,4 +1,3 @@
--- A ref that is made.
 use Rattle.gixp_updates.proofs.ModeLemmas.{consults_as, consults_err}
 use Rattle.gixp_updates.proofs.refs.mode.made.Goals as goal
 

@@ -1,4 +1,3 @@
--- A ref that moves.
 use Rattle.std.proofs.Common.{◌≡◌, ◌∙◌, true, false, not, ◌&&◌, cond, Option, None, sym, ap, subst, arith}
 use Rattle.std.specs.Prelude.{Ok, Err}
 use Rattle.gixp_hash.specs.declared.object_id.ObjectId.{ObjectId}

@@ -1,4 +1,3 @@
--- The set with a name more.
 use Rattle.gixp_updates.proofs.NamedLemmas.{name_added}
 use Rattle.gixp_updates.proofs.refs.named.add_name.Goals as goal
 

@@ -1,4 +1,3 @@
--- What the rules to come make decides.
 use Rattle.std.proofs.Common.{◌≡◌, drop}
 use Rattle.std.specs.List.{list_any}
 use Rattle.gixp_refspec.specs.Matching.{joined, rule_of}

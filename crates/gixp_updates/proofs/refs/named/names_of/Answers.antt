@@ -1,4 +1,3 @@
--- One name more.
 use Rattle.gixp_updates.proofs.NamedLemmas.{no_names, names_more}
 use Rattle.gixp_updates.proofs.refs.named.names_of.Goals as goal
 

@@ -1,4 +1,3 @@
--- The names of the refs so far.
 use Rattle.std.proofs.Common.{◌≡◌, ℕ, List, take}
 use Rattle.std.specs.List.{list_any}
 use Rattle.gixp_updates.specs.RefNames.{has_text, is_named}

@@ -1,4 +1,3 @@
--- By the kind of the source.
 use Rattle.std.proofs.Common.{Bool, ◌≡◌, ◌∙◌, sym, ap}
 use Rattle.std.specs.List.{list_any}
 use Rattle.std.proofs.lemmas.Result.{IfOk-weaker}

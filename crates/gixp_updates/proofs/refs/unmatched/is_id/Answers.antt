@@ -1,4 +1,3 @@
--- Whether a source is an object id.
 use Rattle.std.proofs.Common.{◌∙◌}
 use Rattle.gixp_updates.proofs.NoteLemmas.{is_id_by}
 use Rattle.gixp_updates.proofs.refs.unmatched.is_id.Goals as goal

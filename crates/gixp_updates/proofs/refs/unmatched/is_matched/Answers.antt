@@ -1,4 +1,3 @@
--- Whether a source matches one of the refs.
 use Rattle.std.proofs.Common.{Bool, ◌≡◌, ◌∙◌, sym, subst}
 use Rattle.std.specs.List.{list_any}
 use Rattle.std.proofs.lemmas.Result.{IfOk-weaker}

@@ -1,4 +1,3 @@
--- What was noted, and what is to come.
 use Rattle.std.proofs.Common.{◌≡◌, ◌++◌, drop}
 use Rattle.std.specs.List.{flat_map, enumerate_from}
 use Rattle.gixp_updates.specs.Unmatched.{note_on, unmatched_of}

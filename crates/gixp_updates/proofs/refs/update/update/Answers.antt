@@ -1,4 +1,3 @@
--- The updates of some mappings.
 use Rattle.std.proofs.Common.{◌≡◌, ◌+◌, ◌∙◌, [], ◌∷◌, ◌++◌, ◌<◌, ◌≤◌, length, get_or, take, sym, ap, subst, Some, Ok, arith}
 use Rattle.std.specs.List.{AllZip}
 use Rattle.std.specs.Option.{option_map}

@@ -1,4 +1,3 @@
--- What the loop keeps.
 use Rattle.std.proofs.Common.{take, Ok}
 use Rattle.gixp_graph.specs.Object.{commit_at}
 use Rattle.gixp_updates.specs.Limits.{IsOfMapping, AsksFewEach}

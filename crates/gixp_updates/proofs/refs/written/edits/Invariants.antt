@@ -1,4 +1,3 @@
--- What is known, and what is to come.
 use Rattle.std.proofs.Common.{◌≡◌, ◌++◌, length}
 use Rattle.gixp_updates.specs.NamedEdits.{edit_values, edits_named}
 use Rattle.gixp_updates.proofs.refs.written.edits.Given as goal

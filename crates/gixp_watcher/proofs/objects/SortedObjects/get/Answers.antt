@@ -1,4 +1,3 @@
--- What the search found.
 use Rattle.std.proofs.Common.{◌≡◌, ◌<◌, length, get_or, Some, Err, sym, ap, subst, rules, ◌∙◌, List}
 use Rattle.std.specs.declared.cmp.Ordering.TheVariants.{Equal}
 use Rattle.std.specs.List.Sorted.{IsBinarySearchResult}

@@ -1,4 +1,3 @@
--- The rows with one more, whose key is above the last.
 use Rattle.std.proofs.Common.{sym, subst}
 use Rattle.gix_protocol.specs.IdLaws.{ids_total}
 use Rattle.gix_protocol.specs.ObjectId.{id_cmp}

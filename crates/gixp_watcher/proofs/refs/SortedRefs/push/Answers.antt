@@ -1,4 +1,3 @@
--- The rows with one more, whose key is above the last.
 use Rattle.std.proofs.Common.{sym, subst}
 use Rattle.std.specs.Cmp.Lexicographic.{nat_list_cmp_total}
 use Rattle.std.specs.Ordering.{nat_cmp}

@@ -1,4 +1,3 @@
--- The refs so far, and those to come.
 use Rattle.std.proofs.Common.{◌≡◌, ◌++◌, map, length}
 use Rattle.gix_protocol.specs.Changes.{listed_value}
 use Rattle.gixp_watcher.specs.Sorted.{name_and_id}

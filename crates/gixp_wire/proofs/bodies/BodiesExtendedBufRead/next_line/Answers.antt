@@ -5,7 +5,7 @@ use Rattle.gixp_wire.specs.Bodies.{bodies_held}
 use Rattle.gixp_wire.proofs.HeldLemmas.{reads}
 use Rattle.gixp_wire.proofs.bodies.BodiesExtendedBufRead.next_line.Goals as goal
 
--- freed bytes leave what is read
+-- freeing bytes that were read doesn't change the packet lines to come
 pub returns-in-Ok-false-clause-reads : goal.returns-in-Ok-false-clause-reads
 returns-in-Ok-false-clause-reads c =
     let b = c.args.self.now in

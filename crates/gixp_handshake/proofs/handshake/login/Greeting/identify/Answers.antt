@@ -1,4 +1,3 @@
--- The transport takes no account; else both calls were made.
 use Rattle.std.proofs.Common.{ℕ, List, [], refl, subst}
 use Rattle.bstr.specs.Owned.{bstring_bytes}
 use Rattle.gixp_wire.specs.Greeting.{parameters_of}

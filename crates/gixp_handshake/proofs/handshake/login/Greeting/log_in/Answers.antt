@@ -1,4 +1,3 @@
--- An account was asked for, and the rest goes by it.
 use Rattle.std.proofs.Common.{◌≡◌, ℕ, List, [], ◌∷◌, ◌∙◌, sym, ap, refl, subst}
 use Rattle.std.specs.Prelude.{codes}
 use Rattle.bstr.specs.Owned.{bstring_bytes}

@@ -1,4 +1,3 @@
--- A place where the needle matches, and none elsewhere.
 use Rattle.std.proofs.Common.{sym}
 use Rattle.gixp_matching.specs.Rows.{numbered_value, shown}
 use Rattle.gixp_matching.specs.MatchGroup.{values}

@@ -1,4 +1,3 @@
--- The ref at the place, where there is one.
 use Rattle.std.proofs.Common.{◌∙◌, ◌++◌, ap, sym, append-nil}
 use Rattle.std.specs.List.{flat_map}
 use Rattle.gixp_matching.specs.Places.{places_in, pair_places}

@@ -1,4 +1,3 @@
--- The refs so far, and those to come.
 use Rattle.std.proofs.Common.{◌∙◌, ◌++◌, ap, sym}
 use Rattle.gixp_matching.specs.Places.{places_in, pair_places}
 use Rattle.gixp_matching.specs.Rows.{numbered_value}
@@ -14,7 +13,7 @@ items-preserved c =
     c.args.self.now.items.now c.items.place _ c.items-test.true c.items.invariant
     (c.in_ok-push_pair.ensures ∙ ap (λ n. places_in c.items.out ++ f (c.items.place, n)) c.as_bytes-name.ensures)
 
--- Refs of a negative refspec are not mapped.
+-- A negative refspec maps no refs.
 pub returns-then-is_negative : goal.returns-then-is_negative
 returns-then-is_negative c = negative_placed (values c.args.self.now.prepared.now.specs.now) (names c.args.self.now.items.now)
     (numbered_value c.args.numbered.now) (places_in c.args.out.now) (sym c.if-is_negative.ensures)

@@ -1,4 +1,3 @@
--- The refs so far, and those to come.
 use Rattle.std.proofs.Common.{◌≡◌, ◌++◌, drop}
 use Rattle.std.specs.List.{flat_map, enumerate_from}
 use Rattle.gixp_matching.specs.Places.{places_in, pair_places, places_with}

@@ -1,4 +1,3 @@
--- Refs that are not looked up are not mapped.
 use Rattle.std.proofs.Common.{◌∙◌, ◌++◌, ap, sym, subst}
 use Rattle.std.specs.List.{flat_map}
 use Rattle.gixp_refspec.specs.Needle.{IsNeedle}

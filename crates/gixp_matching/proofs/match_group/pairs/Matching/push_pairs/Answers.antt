@@ -1,4 +1,3 @@
--- The refspecs so far, and those to come.
 use Rattle.std.proofs.Common.{◌++◌, ◌∙◌, ap, sym, subst}
 use Rattle.gixp_matching.specs.Places.{places_in, places_with}
 use Rattle.gixp_refspec.specs.RefSpec.{value_of}
@@ -23,7 +22,7 @@ specs-preserved c =
     (c.in_ok-push_looked_up.ensures ∙ ap (λ s. places_in c.specs.out
     ++ places_with (values c.args.self.now.prepared.now.specs.now) (names c.args.self.now.items.now) s) c.new.ensures.value)
 
--- What the refspec stands for is sought.
+-- The full names that the refspec may mean are looked up.
 pub push_looked_up-requires-clause-sought : goal.push_looked_up-requires-clause-sought
 push_looked_up-requires-clause-sought c =
     subst (AreSought (sought (values c.args.self.now.prepared.now.specs.now))) (ap sought_by (sym (ap (λ p. p.1) c.new.ensures.value)))

@@ -1,4 +1,3 @@
--- One ref more.
 use Rattle.std.specs.List.{flat_map}
 use Rattle.gixp_matching.specs.Places.{places_in, pair_places}
 use Rattle.gixp_matching.specs.MatchGroup.{values, names}

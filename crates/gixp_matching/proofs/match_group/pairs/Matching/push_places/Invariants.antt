@@ -1,4 +1,3 @@
--- The refs so far.
 use Rattle.std.proofs.Common.{◌≡◌, ◌++◌, take}
 use Rattle.std.specs.List.{flat_map}
 use Rattle.gixp_matching.specs.Places.{places_in, pair_places}

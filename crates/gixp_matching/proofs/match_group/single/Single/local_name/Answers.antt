@@ -1,4 +1,3 @@
--- A local name where the one refspec maps the ref, and none elsewhere.
 use Rattle.std.proofs.Common.{[], ◌∷◌, Some, None, ap, sym, ◌∙◌}
 use Rattle.std.specs.Option.{option_copied}
 use Rattle.gixp_refspec.specs.RefSpec.{value_of}

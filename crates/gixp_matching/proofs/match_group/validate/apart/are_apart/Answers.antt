@@ -1,4 +1,4 @@
--- Local names whose numbers are all different are so themselves.
+-- Local names with different hashes are different.
 use Rattle.std.proofs.Common.{map, subst}
 use Rattle.std.specs.List.{IsDistinct}
 use Rattle.gixp_matching.specs.Apart.{locals}

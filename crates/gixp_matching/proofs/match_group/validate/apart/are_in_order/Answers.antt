@@ -1,4 +1,3 @@
--- Local names that rise are all different.
 use Rattle.std.proofs.Common.{[], ◌++◌, ◌∙◌, ◌≤◌, ap, map, length, refl, arith}
 use Rattle.std.specs.Prelude.{option_to_list}
 use Rattle.std.proofs.lemmas.List.{map-append, take_all, length-map}

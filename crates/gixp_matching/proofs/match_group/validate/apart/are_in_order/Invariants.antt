@@ -1,4 +1,3 @@
--- Keys of the local names so far, each above the one before.
 use Rattle.std.proofs.Common.{◌≡◌, List, take, map}
 use Rattle.gixp_matching.specs.declared.match_group.key.KeyBytes.{KeyBytes}
 use Rattle.gixp_matching.specs.Apart.{by_bytes, locals}

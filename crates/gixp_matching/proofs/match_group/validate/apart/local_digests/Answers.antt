@@ -1,4 +1,3 @@
--- The number of one local name more, where the mapping has one.
 use Rattle.std.proofs.Common.{◌∙◌, ◌≤◌, ap, map, length, arith}
 use Rattle.std.specs.Prelude.{option_to_list}
 use Rattle.std.specs.List.{flat_map}

@@ -1,4 +1,3 @@
--- The conflicts over groups, sorted.
 use Rattle.std.proofs.Common.{[], ◌∙◌, ap, sym, subst, map}
 use Rattle.bstr.specs.Owned.{bstring_bytes}
 use Rattle.gixp_matching.specs.Groups.{AreGroups, grouped}

@@ -1,4 +1,4 @@
--- Where the mappings are apart, there is no conflict.
+-- Where all local names differ, there is no conflict.
 use Rattle.std.proofs.Common.{◌∙◌, ap, map}
 use Rattle.gixp_matching.specs.MatchGroup.{values}
 use Rattle.gixp_matching.specs.Validate.{conflict_of}

@@ -1,4 +1,3 @@
--- One group more.
 use Rattle.std.proofs.Common.{◌++◌, ◌∙◌, [], ap, map, arith, rules}
 use Rattle.std.specs.Prelude.{filter}
 use Rattle.bstr.specs.Owned.{bstring_bytes}

@@ -1,4 +1,4 @@
--- For each name the conflicts over it among the groups so far, and the place behind their mappings.
+-- The conflicts of the groups so far, for each name, and the index after their mappings.
 use Rattle.std.proofs.Common.{[], ◌≡◌, take, length, map}
 use Rattle.bstr.specs.Owned.{bstring_bytes}
 use Rattle.gixp_matching.specs.Found.{AddsConflicts, found_in_groups}

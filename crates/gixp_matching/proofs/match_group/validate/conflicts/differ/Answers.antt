@@ -1,4 +1,4 @@
--- To compare with the first is enough.
+-- Comparing with the first is enough.
 use Rattle.std.proofs.Common.{◌∙◌, ap, sym}
 use Rattle.gixp_matching.specs.Groups.{lent}
 use Rattle.gixp_matching.specs.Validation.{differ}

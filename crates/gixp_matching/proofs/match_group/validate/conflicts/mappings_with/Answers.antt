@@ -1,4 +1,3 @@
--- One mapping more, where it has the name.
 use Rattle.gixp_matching.specs.Groups.{lent}
 use Rattle.gixp_matching.specs.Validation.{has_local}
 use Rattle.gixp_matching.proofs.FoundLemmas.{kept_more}

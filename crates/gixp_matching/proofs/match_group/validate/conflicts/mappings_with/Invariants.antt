@@ -1,4 +1,3 @@
--- The mappings so far that have the name.
 use Rattle.std.proofs.Common.{◌≡◌, take}
 use Rattle.std.specs.Prelude.{filter}
 use Rattle.gixp_matching.specs.Groups.{lent}

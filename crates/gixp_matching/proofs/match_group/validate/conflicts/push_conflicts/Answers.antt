@@ -1,4 +1,3 @@
--- The names of the mappings, one after the other.
 use Rattle.std.proofs.Common.{◌≤◌, length, map, subst, arith}
 use Rattle.std.proofs.lemmas.List.{take_all, length-map}
 use Rattle.bstr.specs.Owned.{bstring_bytes}

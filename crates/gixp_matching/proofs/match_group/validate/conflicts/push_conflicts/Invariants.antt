@@ -1,4 +1,3 @@
--- For each name that a mapping so far has, the conflict over it.
 use Rattle.std.proofs.Common.{take, map}
 use Rattle.bstr.specs.Owned.{bstring_bytes}
 use Rattle.gixp_matching.specs.Found.{AddsConflicts}

@@ -1,4 +1,3 @@
--- The name of one mapping more.
 use Rattle.std.proofs.Common.{◌≡◌, Some, None, ◌∙◌, ◌++◌, ap, sym, map, take, false, true}
 use Rattle.std.specs.List.{list_any}
 use Rattle.std.specs.Option.{option_map}

@@ -1,4 +1,3 @@
--- One source more.
 use Rattle.gixp_matching.specs.Validate.{sources_in}
 use Rattle.gixp_matching.proofs.ListLemmas.{mapped_more}
 use Rattle.gixp_matching.proofs.match_group.validate.conflicts.sources.Goals as goal

@@ -1,4 +1,3 @@
--- What was made of the mappings so far.
 use Rattle.std.proofs.Common.{◌≡◌, take, map}
 use Rattle.gixp_matching.specs.Groups.{lent}
 use Rattle.gixp_matching.specs.Validate.{sources_in}

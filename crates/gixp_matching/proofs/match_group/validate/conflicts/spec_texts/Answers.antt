@@ -1,4 +1,3 @@
--- One text more.
 use Rattle.std.proofs.Common.{map}
 use Rattle.bstr.specs.Owned.{bstring_bytes}
 use Rattle.gixp_matching.specs.Found.{text_in}

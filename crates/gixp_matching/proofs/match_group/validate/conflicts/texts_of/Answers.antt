@@ -1,4 +1,3 @@
--- One text more.
 use Rattle.std.proofs.Common.{◌∷◌, [], ◌++◌, ◌∙◌, ap, map}
 use Rattle.std.proofs.lemmas.List.{map-append}
 use Rattle.bstr.specs.Owned.{bstring_bytes}

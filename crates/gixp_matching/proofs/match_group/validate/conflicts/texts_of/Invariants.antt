@@ -1,4 +1,3 @@
--- The texts of the refspecs so far.
 use Rattle.std.proofs.Common.{◌≡◌, take, map}
 use Rattle.bstr.specs.Owned.{bstring_bytes}
 use Rattle.gixp_matching.specs.MatchGroup.{values}

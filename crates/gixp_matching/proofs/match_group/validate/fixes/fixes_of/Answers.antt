@@ -1,4 +1,3 @@
--- The notes so far.
 use Rattle.gixp_matching.specs.Validation.{removed_at, is_partial}
 use Rattle.gixp_matching.specs.MatchGroup.{values}
 use Rattle.gixp_matching.specs.Validate.{fixes_in}

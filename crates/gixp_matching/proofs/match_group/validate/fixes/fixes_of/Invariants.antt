@@ -1,4 +1,3 @@
--- The notes so far.
 use Rattle.std.proofs.Common.{◌≡◌, take, map}
 use Rattle.std.specs.Prelude.{filter}
 use Rattle.gixp_matching.specs.Validation.{removed_at, is_partial}

@@ -1,4 +1,3 @@
--- What is kept passes the test.
 use Rattle.std.proofs.Common.{rules}
 use Rattle.std.specs.Prelude.{not}
 use Rattle.std.proofs.lemmas.List.Elements.{filter_from_retain}

@@ -1,4 +1,4 @@
--- Where no local name is partial, nothing is taken out.
+-- Where no local name is partial, no mapping is removed.
 use Rattle.std.proofs.Common.{◌∙◌, ap, sym, map}
 use Rattle.std.specs.List.{list_any}
 use Rattle.gixp_matching.specs.MatchGroup.{values}

@@ -1,4 +1,4 @@
--- The groups, in another order.
+-- The order of the groups doesn't matter.
 use Rattle.gixp_matching.proofs.GroupLemmas.{groups_moved}
 use Rattle.gixp_matching.proofs.match_group.validate.groups.groups_of.Goals as goal
 

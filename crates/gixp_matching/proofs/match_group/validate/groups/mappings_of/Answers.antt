@@ -1,4 +1,3 @@
--- One group more.
 use Rattle.std.proofs.Common.{[], ◌++◌, ◌∙◌, ap}
 use Rattle.gixp_matching.specs.Groups.{mappings_of}
 use Rattle.gixp_matching.proofs.ListLemmas.{gathered_here}

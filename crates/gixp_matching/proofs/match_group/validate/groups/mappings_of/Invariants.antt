@@ -1,4 +1,3 @@
--- The mappings of the groups so far.
 use Rattle.std.proofs.Common.{◌≡◌, take}
 use Rattle.gixp_matching.specs.Groups.{grouped}
 use Rattle.gixp_matching.proofs.match_group.validate.groups.mappings_of.Given as goal

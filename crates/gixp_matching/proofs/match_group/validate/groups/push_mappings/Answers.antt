@@ -1,4 +1,3 @@
--- One row more.
 use Rattle.gixp_matching.proofs.FoundLemmas.{mappings_more}
 use Rattle.gixp_matching.proofs.match_group.validate.groups.push_mappings.Goals as goal
 

@@ -1,4 +1,3 @@
--- The mappings of the rows so far.
 use Rattle.std.proofs.Common.{◌≡◌, ◌++◌, take}
 use Rattle.gixp_matching.specs.Groups.{mappings_of}
 use Rattle.gixp_matching.proofs.match_group.validate.groups.push_mappings.Given as goal

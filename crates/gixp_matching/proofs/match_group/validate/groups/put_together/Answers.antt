@@ -1,4 +1,3 @@
--- A stable sort by number.
 use Rattle.std.proofs.Common.{rules}
 use Rattle.std.proofs.lemmas.Fn.{always_returns_same}
 use Rattle.gixp_matching.proofs.TogetherLemmas.{sorted_together, stay_in_order}

@@ -1,4 +1,3 @@
--- One mapping more.
 use Rattle.std.proofs.Common.{map}
 use Rattle.gixp_matching.specs.Groups.{shown, numbered}
 use Rattle.gixp_matching.proofs.ListLemmas.{gathered_more}

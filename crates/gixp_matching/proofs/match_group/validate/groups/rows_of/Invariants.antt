@@ -1,4 +1,3 @@
--- The rows of the mappings so far.
 use Rattle.std.proofs.Common.{◌≡◌, take, map}
 use Rattle.std.specs.List.{flat_map}
 use Rattle.gixp_matching.specs.Groups.{shown, numbered}

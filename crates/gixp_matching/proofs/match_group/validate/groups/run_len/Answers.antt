@@ -1,4 +1,3 @@
--- The place of the first other one, or the end.
 use Rattle.std.proofs.Common.{◌∙◌, ap, length}
 use Rattle.std.specs.Prelude.{unwrap_or, not}
 use Rattle.gixp_matching.specs.Groups.{has_number}

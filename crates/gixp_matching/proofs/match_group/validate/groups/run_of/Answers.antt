@@ -1,4 +1,3 @@
--- What stands before the first other one.
 use Rattle.std.proofs.Common.{◌∙◌, ap, take, drop}
 use Rattle.std.proofs.lemmas.List.{length-take-le}
 use Rattle.gixp_matching.proofs.GroupLemmas.{taken_run, dropped_run}

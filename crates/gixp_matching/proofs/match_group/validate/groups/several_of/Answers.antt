@@ -1,4 +1,3 @@
--- The rows of one name more.
 use Rattle.std.proofs.Common.{length, arith, sym, refl, ltb-false}
 use Rattle.gixp_matching.proofs.GroupLemmas.{all_left, run_fewer, less_left, none_left}
 use Rattle.gixp_matching.proofs.match_group.validate.groups.several_of.Goals as goal

@@ -1,4 +1,3 @@
--- The rows of the mappings, put together.
 use Rattle.std.proofs.Common.{◌∙◌, ap, map}
 use Rattle.gixp_matching.specs.Groups.{behind}
 use Rattle.gixp_matching.specs.Validation.{of_local}

@@ -1,4 +1,3 @@
--- The first bytes of the local names so far are those of the first.
 use Rattle.std.proofs.Common.{◌≡◌, take}
 use Rattle.std.specs.List.{All}
 use Rattle.gixp_matching.specs.Found.{destination_of}

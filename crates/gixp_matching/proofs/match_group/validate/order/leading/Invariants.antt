@@ -1,4 +1,3 @@
--- The number of the bytes so far.
 use Rattle.std.proofs.Common.{◌≡◌}
 use Rattle.gixp_matching.specs.Found.{leading}
 use Rattle.gixp_matching.proofs.match_group.validate.order.leading.Given as goal

@@ -1,4 +1,3 @@
--- The bytes, and zeros behind them.
 use Rattle.std.proofs.Common.{ap, ◌∙◌, ◌-◌, ◌++◌, drop, length, replicate, take}
 use Rattle.std.proofs.lemmas.List.{drop_min, take_rest}
 use Rattle.gixp_matching.specs.Found.{part}

@@ -1,4 +1,3 @@
--- One byte more.
 use Rattle.std.proofs.Common.{◌∷◌, [], ◌++◌, ◌∙◌, ap, sym, take, get_or}
 use Rattle.std.proofs.lemmas.List.{take_more}
 use Rattle.gixp_matching.proofs.match_group.validate.order.shared_len.Goals as goal

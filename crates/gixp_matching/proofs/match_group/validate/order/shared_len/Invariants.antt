@@ -1,4 +1,3 @@
--- The bytes so far are the same.
 use Rattle.std.proofs.Common.{◌≡◌, take}
 use Rattle.gixp_matching.proofs.match_group.validate.order.shared_len.Given as goal
 

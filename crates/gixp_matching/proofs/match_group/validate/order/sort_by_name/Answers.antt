@@ -1,4 +1,4 @@
--- The second sort decides.
+-- The last sort decides.
 use Rattle.std.proofs.Common.{nat_cmp, rules}
 use Rattle.std.specs.Cmp.Lexicographic.{slice_cmp}
 use Rattle.std.specs.Ordering.{is_lt}

@@ -1,4 +1,4 @@
--- Both sorts keep what there is.
+-- Both sorts permute.
 use Rattle.std.proofs.lemmas.List.Sorted.{IsPermutation-trans}
 use Rattle.gixp_matching.proofs.match_group.validate.order.sort_by_parts.Goals as goal
 

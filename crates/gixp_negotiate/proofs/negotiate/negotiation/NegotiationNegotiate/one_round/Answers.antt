@@ -1,4 +1,3 @@
--- A refusal, and what it keeps.
 use Rattle.std.proofs.Common.{refl}
 use Rattle.std.proofs.lemmas.Result.{IfErr-weaker}
 use Rattle.gixp_negotiate.proofs.RefusalLemmas.{own_round, beside}

@@ -1,4 +1,3 @@
--- The texts after an insertion.
 use Rattle.std.proofs.Common.{refl, ap, map, sym, ◌∙◌}
 use Rattle.bstr.specs.Owned.{bstring_bytes}
 use Rattle.gixp_refmap.specs.Prefixes.{is_among, with_text}

@@ -1,4 +1,4 @@
--- The lines are read by a map of the symrefs that tells what their list does.
+-- The lines are read with a map that has the same first symref for each name as their list.
 use Rattle.gixp_refs.specs.V1Refs.{symref_values}
 use Rattle.gixp_refs.proofs.TableLemmas.{answers_same, given, list_is}
 use Rattle.gixp_refs.proofs.handshake.refs.advertisement.from_v1_refs_received_as_part_of_handshake_and_capabilities.Goals as goal

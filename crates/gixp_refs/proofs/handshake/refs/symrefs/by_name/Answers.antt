@@ -1,4 +1,4 @@
--- Each symref is taken off the end and put into the map.
+-- Each symref is popped from the end and inserted into the map.
 use Rattle.std.proofs.Common.{rules}
 use Rattle.gixp_refs.specs.V1Refs.{symref_value, symref_values}
 use Rattle.gixp_refs.proofs.TableLemmas.{table-put, taken_off}

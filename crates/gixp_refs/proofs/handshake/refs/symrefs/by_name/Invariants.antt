@@ -1,4 +1,4 @@
--- The symrefs that were taken off are in the map.
+-- The symrefs that were popped are in the map.
 use Rattle.std.proofs.Common.{length}
 use Rattle.gixp_refs.specs.V1Refs.{symref_values}
 use Rattle.gixp_refs.proofs.TableLemmas.{MakesTable}

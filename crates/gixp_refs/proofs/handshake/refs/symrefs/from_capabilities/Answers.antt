@@ -1,4 +1,4 @@
--- Each capability is a symref, none, or refused.
+-- Each capability is a symref, another capability, or an error.
 use native.Mathlib.Omega.{arith}
 use Rattle.std.proofs.lemmas.Grind.{common_steps}
 use Rattle.std.proofs.lemmas.Result.{err_from_is_err_and}

@@ -1,4 +1,4 @@
--- The symrefs of the capabilities so far stand in front of those to come.
+-- The symrefs of the capabilities so far come before those of the rest.
 use Rattle.std.proofs.Common.{◌≡◌}
 use Rattle.gixp_capabilities.specs.Capability.{capabilities_left}
 use Rattle.gixp_refs.specs.RefAdvertisement.{symref_table}

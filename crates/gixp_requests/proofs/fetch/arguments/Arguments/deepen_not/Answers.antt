@@ -1,4 +1,3 @@
--- The line of the path.
 use Rattle.gixp_requests.proofs.fetch.arguments.Arguments.deepen_not.Goals as goal
 
 pub returns : goal.returns

@@ -1,4 +1,3 @@
--- The line of the number.
 use Rattle.std.proofs.Common.{◌∙◌, ap, subst, ◌++◌, List, ℕ, w64}
 use Rattle.std.specs.Prelude.{codes}
 use Rattle.std.specs.Fmt.{signed_decimal}

@@ -1,4 +1,3 @@
--- The place of the test of what the lines are.
 use Rattle.std.proofs.Common.{sym, ◌∙◌}
 use Rattle.gixp_requests.specs.Line.{line_text}
 use Rattle.gixp_requests.specs.Arguments.{is_want}

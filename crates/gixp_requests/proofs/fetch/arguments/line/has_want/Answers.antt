@@ -1,4 +1,3 @@
--- The test of what the lines are.
 use Rattle.std.proofs.Common.{sym, ◌∙◌}
 use Rattle.gixp_requests.specs.Line.{line_text}
 use Rattle.gixp_requests.specs.Arguments.{is_want}

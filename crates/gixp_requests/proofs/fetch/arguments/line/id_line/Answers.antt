@@ -1,10 +1,10 @@
--- The word, and the id behind it.
+-- The word, and the id after it.
 use Rattle.std.proofs.Common.{◌≡◌, ◌≤◌, ◌++◌, List, ℕ, length, take, drop, refl, ap, ◌∙◌, arith, append-nil}
 use Rattle.std.proofs.Math.ListN.{drop_of_length-le}
 use Rattle.std.proofs.Math.Seq.{take-append_seam, drop-append_seam}
 use Rattle.gixp_requests.proofs.fetch.arguments.line.id_line.Goals as goal
 
--- what is put in place of all that comes after a front
+-- all bytes after a front are replaced
 behind_front : (w z h : List ℕ) (a k : ℕ) → length w ≡ a → length z ≤ k → take a (w ++ z) ++ (h ++ drop k (drop a (w ++ z))) ≡ w ++ h
 behind_front w z h a k e l =
     rw (← e, take-append_seam w z, drop-append_seam w z, drop_of_length-le z l, append-nil) refl

@@ -1,4 +1,4 @@
--- The lines so far, and the texts to come.
+-- The lines so far, and the texts that are left.
 use Rattle.std.proofs.Common.{◌≡◌, ◌++◌, map}
 use Rattle.bstr.specs.Owned.{bstring_bytes}
 use Rattle.gixp_requests.specs.Line.{line_text}

@@ -1,4 +1,3 @@
--- The parts of the front.
 use Rattle.std.proofs.Common.{[], ◌∷◌, ◌++◌, map, ap, ◌∙◌}
 use Rattle.std.specs.Prelude.{codes}
 use Rattle.bstr.specs.Owned.{bstring_bytes}

@@ -1,4 +1,4 @@
--- The lines so far.
+-- The lines so far were appended.
 use Rattle.std.proofs.Common.{◌≡◌, ◌++◌, take, map}
 use Rattle.bstr.specs.Owned.{bstring_bytes}
 use Rattle.gixp_wire.specs.Message.{text, message_value}

@@ -1,4 +1,3 @@
--- The parts, one after the other.
 use Rattle.std.proofs.Common.{◌++◌, map, ap, subst, ◌∙◌, append-nil}
 use Rattle.gixp_wire.specs.Message.{text, message_value}
 use Rattle.gixp_requests.specs.Line.{line_text, have_text}

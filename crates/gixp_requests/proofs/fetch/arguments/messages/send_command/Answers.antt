@@ -1,4 +1,3 @@
--- The parts of the request.
 use Rattle.std.proofs.Common.{◌<◌, ◌≡◌, false, length, map, ap, ◌∙◌, subst, arith}
 use Rattle.std.proofs.lemmas.List.{length-map}
 use Rattle.bstr.specs.Owned.{bstring_bytes}

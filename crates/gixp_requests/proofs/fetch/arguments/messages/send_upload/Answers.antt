@@ -1,4 +1,4 @@
--- The parts of the request, and the exchange undone.
+-- The parts of the request; the two lines are exchanged back.
 use Rattle.std.proofs.Common.{map, ap, subst, ◌∙◌}
 use Rattle.gixp_requests.specs.Line.{line_text, have_text}
 use Rattle.gixp_requests.specs.Request.{SendsValues, exchanged}

@@ -1,4 +1,3 @@
--- The features so far.
 use Rattle.std.proofs.Common.{[]}
 use Rattle.gixp_requests.specs.Feature.{feature_value}
 use Rattle.gixp_requests.specs.Command.{texts}

@@ -1,4 +1,3 @@
--- All parts together.
 use Rattle.std.proofs.Common.{sym, ◌∙◌}
 use Rattle.gixp_wire.specs.Message.{value_fits}
 use Rattle.gixp_requests.specs.Line.{part_values}

@@ -1,4 +1,4 @@
--- The haves so far.
+-- The haves so far were written.
 use Rattle.std.proofs.Common.{take}
 use Rattle.gixp_packetline.specs.FrameText.{texts_of}
 use Rattle.gixp_wire.specs.Transport.{Wrote}

@@ -1,4 +1,4 @@
--- The lines so far.
+-- The lines so far were written.
 use Rattle.std.proofs.Common.{take}
 use Rattle.gixp_packetline.specs.FrameText.{texts_of}
 use Rattle.gixp_wire.specs.Transport.{Wrote}

@@ -1,4 +1,3 @@
--- What the messages of a part mean.
 use Rattle.std.proofs.Common.{◌∙◌}
 use Rattle.gixp_requests.specs.Line.{line_text, have_text}
 use Rattle.gixp_requests.proofs.PartLemmas.{fit_of_messages, fit_of_texts, frames_of_messages, frames_of_texts}

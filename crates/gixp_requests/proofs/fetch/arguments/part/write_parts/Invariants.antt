@@ -1,4 +1,4 @@
--- The parts so far.
+-- The parts so far were written.
 use Rattle.std.proofs.Common.{take, map}
 use Rattle.gixp_packetline.specs.FrameText.{texts_of}
 use Rattle.gixp_wire.specs.Message.{value_frame}

@@ -1,4 +1,4 @@
--- A blank alone where there is no feature.
+-- A blank alone if there is no feature.
 use Rattle.std.proofs.Common.{◌≡◌, ℕ, List, IfOk, Vec, Global, subst, arith}
 use Rattle.gixp_requests.proofs.ArgumentLemmas.{blank_alone, blanks_joined}
 use Rattle.gixp_requests.proofs.fetch.arguments.text.features_text.Goals as goal

@@ -1,4 +1,3 @@
--- The texts so far.
 use Rattle.std.proofs.Common.{[], ◌∷◌, ◌++◌, ap, ◌∙◌}
 use Rattle.bstr.specs.Owned.{bstring_bytes}
 use Rattle.gixp_requests.specs.Arguments.{spaced}

@@ -1,4 +1,4 @@
--- The texts so far.
+-- The texts so far were appended.
 use Rattle.std.proofs.Common.{◌≡◌, ◌++◌, take, map}
 use Rattle.bstr.specs.Owned.{bstring_bytes}
 use Rattle.gixp_requests.specs.Arguments.{spaced}

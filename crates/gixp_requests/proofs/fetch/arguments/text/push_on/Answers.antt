@@ -1,4 +1,3 @@
--- The features so far.
 use Rattle.gixp_requests.specs.Feature.{feature_value}
 use Rattle.gixp_requests.proofs.AppendLemmas.{joined_read}
 use Rattle.gixp_requests.proofs.ArgumentLemmas.{spaced_on, spaced_on-append}

@@ -1,4 +1,4 @@
--- The features so far.
+-- The features so far were appended.
 use Rattle.std.proofs.Common.{◌≡◌, ◌++◌, take}
 use Rattle.gixp_requests.specs.Feature.{feature_values}
 use Rattle.gixp_requests.specs.Arguments.{spaced, texts_on}

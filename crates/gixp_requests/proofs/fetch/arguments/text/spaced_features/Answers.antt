@@ -1,4 +1,3 @@
--- Both lists, one after the other.
 use Rattle.std.proofs.Common.{◌++◌, map, sym, ap, ◌∙◌}
 use Rattle.bstr.specs.Owned.{bstring_bytes}
 use Rattle.gixp_requests.specs.Feature.{feature_values}

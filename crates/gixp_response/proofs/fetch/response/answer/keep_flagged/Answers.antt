@@ -1,4 +1,3 @@
--- One more flag was looked at.
 use Rattle.std.proofs.Common.{◌∙◌, ◌++◌, ap, sym, take, drop}
 use Rattle.gixp_response.specs.RepeatedCommons.{flagged}
 use Rattle.gixp_response.proofs.CommonLemmas.{drop_one}

@@ -1,4 +1,4 @@
--- What was kept, and what is left to be looked at, are what has a flag.
+-- The kept elements, and those of the rest whose flag is true, are all elements whose flag is true.
 use Rattle.std.proofs.Common.{◌≡◌, ◌≤◌, ◌++◌, length, take, drop}
 use Rattle.gixp_response.specs.RepeatedCommons.{flagged}
 use Rattle.gixp_response.proofs.fetch.response.answer.keep_flagged.Given as goal

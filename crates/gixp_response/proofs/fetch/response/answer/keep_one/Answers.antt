@@ -1,4 +1,4 @@
--- What has a flag stands after those that were kept; what has none is passed.
+-- An element whose flag is true follows the kept ones; another one is skipped.
 use Rattle.std.proofs.Common.{◌∙◌, ◌++◌, ◌∷◌, ap, sym, take, drop}
 use Rattle.gixp_response.specs.RepeatedCommons.{flagged}
 use Rattle.gixp_response.proofs.CommonLemmas.{one_kept, one_passed}

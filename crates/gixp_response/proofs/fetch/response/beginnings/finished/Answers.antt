@@ -1,4 +1,4 @@
--- What has a flag names each commit once.
+-- The elements whose flag is true name each commit once.
 use Rattle.std.proofs.Common.{ap, ◌∙◌, length}
 use Rattle.gixp_response.specs.RepeatedCommons.{flagged}
 use Rattle.gixp_response.proofs.CommonLemmas.{flagged_once, length_tested}

@@ -1,4 +1,4 @@
--- The acknowledgement is noted and added, and counts once.
+-- The acknowledgement is recorded and added, and counts once.
 use Rattle.std.proofs.Common.{ap, ◌∙◌, subst, sym}
 use Rattle.gixp_response.specs.Answer.{AnswerValue}
 use Rattle.gixp_response.specs.RepeatedCommons.{AreNoted, without_repeats}

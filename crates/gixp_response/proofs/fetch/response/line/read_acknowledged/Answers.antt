@@ -5,7 +5,7 @@ use Rattle.std.proofs.Common.{eqb-true}
 use Rattle.gixp_response.specs.AnswerLine.{acknowledged}
 use Rattle.gixp_response.proofs.fetch.response.line.read_acknowledged.Goals as goal
 
--- fewer than 40 digits are no id
+-- fewer than 40 digits are not an id
 too_short : (text : List ℕ) → length text < 40 → None ≡ acknowledged (Some text)
 too_short text h =
     let few : (length (take 40 text) == 40) ≡ false =

@@ -1,4 +1,4 @@
--- Each call of the closure compares by the order of rows.
+-- The closure compares by the order of rows.
 use Rattle.std.proofs.Common.{◌≡◌, ap, rules}
 use Rattle.std.specs.Ordering.{is_lt}
 use Rattle.std.proofs.lemmas.Fn.{always_returns_same}

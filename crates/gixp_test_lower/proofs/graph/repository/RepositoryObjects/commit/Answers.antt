@@ -1,4 +1,3 @@
--- A commit that is listed.
 use Rattle.std.proofs.Common.{◌∙◌, sym, ap, ℤ, rules}
 use Rattle.std.specs.Prelude.{option_map}
 use Rattle.std.proofs.lemmas.Int.{to_z-of_z}

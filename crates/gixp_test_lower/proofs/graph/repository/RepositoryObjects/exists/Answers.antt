@@ -1,4 +1,3 @@
--- Whether a commit is listed.
 use Rattle.std.proofs.Common.{◌∙◌, sym}
 use Rattle.gixp_test_lower.proofs.ListedLemmas.{key_listed}
 use Rattle.gixp_test_lower.proofs.graph.repository.RepositoryObjects.exists.Goals as goal

@@ -1,4 +1,3 @@
--- A commit's kind.
 use Rattle.std.proofs.Common.{◌∙◌, sym, ap}
 use Rattle.std.specs.Prelude.{option_map}
 use Rattle.gixp_graph.specs.declared.objects.ObjectKind.TheVariants.{Commit}

@@ -1,4 +1,3 @@
--- What waits, without the one that is taken.
 use Rattle.gixp_updates.proofs.LookLemmas.{popped}
 use Rattle.gixp_updates.proofs.refs.heap.Heap.pop.Goals as goal
 

@@ -1,4 +1,3 @@
--- What waits, with one more.
 use Rattle.std.proofs.Common.{sym}
 use Rattle.std.proofs.lemmas.List.Sorted.{list_any-IsPermutation}
 use Rattle.std.specs.Ordering.{eq_by_cmp}

@@ -1,4 +1,3 @@
--- A look for an id.
 use Rattle.std.proofs.Common.{◌+◌, ◌∙◌, ◌||◌, inl, inr, ⊎_elim, not, ap, sym, subst, rules}
 use Rattle.std.specs.Prelude.{IsSome}
 use Rattle.std.specs.FinMap as finite

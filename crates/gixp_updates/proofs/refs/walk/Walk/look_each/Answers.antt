@@ -1,4 +1,3 @@
--- Looks for some ids.
 use Rattle.std.proofs.Common.{◌∙◌, arith}
 use Rattle.gixp_updates.specs.Search.{search_of}
 use Rattle.gixp_updates.proofs.LookLemmas.{explores_step, more_step, looks_on}

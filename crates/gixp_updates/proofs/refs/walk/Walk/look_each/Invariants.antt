@@ -1,9 +1,8 @@
--- What the loop keeps.
 use Rattle.std.proofs.Common.{◌≡◌, ◌≤◌, take}
 use Rattle.gixp_updates.specs.Search.{search_of, Explores, HoldsWaiting, LooksUp, KeepsAsked}
 use Rattle.gixp_updates.proofs.refs.walk.Walk.look_each.Given as goal
 
--- the ids so far were looked for
+-- the ids so far were looked up
 abbrev pub invariant-loop-id : goal.invariant-loop-id
 invariant-loop-id g l = record {
   explores : Explores l.fn.graph.graph.objects (take l.id-index l.ids) (search_of l.fn.self) (search_of l.self);

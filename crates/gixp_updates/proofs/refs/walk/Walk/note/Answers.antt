@@ -1,4 +1,3 @@
--- One id more.
 use Rattle.std.proofs.Common.{◌∙◌}
 use Rattle.std.specs.Ordering.{eq_by_cmp}
 use Rattle.std.specs.BTreeSet as tree

@@ -1,4 +1,3 @@
--- The keys of a set.
 use Rattle.std.proofs.lemmas.Map.Keys.{IsDistinct-from_sorted}
 use Rattle.std.proofs.lemmas.Map.Views.{All-set_contains, Contains-from_any}
 use Rattle.gixp_hash.specs.ObjectId.{id_cmp}

@@ -6,7 +6,7 @@ use Rattle.gixp_response.specs.Beginnings.{Expected, v1_answer, expected}
 use Rattle.gixp_response.specs.AnswerReading.{answer_of}
 use Rattle.gixp_response.proofs.fetch.response.answer.Response.from_line_reader.Goals as goal
 
--- versions 0 and 1 have the same answers
+-- versions 0 and 1 have the same responses
 earlier_is : (v : Protocol) (a : Expected) → (v ≡ V1) ⊎ (v ≡ V0) → answer_of v a ≡ v1_answer v a
 earlier_is v a (inl h) = rw h refl
 earlier_is v a (inr h) = rw h refl

@@ -4,7 +4,6 @@ use Rattle.gixp_response.specs.declared.fetch.response.line.WantedRef.{WantedRef
 use Rattle.gixp_response.specs.AnswerLine.{wanted_value}
 use Rattle.gixp_response.proofs.fetch.response.answer.ResponseClone.clone.Goals as goal
 
--- clones of wanted refs are the same
 wanted_same : (xs ys : List WantedRef) → AllZip (λ s t. wanted_value t ≡ wanted_value s) xs ys → map wanted_value ys ≡ map wanted_value xs
 wanted_same [] [] h = refl
 wanted_same [] (y ∷ ys) h = absurd h

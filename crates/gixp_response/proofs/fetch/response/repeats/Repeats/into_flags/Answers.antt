@@ -1,4 +1,4 @@
--- A sort brings each repeat next to what it repeats.
+-- A sort moves each repeat next to the row that it repeats.
 use Rattle.std.proofs.Common.{◌∙◌, ap, subst, List, IsPermutation, ℕ}
 use Rattle.gixp_hash.specs.declared.object_id.ObjectId.{ObjectId}
 use Rattle.gixp_hash.specs.ObjectId.{id_cmp}

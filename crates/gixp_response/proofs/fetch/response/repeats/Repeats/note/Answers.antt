@@ -1,4 +1,4 @@
--- One more row, where there is one, and one more flag.
+-- One more row if a commit is named, and one more flag.
 use Rattle.std.proofs.Common.{◌∙◌, ap, ◌++◌, ◌∷◌, [], true}
 use Rattle.gixp_response.proofs.CommonLemmas.{noted_more}
 use Rattle.gixp_response.proofs.fetch.response.repeats.Repeats.note.Goals as goal

@@ -1,0 +1,9 @@
+use Rattle.gixp_fetch_cli.specs.Report.{default_of_ref}
+use Rattle.gixp_text.proofs.AppendedLemmas.{left-at, each-more}
+use Rattle.gixp_fetch_cli.proofs.report.append_defaults.Goals as goal
+
+pub loop-found-preserved : goal.loop-found-preserved
+loop-found-preserved c =
+    each-more default_of_ref _ _ _ _ _ c.found-item.result _ c.loop-found.invariant
+    (left-at c.args.refs.now c.loop-found.found-index c.found-item.result c.loop-found-test.true c.found-item.is)
+    c.in_ok-append_default.ensures

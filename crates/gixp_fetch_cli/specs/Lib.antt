@@ -1,0 +1,13 @@
+pub mod Changes
+pub mod Choices
+pub mod Connected
+pub mod Kept
+pub mod CommandLine
+pub mod Missing
+pub mod OptionNames
+pub mod Refspecs
+pub mod Refusals
+pub mod Report
+pub mod ReportedChanges
+pub mod UnreadFiles
+pub mod Usage

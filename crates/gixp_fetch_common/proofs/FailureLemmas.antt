@@ -1,0 +1,61 @@
+-- The errors of a list of refs, which are also errors of a ref map.
+use Rattle.std.proofs.Common.{rules, ◌≡◌, ◌⊎◌, Bool, true, false, List, Result, Ok, Err, ap, inl, inr, subst}
+use Rattle.std.specs.Prelude.{Vec}
+use Rattle.std.specs.declared.alloc.Global.{Global}
+use Rattle.gix_protocol.specs.Capabilities.{CapabilityValue}
+use Rattle.gix_protocol.specs.ClientError.{of_list, of_init}
+use Rattle.gix_protocol.specs.Feature.{FeatureValue}
+use Rattle.gix_protocol.specs.HandshakeType.{Handshake}
+use Rattle.gix_protocol.specs.ListEnds.{IsUnasked, whole_refs, whole_map}
+use Rattle.gix_protocol.specs.ListErrorType.{Error as ListError}
+use Rattle.gix_protocol.specs.MapErrorType.{Error as MapError}
+use Rattle.gix_protocol.specs.MapErrorType.TheVariants.{UnknownObjectFormat, MappingValidation, ListRefs, Memory}
+use Rattle.gix_protocol.specs.Reading.{Reading}
+use Rattle.gix_protocol.specs.RefMapType.{RefMap}
+use Rattle.gix_protocol.specs.RefType.{Ref}
+use Rattle.gix_protocol.specs.SessionErrorType.{Error}
+use Rattle.gix_protocol.specs.SessionErrorType.TheVariants.{UnterminatedRefs}
+use Rattle.gixp_fetch_common.specs.Mapped.{ListsIf, IsUnlisted, IsUnmapped}
+use Rattle.gixp_fetch_common.specs.Unfetched.{FailsWithin}
+use Rattle.gixp_fetch_common.specs.declared.failure.Failure.{Failure}
+use Rattle.gixp_fetch_common.specs.declared.failure.Phase.{Phase}
+
+by_list : (caps : List CapabilityValue) (e : Error) → IsUnlisted caps e → IsUnmapped caps e
+by_list caps e h = elim h [
+  | inl unasked ↦ inl unasked
+  | inr h' ↦ elim h' [ inl unended ↦ inr (inl unended) | inr x ↦ inr (inr (ListRefs x.0, x.1)) ]
+]
+
+-- an error of the list is an error of the ref map
+pub unmapped : (caps : List CapabilityValue) (phase : Phase) (f : Failure) → FailsWithin phase (IsUnlisted caps) f
+    → FailsWithin phase (IsUnmapped caps) f
+unmapped caps phase f h = record { error = h.error; holds = by_list caps h.error h.holds; told = h.told }
+
+-- a list that fails
+pub unlisted_of : (listed : Result (Vec Ref Global) ListError) (is_ended : Bool) (e : Error) → whole_refs listed is_ended ≡ Err e
+    → (e ≡ UnterminatedRefs) ⊎ ((x : ListError) × (e ≡ of_list x))
+unlisted_of (Ok refs) true e h = search (rules, h)
+unlisted_of (Ok refs) false e h = inl (search (rules, h))
+unlisted_of (Err x) is_ended e h = inr (x, search (rules, h))
+
+-- a ref map that fails
+pub unmapped_of : (made : Result RefMap MapError) (is_whole : Bool) (e : Error) → whole_map made is_whole ≡ Err e
+    → (e ≡ UnterminatedRefs) ⊎ ((x : MapError) × (e ≡ of_init x))
+unmapped_of (Ok m) true e h = search (rules, h)
+unmapped_of (Ok m) false e h = inl (search (rules, h))
+unmapped_of (Err x) true e h = inr (x, search (rules, h))
+unmapped_of (Err (UnknownObjectFormat format)) false e h = inl (search (rules, h))
+unmapped_of (Err (MappingValidation x)) false e h = inl (search (rules, h))
+unmapped_of (Err (ListRefs x)) false e h = inr (ListRefs x, search (rules, h))
+unmapped_of (Err Memory) false e h = inr (Memory, search (rules, h))
+
+-- listing refs keeps the server's capabilities
+kept_capabilities : (lists : Bool) (agent : FeatureValue) (shaken kept : Handshake) (plain : Bool) (old new : Reading)
+    → ListsIf lists agent shaken plain old new kept → kept.capabilities ≡ shaken.capabilities
+kept_capabilities true agent shaken kept plain old new h = ap (λ (x : Handshake). x.capabilities) h.2
+kept_capabilities false agent shaken kept plain old new h = ap (λ (x : Handshake). x.capabilities) h.1
+
+pub unasked_then : (lists : Bool) (agent : FeatureValue) (shaken kept : Handshake) (plain : Bool) (old new : Reading) (e : Error)
+    → ListsIf lists agent shaken plain old new kept → IsUnasked kept.capabilities e → IsUnasked shaken.capabilities e
+unasked_then lists agent shaken kept plain old new e h u =
+    subst (λ (caps : List CapabilityValue). IsUnasked caps e) (kept_capabilities lists agent shaken kept plain old new h) u

@@ -1,0 +1,17 @@
+pub mod AnswersIds
+pub mod ErrorKindText
+pub mod Failures
+pub mod HangUp
+pub mod KnownCommits
+pub mod ListedCommits
+pub mod Mapped
+pub mod OfBoundary
+pub mod PackCopied
+pub mod PackPlace
+pub mod Received
+pub mod RequestFilter
+pub mod Sanitized
+pub mod SharedCommits
+pub mod Tips
+pub mod Unanswered
+pub mod Unfetched

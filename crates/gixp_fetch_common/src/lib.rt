@@ -1,0 +1,24 @@
+//! What two programs share that fetch, `gixp_fetch_pack` and the remote helper: a session's calls with their failures, the pack's
+//! receiver and its place, the check of a pack that is copied, the negotiator over a list of commits, and questions about objects.
+#![tactic(auto)]
+
+mod batch_check;
+mod copy;
+mod error_kind;
+pub mod failure;
+mod hang_up;
+mod haves;
+mod known_commits;
+pub mod listed_commits;
+pub mod negotiate;
+mod pack_place;
+pub mod receive;
+pub mod repository;
+mod sanitize;
+pub mod session;
+
+pub use batch_check::{BatchCheck, BatchCheckError, named_ids};
+pub use copy::{StreamError, copy_pack};
+pub use haves::Haves;
+pub use pack_place::{PackFile, PackPlace};
+pub use sanitize::sanitized;

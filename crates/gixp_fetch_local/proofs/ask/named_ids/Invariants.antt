@@ -1,7 +1,0 @@
--- The ids of the mappings so far.
-use Rattle.std.proofs.Common.{take}
-use Rattle.gixp_fetch_local.specs.AnswersIds.{AddsIds}
-use Rattle.gixp_fetch_local.proofs.ask.named_ids.Given as goal
-
-abbrev pub invariant-mappings : goal.invariant-mappings
-invariant-mappings l = AddsIds (take l.mapping-index l.mappings) l.initial.ids l.ids

@@ -1,8 +1,0 @@
-use Rattle.std.proofs.Common.{◌≡◌, map, drop}
-use Rattle.std.specs.Prelude.{string_bytes}
-use Rattle.gixp_fetch_local.specs.LineOf.{line_value, next_value, line_from, line_of}
-use Rattle.gixp_fetch_local.proofs.line.Line.read.Given as goal
-
-abbrev pub invariant-loop-word : goal.invariant-loop-word
-invariant-loop-word l = line_of (map string_bytes l.words) ≡ line_from (line_value l.line) (next_value l.next)
-    (map string_bytes (drop l.word-index l.words))

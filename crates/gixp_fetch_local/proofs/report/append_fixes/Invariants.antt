@@ -1,7 +1,0 @@
-use Rattle.std.proofs.Common.{flat_map, drop}
-use Rattle.gixp_fetch_local.specs.Told.{fix_told}
-use Rattle.gixp_text.proofs.AppendedLemmas.{Partly}
-use Rattle.gixp_fetch_local.proofs.report.append_fixes.Given as goal
-
-abbrev pub invariant-loop-fix : goal.invariant-loop-fix
-invariant-loop-fix l = Partly l.fn.text.items l.text.items (flat_map fix_told (drop l.fix-index l.fixes)) (flat_map fix_told l.fn.fixes)

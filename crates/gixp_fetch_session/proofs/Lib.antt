@@ -1,2 +1,0 @@
-mod BoundaryLemmas
-mod FailureLemmas

@@ -1,8 +1,0 @@
-use Rattle.gixp_listing.proofs.ListLemmas.{written-prints, written-memory}
-use Rattle.gixp_listing.proofs.list.print_line.Goals as goal
-
-pub returns-in-Ok : goal.returns-in-Ok
-returns-in-Ok c = written-prints _ c.in-Some.written.now _ _ c.in-Some.ensures c.in-Ok.ensures.all
-
-pub returns-in-Err : goal.returns-in-Err
-returns-in-Err c = written-memory _ c.in-Some.written.now c.in-Some.ensures

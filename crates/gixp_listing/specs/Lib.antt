@@ -1,3 +1,0 @@
-pub mod ErrorName
-pub mod List
-pub mod MappingNames

@@ -1,8 +1,0 @@
-use Rattle.gixp_remote_rules.specs.Requests.{shown_byte}
-use Rattle.gixp_text.proofs.AppendedLemmas.{left-byte, each-more}
-use Rattle.gixp_remote_rules.proofs.request.append_escaped.Goals as goal
-
-pub loop-byte-preserved : goal.loop-byte-preserved
-loop-byte-preserved c =
-    each-more shown_byte _ _ _ _ _ _ _ c.loop-byte.invariant
-    (left-byte c.args.word.now c.loop-byte.byte-index c.loop-byte-test.true) c.in_ok-append_shown.ensures

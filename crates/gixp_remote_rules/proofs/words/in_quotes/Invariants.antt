@@ -1,9 +1,0 @@
-use Rattle.std.proofs.Common.{◌∷◌, [], flat_map, drop}
-use Rattle.gixp_remote_rules.specs.Programs.{escaped_in_quotes}
-use Rattle.gixp_text.proofs.AppendedLemmas.{Partly}
-use Rattle.gixp_remote_rules.proofs.words.in_quotes.Given as goal
-
-abbrev pub invariant-loop-byte : goal.invariant-loop-byte
-invariant-loop-byte l =
-    Partly (34 ∷ []) l.text.items (flat_map escaped_in_quotes (drop l.byte-index l.path))
-    (flat_map escaped_in_quotes l.fn.path)

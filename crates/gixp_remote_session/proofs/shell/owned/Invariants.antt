@@ -1,7 +1,0 @@
--- The words so far.
-use Rattle.std.proofs.Common.{◌≡◌, map, take}
-use Rattle.bstr.specs.Owned.{bstring_bytes}
-use Rattle.gixp_remote_session.proofs.shell.owned.Given as goal
-
-abbrev pub invariant-loop-word : goal.invariant-loop-word
-invariant-loop-word l = map bstring_bytes l.all.items ≡ map (λ w. w.now) (take l.word-index l.words)
