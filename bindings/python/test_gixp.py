@@ -20,7 +20,7 @@ sys.setrecursionlimit(100_000)  # definitions.py groups the lines of an advertis
 
 import definitions  # noqa: E402
 import gixp  # noqa: E402
-import rows  # noqa: E402
+import vectors  # noqa: E402
 
 # The number of each error in definitions.py.
 CODES = {"Io": 10, "HexDecode": 11, "DataLengthLimitExceeded": 12, "DataIsEmpty": 13, "InvalidLineLength": 14, "Server": 15,
@@ -36,7 +36,7 @@ VERSION_TWO = 47
 
 def all_rows():
     for file in sorted((TOP / "crates/gixp_replay/data").iterdir()):
-        yield from rows.read(file)[0]
+        yield from vectors.read(file)[0]
 
 
 def packet(text):
