@@ -63,7 +63,7 @@ class Refs(unittest.TestCase):
                 wanted = definitions.v2_ref_list(row.data)
                 self.assertEqual((code, [(r.name, r.id, r.peeled) for r in found]), (0, list(map(definitions.unpack, wanted))), row.name)
                 self.assertEqual([r.target for r in found], [r[2] if r[0] in ("Symbolic", "Unborn") else None for r in wanted], row.name)
-            except definitions.Refused as e:
+            except definitions.Err as e:
                 self.assertEqual(code, CODES[e.rest[0] if e.name == "Decode" else e.name], row.name)
                 self.assertEqual(words, e.rest[0] if e.name == "Server" else b"", row.name)
             codes[code] += 1
@@ -108,7 +108,7 @@ class Advertisements(unittest.TestCase):
                 wanted = definitions.advertisement(row.data)["refs"]
                 self.assertEqual((code, [(r.name, r.id, r.peeled) for r in found]), (0, list(map(definitions.unpack, wanted))), row.name)
                 self.assertEqual([r.target for r in found], [r[2] if r[0] == "Symbolic" else None for r in wanted], row.name)
-            except definitions.Refused as e:
+            except definitions.Err as e:
                 self.assertEqual(code, FIRST_CODES[e.rest[0] if e.name == "Decode" else e.name], row.name)
                 self.assertEqual(words, e.rest[0] if e.name == "Server" else b"", row.name)
             codes[code] += 1
@@ -203,7 +203,7 @@ class Maps(unittest.TestCase):
                 try:
                     definitions.refspec_of(word, True)
                     words.append(word)
-                except definitions.Refused:
+                except definitions.Err:
                     pass
             specs, names = [definitions.refspec_of(w, True) for w in words], names.split(b"\n")
             if any(b"\n" in w or not w for w in words):
@@ -215,7 +215,7 @@ class Maps(unittest.TestCase):
                 self.assertEqual(found.removed, [f[0] for f in fixes], row.name)
                 sources = [names[m.item] if m.item is not None else None for m in found.mappings]
                 self.assertEqual(sources, [m[1][1] if m[1][0] == "FullName" else None for m in maps], row.name)
-            except definitions.Refused as e:
+            except definitions.Err as e:
                 self.assertEqual(found.conflicts, [issue[0] for issue in e.rest[0]], row.name)
             self.assertEqual(list(dict.fromkeys(gixp.prefixes(words))), definitions.all_prefixes(specs), row.name)
             count += 1
