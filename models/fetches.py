@@ -119,7 +119,7 @@ class Script:
                 break
             word, _, text = line.partition(BLANK)
             if word not in SCRIPT_WORDS:
-                raise Unreadable("a call or a line of a script that its mode doesn't know")
+                raise Unreadable("its mode doesn't know a word of its bytes")
             self.read(word, text)
         self.data = data
         if self.excluded:

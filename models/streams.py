@@ -156,7 +156,7 @@ def calls_of(line, known):
     for word in line.decode().split(" "):
         name, _, times = word.partition("*")
         if name not in known:
-            raise Unreadable("a call or a line of a script that its mode doesn't know")
+            raise Unreadable("its mode doesn't know a word of its bytes")
         out += [name] * int(times or 1)
     return out
 
@@ -827,7 +827,7 @@ def state_of(a):
 def requests_vector(vector):
     lines = [x.partition(BLANK)[::2] for x in vector.data.split(LF) if x]
     if any(word not in WORDS for word, _ in lines):
-        raise Unreadable("a call or a line of a script that its mode doesn't know")
+        raise Unreadable("its mode doesn't know a word of its bytes")
     features = [feature_of(rest) for word, rest in lines if word == b"feature"]
     a = Arguments(GIT, vector["version"], [(n, text_of(v) if v is not None else None) for n, v in features if n in FEATURES])
     persists = vector["over"] == "connection"

@@ -14,27 +14,27 @@ pub use Rattle.gixp_packetline.specs.Lines
 pub use Rattle.gixp_packetline.specs.TransportState
 pub use Rattle.gixp_packetline.specs.Reading
 pub use Rattle.gixp_capabilities.specs.Client
-pub use Rattle.gixp_wire.specs.Message
-pub use Rattle.gixp_wire.specs.Transport
+pub use Rattle.gixp_transport.specs.Message
+pub use Rattle.gixp_transport.specs.Transport
 pub use Rattle.gixp_packetline.specs.Window
 pub use Rattle.gixp_packetline.specs.PacketLine
 pub use Rattle.gixp_packetline.specs.Packets
 pub use Rattle.gixp_packetline.specs.LineReader
-pub use Rattle.gixp_wire.specs.Bodies
-pub use Rattle.gixp_wire.specs.Connection
+pub use Rattle.gixp_transport.specs.Bodies
+pub use Rattle.gixp_transport.specs.Connection
 pub use Rattle.gixp_capabilities.specs.Cut
 pub use Rattle.gixp_capabilities.specs.Capabilities
 pub use Rattle.gixp_capabilities.specs.Capability
-pub use Rattle.gixp_wire.specs.Service
+pub use Rattle.gixp_transport.specs.Service
 pub use Rattle.gixp_progress.specs.Progress
-pub use Rattle.gixp_wire.specs.Spurious
-pub use Rattle.gixp_wire.specs.CapabilityAdvertisement
-pub use Rattle.gixp_wire.specs.Named
-pub use Rattle.gixp_wire.specs.Greeting
-pub use Rattle.gixp_wire.specs.Handshake
+pub use Rattle.gixp_transport.specs.Spurious
+pub use Rattle.gixp_transport.specs.CapabilityAdvertisement
+pub use Rattle.gixp_transport.specs.Named
+pub use Rattle.gixp_transport.specs.Greeting
+pub use Rattle.gixp_transport.specs.Handshake
 pub use Rattle.gixp_sidebands.specs.Bands
 pub use Rattle.gixp_sidebands.specs.Ends
-pub use Rattle.gixp_sidebands.specs.Telling
+pub use Rattle.gixp_sidebands.specs.Reporting
 pub use Rattle.gixp_sidebands.specs.Questions
 pub use Rattle.gixp_sidebands.specs.Sidebands
 pub use Rattle.gixp_refs.specs.Ref
@@ -200,14 +200,14 @@ pub use Rattle.gixp_capabilities.specs.declared.capabilities.Capabilities as Cap
 pub use Rattle.gixp_capabilities.specs.declared.capabilities.Capability as CapabilityType
 pub use Rattle.gixp_capabilities.specs.declared.capabilities.CapabilityIter as CapabilityIterType
 pub use Rattle.gixp_capabilities.specs.declared.client.Error as ClientErrorType
-pub use Rattle.gixp_wire.specs.declared.bodies.Body as BodyType
-pub use Rattle.gixp_wire.specs.declared.bodies.Bodies as BodiesType
-pub use Rattle.gixp_wire.specs.declared.connection.Connection as ConnectionType
-pub use Rattle.gixp_wire.specs.declared.message.Message as MessageType
-pub use Rattle.gixp_wire.specs.declared.service.Service as ServiceType
-pub use Rattle.gixp_wire.specs.declared.service.Account as AccountType
-pub use Rattle.gixp_wire.specs.declared.service.Opening as OpeningType
-pub use Rattle.gixp_wire.specs.declared.service.SetServiceResponse as SetServiceResponseType
+pub use Rattle.gixp_transport.specs.declared.bodies.Body as BodyType
+pub use Rattle.gixp_transport.specs.declared.bodies.Bodies as BodiesType
+pub use Rattle.gixp_transport.specs.declared.connection.Connection as ConnectionType
+pub use Rattle.gixp_transport.specs.declared.message.Message as MessageType
+pub use Rattle.gixp_transport.specs.declared.service.Service as ServiceType
+pub use Rattle.gixp_transport.specs.declared.service.Account as AccountType
+pub use Rattle.gixp_transport.specs.declared.service.Opening as OpeningType
+pub use Rattle.gixp_transport.specs.declared.service.SetServiceResponse as SetServiceResponseType
 pub use Rattle.gixp_sidebands.specs.declared.sidebands.WithSidebands as WithSidebandsType
 pub use Rattle.gixp_sidebands.specs.declared.sidebands.interrupt.NeverInterrupt as NeverInterruptType
 pub use Rattle.gixp_sidebands.specs.declared.sidebands.interrupt.InterruptFlag as InterruptFlagType
@@ -320,7 +320,7 @@ pub use Rattle.gixp_client.specs.ClientMaps
 pub use Rattle.gixp_client.specs.ClientNames
 pub use Rattle.gixp_client.specs.ClientPromise
 pub use Rattle.gixp_client.specs.Filters
-pub use Rattle.gixp_client.specs.Heard
+pub use Rattle.gixp_client.specs.ListeningTransport
 pub use Rattle.gixp_client.specs.ListEnds
 pub use Rattle.gixp_client.specs.Listening
 pub use Rattle.gixp_client.specs.Reasons
@@ -342,14 +342,14 @@ pub use Rattle.gixp_client.specs.declared.class.ErrorClass as ErrorClassType
 pub use Rattle.gixp_client.specs.declared.conflict.Conflict as SessionConflictType
 pub use Rattle.gixp_client.specs.declared.consumer.PackError as PackErrorType
 pub use Rattle.gixp_client.specs.declared.fetched.Fetched as FetchedType
-pub use Rattle.gixp_client.specs.declared.heard.Heard as HeardType
+pub use Rattle.gixp_client.specs.declared.listening_transport.ListeningTransport as ListeningTransportType
 pub use Rattle.gixp_client.specs.declared.listen.Kept as KeptType
 pub use Rattle.gixp_client.specs.declared.listen.RemoteLines as RemoteLinesType
 pub use Rattle.gixp_client.specs.declared.listen.ServerText as ServerTextType
 pub use Rattle.gixp_client.specs.declared.listen.Silent as SilentType
-pub use Rattle.gixp_client.specs.declared.over.Filtered as FilteredType
+pub use Rattle.gixp_client.specs.declared.filter.Filtered as FilteredType
 pub use Rattle.gixp_client.specs.declared.repository.Repository as RepositoryType
-pub use Rattle.gixp_client.specs.declared.watched.Watched as WatchedType
+pub use Rattle.gixp_client.specs.declared.unshallow_check.UnshallowCheck as WatchedType
 pub use Rattle.gixp_client.specs.declared.windows.Windowed as WindowedType
 pub use Rattle.gixp_matching.specs.declared.match_group.key.KeyBytes as KeyBytesType
 pub use Rattle.gixp_matching.specs.declared.match_group.key.KeySource as KeySourceType

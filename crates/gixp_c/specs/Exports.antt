@@ -6,8 +6,8 @@ use Rattle.gixp_records.specs.declared.mapped_refs.MapEnd.{MapEnd}
 use Rattle.gixp_records.specs.declared.mapped_refs.MapRefused.{MapRefused}
 use Rattle.gixp_records.specs.declared.spec_text.SpecsRefused.{SpecsRefused}
 use Rattle.gixp_records.specs.MapRecords.{MapsRecords}
-use Rattle.gixp_records.specs.SpecText.{specs_of_lines, prefix_lines, TellsPrefixes}
-use Rattle.gixp_records.specs.Told.{MapBuffers}
+use Rattle.gixp_records.specs.SpecText.{specs_of_lines, prefix_lines, WritesPrefixes}
+use Rattle.gixp_records.specs.MappingEntry.{MapBuffers}
 use Rattle.gixp_records.specs.declared.advertised.AdvertisedEnd.{AdvertisedEnd}
 use Rattle.gixp_records.specs.declared.advertised.AdvertisedEnd.TheVariants.{Refused as RefusedAdvertised}
 use Rattle.gixp_records.specs.declared.advertised.AdvertisedFound.{AdvertisedFound}
@@ -118,5 +118,5 @@ PutsText text old code new now = (now ≡ length text)
 pub data ExportsPrefixes (text old : List ℕ) (was code : ℕ) (new : List ℕ) (now : ℕ) : Type 0 where
   prefixes : (specs : List Spec) → specs_of_lines (text_lines text) ≡ Ok specs → PutsText (prefix_lines specs) old code new now
       → ExportsPrefixes text old was code new now
-  no_prefixes : (e : SpecsRefused) → TellsPrefixes (text_lines text) (Err e) → code ≡ specs_code e → new ≡ old → now ≡ was
+  no_prefixes : (e : SpecsRefused) → WritesPrefixes (text_lines text) (Err e) → code ≡ specs_code e → new ≡ old → now ≡ was
       → ExportsPrefixes text old was code new now

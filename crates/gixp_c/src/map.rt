@@ -1,6 +1,6 @@
 //! The mappings of refs by refspecs, and the prefixes of refspecs.
 ghost use Rattle.std.specs.Prelude.{◌≡◌};
-ghost use Rattle.gixp_records.specs.Told.{buffers};
+ghost use Rattle.gixp_records.specs.MappingEntry.{buffers};
 ghost use Rattle.gixp_c.specs.Exports.{ExportsMap, ExportsPrefixes};
 ghost use Rattle.gixp_c.specs.Codes.{map_end_code, map_refused_code, specs_code};
 

@@ -4,11 +4,11 @@ ghost use Rattle.gixp_shallow.specs.Shallow.{shallow_value};
 ghost use Rattle.gixp_fetch.specs.Fetch.{parties_of};
 ghost use Rattle.gixp_engine.specs.Alone.{engine_call, FetchesAlone, OffersAlone};
 ghost use Rattle.gixp_engine.specs.EngineMessage.{engine_message};
-ghost use Rattle.gixp_c.specs.NextExport.{depth_value, ReadsWishes, StepsAsTold, TellsEngineStep, TellsWords, ExportsNext};
+ghost use Rattle.gixp_c.specs.NextExport.{depth_value, ReadsInput, StepsAsReported, PassesEngineStep, PassesWords, ExportsNext};
 
 use crate::code::{NO_ROOM, OK, SERVER, engine_code};
 use crate::texts::copy_text;
-use gixp_engine::{EngineError, LeavePack, Step, Wishes, ids_of, next_step, specs_of};
+use gixp_engine::{EngineError, LeavePack, EngineStep, SessionInput, ids_of, next_step, specs_of};
 use gixp_fetch::consume::ConsumePack;
 use gixp_graph::{NoObjects, NoRefs, Objects, Shared};
 use gixp_memory::StoredObjects;
@@ -24,7 +24,7 @@ use std::num::NonZeroU32;
 /// The arguments of a session.
 #[repr(C)]
 #[derive(Clone, Copy)]
-pub struct WishesRecord<'a> {
+pub struct SessionInputRecord<'a> {
     /// The refspecs, one per line.
     pub specs: &'a [u8],
     /// The ids of objects that exist locally, 20 bytes each. They are offered as haves in this order, and never requested.
@@ -56,22 +56,22 @@ fn shallow_of(depth: u32) -> Shallow
     }
 }
 
-fn wishes_of(alloc: Global, told: &WishesRecord<'_>) -> Result<Wishes, EngineError>
-    ensures { ReadsWishes told.now result }
+fn input_of(alloc: Global, input_record: &SessionInputRecord<'_>) -> Result<SessionInput, EngineError>
+    ensures { ReadsInput input_record.now result }
 {
-    let specs = match specs_of(alloc, told.specs) {
+    let specs = match specs_of(alloc, input_record.specs) {
         Ok(specs) => specs,
         Err(e) => return Err(e),
     };
-    let haves = match ids_of(alloc, told.haves) {
+    let haves = match ids_of(alloc, input_record.haves) {
         Ok(haves) => haves,
         Err(e) => return Err(e),
     };
-    match ids_of(alloc, told.boundary) {
-        Ok(boundary) => Ok(Wishes {
+    match ids_of(alloc, input_record.boundary) {
+        Ok(boundary) => Ok(SessionInput {
             specs,
             haves,
-            shallow: shallow_of(told.depth),
+            shallow: shallow_of(input_record.depth),
             boundary,
         }),
         Err(e) => Err(e),
@@ -82,32 +82,32 @@ fn step_of(
     alloc: Global,
     answers: &[u8],
     ends: &[usize],
-    told: &WishesRecord<'_>,
-) -> Result<Step, EngineError>
-    ensures { StepsAsTold ⟦<Shared<'static, StoredObjects> as Objects>⟧.contents
+    input_record: &SessionInputRecord<'_>,
+) -> Result<EngineStep, EngineError>
+    ensures { StepsAsReported ⟦<Shared<'static, StoredObjects> as Objects>⟧.contents
         (λ w objects m h old new r. FetchesAlone
         (parties_of ⟦<Negotiation<'static, Shared<'static, StoredObjects>, NoRefs, HaveList, NoObjects, AllocError> as Negotiate>⟧.calls
         ⟦<ShallowMemory as ShallowStore>⟧.calls ⟦<NeverInterrupt as Interrupt>⟧.says
         ⟦<LeavePack as ConsumePack<Discard>>⟧.consumes true)
         (OffersAlone objects w.haves.items m w.shallow) w.boundary.items
         (engine_call h (shallow_value w.shallow)) old new r)
-        answers.now ends.now told.now result }
+        answers.now ends.now input_record.now result }
 {
-    match wishes_of(alloc, told) {
-        Ok(wishes) => next_step(alloc, answers, ends, wishes),
+    match input_of(alloc, input_record) {
+        Ok(input) => next_step(alloc, answers, ends, input),
         Err(e) => Err(e),
     }
 }
 
 // Writes the step into the buffer and the record.
-fn tell_step(found: &Step, request: &mut [u8], step: &mut StepRecord) -> u32
-    ensures told { TellsEngineStep found.now request.old step.old result request.new step.new }
+fn tell_step(found: &EngineStep, request: &mut [u8], step: &mut StepRecord) -> u32
+    ensures input_record { PassesEngineStep found.now request.old step.old result request.new step.new }
     ensures no_room { result ≡ 2 → (request.new ≡ request.old) × (step.new ≡ record step.old { length = step.new.length })
         × (length request.old < step.new.length) }
     ensures few { result < 3 }
 {
     match found {
-        Step::Nothing => {
+        EngineStep::Nothing => {
             *step = StepRecord {
                 kind: 0,
                 length: 0,
@@ -115,7 +115,7 @@ fn tell_step(found: &Step, request: &mut [u8], step: &mut StepRecord) -> u32
             };
             OK
         }
-        Step::Pack(place) => {
+        EngineStep::Pack(place) => {
             *step = StepRecord {
                 kind: 2,
                 length: 0,
@@ -123,7 +123,7 @@ fn tell_step(found: &Step, request: &mut [u8], step: &mut StepRecord) -> u32
             };
             OK
         }
-        Step::Request(bytes) => {
+        EngineStep::Request(bytes) => {
             step.length = bytes.len();
             if !copy_text(bytes, request) {
                 return NO_ROOM;
@@ -137,7 +137,7 @@ fn tell_step(found: &Step, request: &mut [u8], step: &mut StepRecord) -> u32
 
 // Copies the server's message into the buffer if that is large enough, and returns the number of the error.
 fn tell_refusal(e: &EngineError, request: &mut [u8], step: &mut StepRecord) -> u32
-    ensures told { TellsWords (engine_message e.now) e.now request.old step.old result request.new step.new }
+    ensures input_record { PassesWords (engine_message e.now) e.now request.old step.old result request.new step.new }
     ensures code { 2 < result }
     ensures step { step.new ≡ record step.old { length = step.new.length } }
 {
@@ -170,24 +170,24 @@ pub extern "C" fn gixp_next(
     alloc: Global,
     answers: &[u8],
     ends: &[usize],
-    wishes: &WishesRecord<'_>,
+    input: &SessionInputRecord<'_>,
     request: &mut [u8],
     step: &mut StepRecord,
 ) -> u32
     ensures next { ExportsNext
-        (StepsAsTold ⟦<Shared<'static, StoredObjects> as Objects>⟧.contents
+        (StepsAsReported ⟦<Shared<'static, StoredObjects> as Objects>⟧.contents
         (λ w objects m h old new r. FetchesAlone
         (parties_of ⟦<Negotiation<'static, Shared<'static, StoredObjects>, NoRefs, HaveList, NoObjects, AllocError> as Negotiate>⟧.calls
         ⟦<ShallowMemory as ShallowStore>⟧.calls ⟦<NeverInterrupt as Interrupt>⟧.says
         ⟦<LeavePack as ConsumePack<Discard>>⟧.consumes true)
         (OffersAlone objects w.haves.items m w.shallow) w.boundary.items
         (engine_call h (shallow_value w.shallow)) old new r)
-        answers.now ends.now wishes.now)
+        answers.now ends.now input.now)
         request.old step.old result request.new step.new }
     ensures no_room { result ≡ 2 → (request.new ≡ request.old) × (length request.old < step.new.length) }
     ensures refused { 2 < result → step.new ≡ record step.old { length = step.new.length } }
 {
-    match step_of(alloc, answers, ends, wishes) {
+    match step_of(alloc, answers, ends, input) {
         Ok(found) => tell_step(&found, request, step),
         Err(e) => tell_refusal(&e, request, step),
     }

@@ -32,15 +32,15 @@ use Rattle.gixp_client.specs.declared.error.Error.{Error}
 use Rattle.gixp_client.specs.declared.error.Error.TheVariants.{Handshake, Refs, UnsupportedListing, UnknownObjectFormat, Conflicts, Request, Answer, Unnegotiated, Objects, LocalRefs, MissingFeature, ShallowServer, Pack, Rest, Reported, Over, Memory}
 
 -- the server's message
-abbrev pub said_in : Error → Option (List ℕ)
-said_in (Handshake e) = handshake_message e
-said_in (Refs e) = refs_message e
-said_in (Request e) = client_message e
-said_in (Answer e) = answer_message e
-said_in (Pack (pack.Read e)) = read_message e
-said_in (Rest e) = read_message e
-said_in (Reported message) = Some (bstring_bytes message)
-said_in _ = None
+abbrev pub message_in : Error → Option (List ℕ)
+message_in (Handshake e) = handshake_message e
+message_in (Refs e) = refs_message e
+message_in (Request e) = client_message e
+message_in (Answer e) = answer_message e
+message_in (Pack (pack.Read e)) = read_message e
+message_in (Rest e) = read_message e
+message_in (Reported message) = Some (bstring_bytes message)
+message_in _ = None
 
 -- ---- failed reads and writes
 
@@ -85,7 +85,7 @@ place_of (Handshake _) = codes "the handshake"
 place_of (Request e) = codes "a request"
 place_of (Answer e) = codes "an answer"
 place_of (Pack e) = codes "the pack"
-place_of (Rest e) = codes "what comes behind the pack"
+place_of (Rest e) = codes "the data after the pack"
 place_of _ = codes "the session"
 
 -- ---- errors of the lower calls
@@ -141,18 +141,18 @@ abbrev pub NamesMissing : List ℕ → Error → Type 0
 NamesMissing feature e = ((text : String Global) × (string_bytes text ≡ feature) × (e ≡ MissingFeature text)) ⊎ (e ≡ Memory)
 
 -- the error of a failed fetch; a consumer's error is converted
-abbrev pub IsToldOf : {A X : Type 0} → FetchError A X → Error → Type 0
-IsToldOf (fetch.FetchResponse x) e = e ≡ Answer x
-IsToldOf (fetch.Negotiate x) e = e ≡ of_negotiation x
-IsToldOf (fetch.Client x) e = e ≡ of_request x
-IsToldOf (fetch.MissingServerFeature feature description) e = NamesMissing feature.now e
-IsToldOf (fetch.WriteShallowFile x) e = e ≡ Memory
-IsToldOf (fetch.ReadShallowFile x) e = e ≡ Memory
-IsToldOf (fetch.LockShallowFile x) e = e ≡ Memory
-IsToldOf fetch.RejectShallowRemote e = e ≡ ShallowServer
-IsToldOf (fetch.ConsumePack x) e = ⊤
-IsToldOf (fetch.ReadRemainingBytes x) e = e ≡ Rest x
-IsToldOf fetch.Memory e = e ≡ Memory
+abbrev pub IsReportOf : {A X : Type 0} → FetchError A X → Error → Type 0
+IsReportOf (fetch.FetchResponse x) e = e ≡ Answer x
+IsReportOf (fetch.Negotiate x) e = e ≡ of_negotiation x
+IsReportOf (fetch.Client x) e = e ≡ of_request x
+IsReportOf (fetch.MissingServerFeature feature description) e = NamesMissing feature.now e
+IsReportOf (fetch.WriteShallowFile x) e = e ≡ Memory
+IsReportOf (fetch.ReadShallowFile x) e = e ≡ Memory
+IsReportOf (fetch.LockShallowFile x) e = e ≡ Memory
+IsReportOf fetch.RejectShallowRemote e = e ≡ ShallowServer
+IsReportOf (fetch.ConsumePack x) e = ⊤
+IsReportOf (fetch.ReadRemainingBytes x) e = e ≡ Rest x
+IsReportOf fetch.Memory e = e ≡ Memory
 
 -- the error of a call that failed before anything was sent: the session is over, the server doesn't offer a feature, or an
 -- allocation failed

@@ -15,7 +15,7 @@ pub mod Sentences
 pub mod ClientMaps
 pub mod ClientPromise
 pub mod Listening
-pub mod Heard
+pub mod ListeningTransport
 pub mod Boundaries
 pub mod Changes
 pub mod Requests

@@ -54,8 +54,8 @@ pub record LosesText (old new : Kept) : Type 0 where
   pub cut : new.is_cut ≡ true
 
 -- a text is kept or missing; an error is recorded in both cases
-abbrev pub HearsText : Bool → List ℕ → Kept → Kept → Type 0
-HearsText is_error text old new =
+abbrev pub ReceivesText : Bool → List ℕ → Kept → Kept → Type 0
+ReceivesText is_error text old new =
     (KeepsText is_error text old new ⊎ LosesText old new) × (new.has_error ≡ (old.has_error || is_error))
 
 -- ---- shown messages
@@ -69,13 +69,13 @@ abbrev pub visible : ℕ → ℕ → ℕ
 visible before b = if is_control before b then 63 else b
 
 -- blanks after a line, which overwrite the rest of a longer line
-abbrev pub blanks_behind : List ℕ → List ℕ
-blanks_behind [] = []
-blanks_behind (b ∷ line) = codes "        "
+abbrev pub trailing_blanks : List ℕ → List ℕ
+trailing_blanks [] = []
+trailing_blanks (b ∷ line) = codes "        "
 
 -- a server's line as it is shown, with its terminator
 abbrev pub remote_line : List ℕ → ℕ → List ℕ
-remote_line line end = codes "remote: " ++ line ++ blanks_behind line ++ end ∷ []
+remote_line line end = codes "remote: " ++ line ++ trailing_blanks line ++ end ∷ []
 
 -- the written output, and the unfinished line after it
 pub record ShownLines : Type 0 where

@@ -4,7 +4,7 @@ use Rattle.std.specs.Fmt.{decimal}
 use Rattle.std.specs.declared.io.ErrorKind.{ErrorKind}
 use Rattle.std.specs.declared.io.ErrorKind.TheVariants.{UnexpectedEof}
 use Rattle.gixp_hash.specs.Hex.{encode_lower}
-use Rattle.gixp_client.specs.ClientError.{said_in, place_of, kind_in}
+use Rattle.gixp_client.specs.ClientError.{message_in, place_of, kind_in}
 use Rattle.gixp_client.specs.Reasons.{reason}
 use Rattle.gixp_client.specs.declared.consumer.PackError.TheVariants as pack
 use Rattle.gixp_client.specs.declared.error.Error.{Error}
@@ -40,9 +40,9 @@ unsaid_sentence (Pack (pack.Write kind)) = None
 unsaid_sentence e = kind_sentence e (kind_in e)
 
 -- the text that has a server message is undefined
-abbrev pub said_sentence : Error → Option (List ℕ) → Option (List ℕ)
-said_sentence e (Some words) = None
-said_sentence e None = unsaid_sentence e
+abbrev pub message_sentence : Error → Option (List ℕ) → Option (List ℕ)
+message_sentence e (Some words) = None
+message_sentence e None = unsaid_sentence e
 
 abbrev pub sentence_of : Error → Option (List ℕ)
-sentence_of e = said_sentence e (said_in e)
+sentence_of e = message_sentence e (message_in e)

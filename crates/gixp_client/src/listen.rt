@@ -3,7 +3,7 @@ ghost use Rattle.std.specs.Prelude.{◌≡◌, ◌||◌, ℕ, Bool, List, [], �
 ghost use Rattle.std.specs.List.{find};
 ghost use Rattle.std.specs.Option.{option_copied};
 ghost use Rattle.std.specs.Io.KnownBytes.{Appends};
-ghost use Rattle.gixp_client.specs.Listening.{without_end, is_control, visible, last_byte, remote_line, unshown, after_byte, after_text, ended, shown_of, ShowsLines, KeepsText, KeepsTexts, HearsText, kept_texts};
+ghost use Rattle.gixp_client.specs.Listening.{without_end, is_control, visible, last_byte, remote_line, unshown, after_byte, after_text, ended, shown_of, ShowsLines, KeepsText, KeepsTexts, ReceivesText, kept_texts};
 
 use bstr::BString;
 use std::alloc::{AllocError, Global};
@@ -12,15 +12,15 @@ use std::io::Write;
 
 /// A listener for the messages of bands 2 and 3 (gitprotocol-pack, "Packfile Data").
 ///
-/// An implementation has nothing to prove: `hears` has a default, so the method is enough.
+/// An implementation has nothing to prove: `receives` has a default, so the method is enough.
 pub trait Listener {
     /// How `hear` changes the listener: before, whether the message is an error, its bytes, after. The default allows any change.
-    ghost hears: { Self → Bool → List ℕ → Self → Type 0 } = { λ _ _ _ _. ⊤ };
+    ghost receives: { Self → Bool → List ℕ → Self → Type 0 } = { λ _ _ _ _. ⊤ };
 
     /// Receives the message of one packet line. The message may be part of a line, or contain several lines. It is progress or an
     /// error (band 3). `git fetch` stops at an error.
     fn hear(&mut self, is_error: bool, text: &[u8])
-        ensures { hears self.old is_error text.now self.new };
+        ensures { receives self.old is_error text.now self.new };
 }
 
 /// A listener that ignores all messages.
@@ -103,9 +103,9 @@ impl Kept {
 
     /// The first error whose text was kept.
     pub fn first_error(&self) -> Option<&ServerText>
-        ensures { option_copied result ≡ find (λ said. said.is_error) self.now.texts.items }
+        ensures { option_copied result ≡ find (λ message_text. message_text.is_error) self.now.texts.items }
     {
-        self.texts.iter().find(|said| said.is_error)
+        self.texts.iter().find(|message_text| message_text.is_error)
     }
 
     fn note(&mut self, is_error: bool)
@@ -136,7 +136,7 @@ impl Kept {
 }
 
 impl Listener for Kept {
-    ghost hears = { λ k is_error text n. HearsText is_error text k n };
+    ghost receives = { λ k is_error text n. ReceivesText is_error text k n };
 
     fn hear(&mut self, is_error: bool, text: &[u8]) {
         self.note(is_error);
@@ -277,7 +277,7 @@ impl<W: Write + Drop> RemoteLines<W> {
 }
 
 impl<W: Write + Drop> Listener for RemoteLines<W> {
-    ghost hears = { λ l is_error text n. ShowsLines l.is_cut (W.contents l.writer) n.is_cut (W.contents n.writer) n.line.items
+    ghost receives = { λ l is_error text n. ShowsLines l.is_cut (W.contents l.writer) n.is_cut (W.contents n.writer) n.line.items
         (shown_of is_error l.line.items text) };
 
     fn hear(&mut self, is_error: bool, text: &[u8]) {

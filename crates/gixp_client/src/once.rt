@@ -23,7 +23,7 @@ use gixp_progress::Discard;
 use gixp_refmap::RefMap;
 use gixp_shallow::{ShallowMemory, ShallowStore};
 use gixp_sidebands::{Interrupt, NeverInterrupt};
-use gixp_wire::Transport;
+use gixp_transport::Transport;
 use std::alloc::Global;
 
 /// Opens a session, maps and fetches what the request asks for, and closes the session. This is one run of the law
@@ -50,15 +50,15 @@ pub fn fetch_once<
 ) -> Result<(RefMap, Fetched), Error>
 where
     C::Error: Into<Error>,
-    ensures { IfOk result (λ came. ((came.0.mappings.items ≡ []) × (came.1.outcome ≡ None) × (pack.new ≡ pack.old))
+    ensures { IfOk result (λ received. ((received.0.mappings.items ≡ []) × (received.1.outcome ≡ None) × (pack.new ≡ pack.old))
         ⊎ ((end : Reading) × IsOneRun
         (parties_of ⟦<SessionNegotiation<'a, F, R, AnyNegotiator> as Negotiate>⟧.calls ⟦<ShallowMemory as ShallowStore>⟧.calls
-        ⟦<NeverInterrupt as Interrupt>⟧.says C.consumes T.is_plain)
+        ⟦<NeverInterrupt as Interrupt>⟧.polls C.consumes T.is_plain)
         ⟦<SessionNegotiation<'a, F, R, AnyNegotiator> as NegotiatesMap>⟧.map_of
         ⟦<SessionNegotiation<'a, F, R, AnyNegotiator> as NegotiatesMap>⟧.knows
-        (client_feature agent.now) [] request.now (T.reading transport) came.0
+        (client_feature agent.now) [] request.now (T.reading transport) received.0
         (session_knowledge request.now (F.contents repository.entry.objects.now) (R.refs repository.entry.refs.now))
-        repository.entry.boundary.now pack.old (Ok came.1.outcome) end pack.new)) }
+        repository.entry.boundary.now pack.old (Ok received.1.outcome) end pack.new)) }
 {
     let mut negotiator = request.algorithm.negotiator(alloc);
     fetch_once_with(
@@ -98,15 +98,15 @@ pub fn fetch_once_with<
 ) -> Result<(RefMap, Fetched), Error>
 where
     C::Error: Into<Error>,
-    ensures { IfOk result (λ came. ((came.0.mappings.items ≡ []) × (came.1.outcome ≡ None) × (pack.new ≡ pack.old))
+    ensures { IfOk result (λ received. ((received.0.mappings.items ≡ []) × (received.1.outcome ≡ None) × (pack.new ≡ pack.old))
         ⊎ ((end : Reading) × IsOneRun
         (parties_of ⟦<SessionNegotiation<'a, F, R, N> as Negotiate>⟧.calls ⟦<ShallowMemory as ShallowStore>⟧.calls
-        ⟦<NeverInterrupt as Interrupt>⟧.says C.consumes T.is_plain)
+        ⟦<NeverInterrupt as Interrupt>⟧.polls C.consumes T.is_plain)
         ⟦<SessionNegotiation<'a, F, R, N> as NegotiatesMap>⟧.map_of
         ⟦<SessionNegotiation<'a, F, R, N> as NegotiatesMap>⟧.knows
-        (client_feature agent.now) [] request.now (T.reading transport) came.0
+        (client_feature agent.now) [] request.now (T.reading transport) received.0
         (session_knowledge request.now (F.contents repository.entry.objects.now) (R.refs repository.entry.refs.now))
-        repository.entry.boundary.now pack.old (Ok came.1.outcome) end pack.new)) }
+        repository.entry.boundary.now pack.old (Ok received.1.outcome) end pack.new)) }
 {
     let mut session = Session::open(alloc, transport, agent, listener)?;
     let map = session.map(request)?;

@@ -2,30 +2,30 @@
 ghost use Rattle.std.specs.Prelude.{◌≡◌, ◌≢◌, ◌⊎◌, true, [], Some, None, Ok, Err, IfOk, IfErr, OnOk, MatchResult, is_some, string_bytes, Bool, Vec, Result};
 ghost use Rattle.std.specs.Option.{option_map};
 ghost use Rattle.std.specs.declared.alloc.Global.{Global as Allocator};
-ghost use Rattle.gixp_wire.specs.declared.service.Service.TheVariants.{UploadPack};
-ghost use Rattle.gixp_wire.specs.Greeting.{parameters_of};
+ghost use Rattle.gixp_transport.specs.declared.service.Service.TheVariants.{UploadPack};
+ghost use Rattle.gixp_transport.specs.Greeting.{parameters_of};
 ghost use Rattle.gixp_refs.specs.declared.handshake.Ref.{Ref as ListedRef};
 ghost use Rattle.gixp_refmap.specs.declared.ls_refs.error.Error.{Error as ListError};
 ghost use Rattle.gixp_refmap.specs.declared.refmap.init.Error.{Error as MapError};
 ghost use Rattle.gixp_refmap.specs.declared.refmap.map.RefMap.{RefMap as MadeMap};
 ghost use Rattle.gixp_refmap.specs.Mapping.{unknown_format};
 ghost use Rattle.gixp_handshake.specs.HandshakeValues.{refs_value};
-ghost use Rattle.gixp_handshake.specs.ObtainProgress.{TellsObtained};
-ghost use Rattle.gixp_handshake.specs.ShakeProgress.{TellsShake};
+ghost use Rattle.gixp_handshake.specs.ObtainProgress.{ReportsObtained};
+ghost use Rattle.gixp_handshake.specs.ShakeProgress.{ReportsHandshake};
 ghost use Rattle.gixp_client.specs.ClientCalls.{OpensSession, ListsInSession, GivesRefs, MapsInSession, ClosesSession};
 ghost use Rattle.gixp_client.specs.ClientNames.{is_session_id, named_by};
 ghost use Rattle.gixp_client.specs.Filters.{offers_filter};
 ghost use Rattle.gixp_client.specs.ListEnds.{IsUnasked, is_flush, are_whole, whole_refs, whole_map};
-ghost use Rattle.gixp_client.specs.SessionStates.{behind_refusal, behind_map};
+ghost use Rattle.gixp_client.specs.SessionStates.{state_after_refusal, state_after_map};
 
 use crate::error::Error;
-use crate::heard::Heard;
+use crate::listening_transport::ListeningTransport;
 use crate::list_ends::{are_whole, expect_format, is_at_flush, whole_map, whole_refs};
 use crate::listen::Listener;
 use crate::name::{ClientName, is_session_id};
 use crate::request::Request;
-use crate::settle::can_filter;
-use crate::state::{State, behind_map, behind_refusal};
+use crate::outcome::can_filter;
+use crate::state::{State, state_after_map, state_after_refusal};
 use gixp_capabilities::Capabilities;
 use gixp_handshake::credentials::{self, Action};
 use gixp_handshake::handshake::{handshake, obtain};
@@ -36,7 +36,7 @@ use gixp_refmap::refmap::copied_refs;
 use gixp_refmap::{LsRefsCommand, RefMap};
 use gixp_refs::handshake::Ref;
 use gixp_requests::command::CommandTable;
-use gixp_wire::{Service, Transport};
+use gixp_transport::{Service, Transport};
 use std::alloc::{AllocError, Global};
 
 /// A session with a server. After the handshake, the caller can list and map its refs, and fetch what is mapped. Under version 2 it
@@ -52,7 +52,7 @@ use std::alloc::{AllocError, Global};
 /// After the latter two every call returns `Error::Over` and sends nothing. Dropping a session closes it.
 pub struct Session<T: Transport + Drop, L: Listener + Drop, P: NestedProgress + Drop = Discard> {
     pub(crate) alloc: Global,
-    pub(crate) transport: Heard<T, L>,
+    pub(crate) transport: ListeningTransport<T, L>,
     pub(crate) shaken: Handshake,
     pub(crate) name: ClientName,
     pub(crate) state: State,
@@ -124,11 +124,11 @@ impl<T: Transport + Drop, L: Listener + Drop, P: NestedProgress + Drop> Session<
         ensures named { IfOk result (λ s. string_bytes s.name.agent ≡ agent.now) }
         ensures nameless { IfOk result (λ s. s.name.session_id ≡ None) }
         ensures state { IfOk result (λ s. s.state ≡ State.AtStop) }
-        ensures told { IfOk result (λ s. TellsShake P.told UploadPack (parameters_of extra_parameters.items) (T.reading transport) progress
+        ensures report { IfOk result (λ s. ReportsHandshake P.report UploadPack (parameters_of extra_parameters.items) (T.reading transport) progress
             (Ok s.shaken) s.progress) }
     {
         let agent = String::from_str(alloc, agent)?;
-        let mut transport = Heard::new(alloc, transport, listener);
+        let mut transport = ListeningTransport::new(alloc, transport, listener);
         let mut progress = progress;
         let shaken = handshake(
             alloc,
@@ -241,7 +241,7 @@ impl<T: Transport + Drop, L: Listener + Drop, P: NestedProgress + Drop> Session<
             ⊎ ((listed : Result (Vec ListedRef Allocator) ListError) × ListsInSession (named_by self.old.name)
             self.old.shaken T.is_plain (T.reading self.old.transport.inner) (T.reading self.new.transport.inner) listed
             × (whole_refs listed (is_flush (T.reading self.new.transport.inner).stopped) ≡ Err e)
-            × (self.new.state ≡ behind_refusal self.old.shaken.server_protocol_version e) × (self.new.shaken ≡ self.old.shaken))) }
+            × (self.new.state ≡ state_after_refusal self.old.shaken.server_protocol_version e) × (self.new.shaken ≡ self.old.shaken))) }
         ensures stays { OnOk result (self.new.state ≡ self.old.state) }
         ensures name { self.new.name ≡ self.old.name }
     {
@@ -263,7 +263,7 @@ impl<T: Transport + Drop, L: Listener + Drop, P: NestedProgress + Drop> Session<
                 Ok(())
             }
             Err(e) => {
-                self.state = behind_refusal(self.shaken.server_protocol_version, &e);
+                self.state = state_after_refusal(self.shaken.server_protocol_version, &e);
                 Err(e)
             }
         }
@@ -293,7 +293,7 @@ impl<T: Transport + Drop, L: Listener + Drop, P: NestedProgress + Drop> Session<
             ⊎ ((listed : Result (Vec ListedRef Allocator) ListError) × ListsInSession (named_by self.old.name)
             self.old.shaken T.is_plain (T.reading self.old.transport.inner) (T.reading self.new.transport.inner) listed
             × (whole_refs listed (is_flush (T.reading self.new.transport.inner).stopped) ≡ Err e)
-            × (self.new.state ≡ behind_refusal self.old.shaken.server_protocol_version e) × (self.new.shaken ≡ self.old.shaken))) }
+            × (self.new.state ≡ state_after_refusal self.old.shaken.server_protocol_version e) × (self.new.shaken ≡ self.old.shaken))) }
         ensures stays { OnOk result (self.new.state ≡ self.old.state) }
         ensures name { self.new.name ≡ self.old.name }
     {
@@ -356,9 +356,9 @@ impl<T: Transport + Drop, L: Listener + Drop, P: NestedProgress + Drop> Session<
             ⊎ ((made : Result MadeMap MapError) × MapsInSession request.now (named_by self.old.name)
             self.old.shaken T.is_plain (T.reading self.old.transport.inner) (T.reading self.new.transport.inner) made
             × (whole_map made (are_whole (is_some self.old.shaken.refs) (T.reading self.new.transport.inner).stopped) ≡ Err e)
-            × (self.new.state ≡ behind_map (is_some self.old.shaken.refs) self.old.shaken.server_protocol_version e))) }
+            × (self.new.state ≡ state_after_map (is_some self.old.shaken.refs) self.old.shaken.server_protocol_version e))) }
         ensures stays { OnOk result (self.new.state ≡ self.old.state) }
-        ensures told { IfOk result (λ m. TellsObtained P.told self.old.shaken.refs self.old.progress (Ok m) self.new.progress) }
+        ensures report { IfOk result (λ m. ReportsObtained P.report self.old.shaken.refs self.old.progress (Ok m) self.new.progress) }
         ensures handshake { self.new.shaken ≡ record self.old.shaken { refs = self.new.shaken.refs } }
         ensures refs { option_map refs_value self.new.shaken.refs ≡ option_map refs_value self.old.shaken.refs }
         ensures name { self.new.name ≡ self.old.name }
@@ -383,7 +383,7 @@ impl<T: Transport + Drop, L: Listener + Drop, P: NestedProgress + Drop> Session<
         match whole_map(made, are_whole(is_here, &self.transport)) {
             Ok(map) => Ok(map),
             Err(e) => {
-                self.state = behind_map(is_here, version, &e);
+                self.state = state_after_map(is_here, version, &e);
                 Err(e)
             }
         }

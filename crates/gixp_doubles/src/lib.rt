@@ -9,7 +9,7 @@ mod objects;
 mod paper;
 mod recorder;
 mod refs;
-mod told;
+mod progress_log;
 
 pub use device::{Device, Pieces, next_random};
 pub use ids::{numbered_id, numbered_ids};
@@ -18,4 +18,4 @@ pub use objects::{LentObjects, MemoryObjects};
 pub use paper::Paper;
 pub use recorder::Recorder;
 pub use refs::MemoryRefs;
-pub use told::{Call, Lent, Told};
+pub use progress_log::{Call, Lent, ProgressLog};

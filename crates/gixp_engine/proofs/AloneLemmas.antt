@@ -34,13 +34,13 @@ carries-call parties first r last progress h shallow table agent e f it = record
 }
 
 module _ (Receives : RefMap → Handshake → Reading → Reading → Result (Option Outcome) (FetchError AllocError Left) → Type 0) where
-  pub session-ran : (context : Context) (plain : Bool) (old mid behind new : Reading) (h k : Handshake) (m : RefMap)
+  pub session-ran : (context : Context) (plain : Bool) (old mid following new : Reading) (h k : Handshake) (m : RefMap)
       (r : Result (Option Outcome) (FetchError AllocError Left)) (ended : Result (Option Protocol) EngineError)
-      → ShakesAlone plain old mid (Ok h) → MapsAlone context h plain mid behind (Ok m) → ends_refs behind.stopped ≡ true
-      → k ≡ without_refs h → (m.mappings.items ≡ [] → ⊥) → Receives m k behind new r → ended ≡ end_of_fetch k.server_protocol_version r
+      → ShakesAlone plain old mid (Ok h) → MapsAlone context h plain mid following (Ok m) → ends_refs following.stopped ≡ true
+      → k ≡ without_refs h → (m.mappings.items ≡ [] → ⊥) → Receives m k following new r → ended ≡ end_of_fetch k.server_protocol_version r
       → EngineSession Receives context plain old new ended
-  session-ran context plain old mid behind new h k m r ended s l whole e some f q =
-      fetched h mid behind m r s l whole some (subst (λ x. Receives m x behind new r) e f)
+  session-ran context plain old mid following new h k m r ended s l whole e some f q =
+      fetched h mid following m r s l whole some (subst (λ x. Receives m x following new r) e f)
       (q ∙ ap (λ (x : Handshake). end_of_fetch x.server_protocol_version r) e)
 
 -- a ref map that was made

@@ -7,7 +7,7 @@ use Rattle.gixp_packetline.specs.declared.protocol.MessageKind.{MessageKind}
 use Rattle.gixp_packetline.specs.declared.protocol.MessageKind.TheVariants.{Flush}
 use Rattle.gixp_packetline.specs.declared.protocol.Protocol.{Protocol}
 use Rattle.gixp_packetline.specs.Reading.{Reading}
-use Rattle.gixp_wire.specs.declared.service.Service.TheVariants.{UploadPack}
+use Rattle.gixp_transport.specs.declared.service.Service.TheVariants.{UploadPack}
 use Rattle.gixp_requests.specs.Feature.{FeatureValue}
 use Rattle.gixp_requests.specs.Command.{git_table}
 use Rattle.gixp_graph.specs.GraphData.{graph_of}
@@ -137,7 +137,7 @@ module _ (Receives : RefMap → Handshake → Reading → Reading → Result (Op
     empty : (h : Handshake) (mid : Reading) (m : RefMap) → ShakesAlone plain old mid (Ok h)
         → MapsAlone context h plain mid new (Ok m) → ends_refs new.stopped ≡ true → m.mappings.items ≡ [] → ended ≡ Ok None
         → EngineSession new ended
-    fetched : (h : Handshake) (mid behind : Reading) (m : RefMap) (r : Result (Option Outcome) (FetchError AllocError Left))
-        → ShakesAlone plain old mid (Ok h) → MapsAlone context h plain mid behind (Ok m) → ends_refs behind.stopped ≡ true
+    fetched : (h : Handshake) (mid following : Reading) (m : RefMap) (r : Result (Option Outcome) (FetchError AllocError Left))
+        → ShakesAlone plain old mid (Ok h) → MapsAlone context h plain mid following (Ok m) → ends_refs following.stopped ≡ true
         → (m.mappings.items ≡ [] → ⊥)
-        → Receives m (without_refs h) behind new r → ended ≡ end_of_fetch h.server_protocol_version r → EngineSession new ended
+        → Receives m (without_refs h) following new r → ended ≡ end_of_fetch h.server_protocol_version r → EngineSession new ended

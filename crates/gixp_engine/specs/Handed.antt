@@ -8,8 +8,8 @@ use Rattle.gixp_packetline.specs.Pieces.{stream_pieces}
 use Rattle.gixp_packetline.specs.TransportState.{Answer, body}
 use Rattle.gixp_refspec.specs.RefSpec.{owned_value_of}
 use Rattle.gixp_refmap.specs.declared.refmap.init.Context.{Context}
-use Rattle.gixp_wire.specs.declared.bodies.Body.{Body}
-use Rattle.gixp_wire.specs.Bodies.{answer_of}
+use Rattle.gixp_transport.specs.declared.bodies.Body.{Body}
+use Rattle.gixp_transport.specs.Bodies.{answer_of}
 use Rattle.gixp_graph.specs.Object.{Objects}
 use Rattle.gixp_memory.specs.Repository.{with_id}
 use Rattle.gixp_records.specs.declared.spec_text.SpecsRefused.{SpecsRefused}

@@ -10,7 +10,7 @@ use gixp_memory::StoredObjects;
 use gixp_records::{SpecsRefused, specs_in};
 use gixp_refmap::refmap::init::Context;
 use gixp_refspec::{RefSpec, RefSpecRef};
-use gixp_wire::Body;
+use gixp_transport::Body;
 use std::alloc::{AllocError, Global};
 
 fn ids_from(alloc: Global, whole: &[[u8; 20]]) -> Result<Vec<ObjectId>, AllocError>

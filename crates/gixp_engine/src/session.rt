@@ -8,7 +8,7 @@ ghost use Rattle.gixp_engine.specs.Alone.{engine_agent, engine_call, end_of_fetc
 
 use crate::consumer::{LeavePack, Left};
 use crate::error::EngineError;
-use crate::step::Wishes;
+use crate::step::SessionInput;
 use gixp_fetch::consume::ConsumePack;
 use gixp_fetch::error::Error as FetchError;
 use gixp_fetch::fetch::fetch;
@@ -30,7 +30,7 @@ use gixp_requests::agent_feature;
 use gixp_requests::command::CommandTable;
 use gixp_shallow::{Shallow, ShallowMemory, ShallowStore};
 use gixp_sidebands::{Interrupt, NeverInterrupt};
-use gixp_wire::{Feature, Service, Transport};
+use gixp_transport::{Feature, Service, Transport};
 use std::alloc::{AllocError, Global};
 
 // The feature `agent`.
@@ -227,7 +227,7 @@ fn end_of(
 pub(crate) fn run<'a, O: Objects, T: Transport>(
     alloc: Global,
     objects: &'a O,
-    wishes: Wishes,
+    input: SessionInput,
     transport: &mut T,
 ) -> Result<Option<Protocol>, EngineError>
     ensures { EngineSession
@@ -235,16 +235,16 @@ pub(crate) fn run<'a, O: Objects, T: Transport>(
         (parties_of ⟦<Negotiation<'a, O, NoRefs, HaveList, NoObjects, AllocError> as Negotiate>⟧.calls
         ⟦<ShallowMemory as ShallowStore>⟧.calls ⟦<NeverInterrupt as Interrupt>⟧.says
         ⟦<LeavePack as ConsumePack<Discard>>⟧.consumes T.is_plain)
-        (OffersAlone objects.now wishes.haves.items m wishes.shallow) wishes.boundary.items
-        (engine_call h (shallow_value wishes.shallow)) old new r)
-        wishes.specs T.is_plain (T.reading transport.old) (T.reading transport.new) result }
+        (OffersAlone objects.now input.haves.items m input.shallow) input.boundary.items
+        (engine_call h (shallow_value input.shallow)) old new r)
+        input.specs T.is_plain (T.reading transport.old) (T.reading transport.new) result }
 {
-    let Wishes {
+    let SessionInput {
         specs,
         haves,
         shallow,
         boundary,
-    } = wishes;
+    } = input;
     let mut handshake = match greet(alloc, transport) {
         Ok(handshake) => handshake,
         Err(e) => return Err(EngineError::Handshake(e)),

@@ -26,17 +26,17 @@ pub fn promised_fetch<'a, T: Transport + Drop, W: Write>(
     repository: Repository<'a, StoredObjects, StoredRefs>,
     pack: &mut CopyPack<W>,
 ) -> Result<(RefMap, Fetched), Error>
-    ensures { IfOk result (λ came. ((came.0.mappings.items ≡ []) × (came.1.outcome ≡ None) × (pack.new ≡ pack.old))
+    ensures { IfOk result (λ received. ((received.0.mappings.items ≡ []) × (received.1.outcome ≡ None) × (pack.new ≡ pack.old))
         ⊎ ((end : Reading) × IsOneRun
         (parties_of ⟦<SessionNegotiation<'a, StoredObjects, StoredRefs, AnyNegotiator> as Negotiate>⟧.calls
         ⟦<ShallowMemory as ShallowStore>⟧.calls ⟦<NeverInterrupt as Interrupt>⟧.says ⟦<CopyPack<W> as ConsumePack<Discard>>⟧.consumes
         T.is_plain)
         ⟦<SessionNegotiation<'a, StoredObjects, StoredRefs, AnyNegotiator> as NegotiatesMap>⟧.map_of
         ⟦<SessionNegotiation<'a, StoredObjects, StoredRefs, AnyNegotiator> as NegotiatesMap>⟧.knows
-        (client_feature (codes "first/1.0")) [] request.now (T.reading transport) came.0
+        (client_feature (codes "first/1.0")) [] request.now (T.reading transport) received.0
         (session_knowledge request.now (⟦<StoredObjects as Find>⟧.contents repository.entry.objects.now)
         (⟦<StoredRefs as RefStore>⟧.refs repository.entry.refs.now))
-        repository.entry.boundary.now pack.old (Ok came.1.outcome) end pack.new)) }
+        repository.entry.boundary.now pack.old (Ok received.1.outcome) end pack.new)) }
 {
     fetch_once(
         alloc,

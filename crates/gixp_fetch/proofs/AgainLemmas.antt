@@ -13,7 +13,7 @@ use Rattle.gixp_negotiate.specs.declared.negotiate.Round.{Round}
 use Rattle.gixp_negotiate.specs.Negotiate.{Window}
 use Rattle.gixp_negotiate.specs.Rounds.{commons, commons_of, is_same_id, has_id, keeping, keeping_all, kept_with, kept_ids, have_line}
 use Rattle.gixp_fetch.specs.FetchRounds.{At, Turn, Manner, Turns, Rounds}
-use Rattle.gixp_fetch.specs.Again.{Renames, StandsAlone, NamesAgain, NamesAll, named_in}
+use Rattle.gixp_fetch.specs.Again.{Renames, HasIndependentRequests, NamesAgain, NamesAll, named_in}
 use Rattle.gixp_shallow.proofs.SetLemmas.{no_member, first_member, later_member, member_cases}
 use Rattle.gixp_fetch.proofs.SentLemmas.{turn_written}
 
@@ -195,7 +195,7 @@ module _ {N I A : Type 0} (m : Manner N I A) (law : Renames m.goes) where
             (subst (λ xs. Contains xs id) (sym (append_assoc ids (commons t.reply.acknowledgements) (named_in ts))) c);
       }
 
-  first_knows : (start : At N I) → StandsAlone start → Knows start start.asked.lines []
+  first_knows : (start : At N I) → HasIndependentRequests start → Knows start start.asked.lines []
   first_knows start s = record {
     kept = [];
     is_kept = s.kept;
@@ -204,16 +204,16 @@ module _ {N I A : Type 0} (m : Manner N I A) (law : Renames m.goes) where
     alone = s.alone;
   }
 
-  pub rounds_name : (start end : At N I) (ts : List (Turn N I)) → StandsAlone start → Rounds m start ts end
+  pub rounds_name : (start end : At N I) (ts : List (Turn N I)) → HasIndependentRequests start → Rounds m start ts end
       → NamesAgain start.asked.lines [] ts
   rounds_name start end ts s r = run_names start end ts start.asked.lines [] (first_knows start s) r
 
-  pub last_names : (start before : At N I) (ts : List (Turn N I)) (last : Turn N I) → StandsAlone start → Rounds m start ts before
+  pub last_names : (start before : At N I) (ts : List (Turn N I)) (last : Turn N I) → HasIndependentRequests start → Rounds m start ts before
       → Turns m before last → NamesAgain start.asked.lines [] (ts ++ last ∷ [])
   last_names start before ts last s r h = more_names start before ts last start.asked.lines [] (first_knows start s) r h
 
   pub unanswered_names : (start before : At N I) (ts : List (Turn N I)) (round : Round) (done : Bool) (next : N) (window : Window)
-      (asked : ArgumentsValue) → StandsAlone start → Rounds m start ts before
+      (asked : ArgumentsValue) → HasIndependentRequests start → Rounds m start ts before
       → m.goes before.negotiate before.window before.asked before.previous round done next window asked
       → NamesAll start.asked.lines (named_in ts) asked
   unanswered_names start before ts round done next window asked s r goes =

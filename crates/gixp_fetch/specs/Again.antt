@@ -20,7 +20,7 @@ pub record Renames {N : Type 0} (goes : Goes N) : Type 0 where
       → (haves : List ObjectId) × (b ≡ asks_haves (kept_ids t.kept ++ haves) a)
 
 -- rounds whose requests are complete in themselves begin here: no id is recorded yet, and there was no response
-pub record StandsAlone {N I : Type 0} (start : At N I) : Type 0 where
+pub record HasIndependentRequests {N I : Type 0} (start : At N I) : Type 0 where
   pub kept : start.window.kept ≡ Some []
   pub first : start.previous ≡ None
   pub alone : (is_v2 start.asked.version ≡ true) ⊎ (start.reading.held.persists ≡ false)

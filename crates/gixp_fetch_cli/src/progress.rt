@@ -18,7 +18,7 @@ pub struct TerminalProgress<'a> {
 }
 
 impl Progress for TerminalProgress<'_> {
-    ghost told = { λ _ _ _. ⊤ };
+    ghost reported = { λ _ _ _. ⊤ };
 
     ghost name_of = { λ _. None };
 
@@ -99,7 +99,7 @@ impl Drop for ProgressLines<'_> {
 }
 
 impl Progress for ProgressLines<'_> {
-    ghost told = { λ _ _ _. ⊤ };
+    ghost reported = { λ _ _ _. ⊤ };
 
     ghost name_of = { λ _. None };
 

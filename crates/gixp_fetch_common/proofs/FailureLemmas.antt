@@ -29,7 +29,7 @@ by_list caps e h = elim h [
 -- an error of the list is an error of the ref map
 pub unmapped : (caps : List CapabilityValue) (phase : Phase) (f : Failure) → FailsWithin phase (IsUnlisted caps) f
     → FailsWithin phase (IsUnmapped caps) f
-unmapped caps phase f h = record { error = h.error; holds = by_list caps h.error h.holds; told = h.told }
+unmapped caps phase f h = record { error = h.error; holds = by_list caps h.error h.holds; reported = h.reported }
 
 -- a list that fails
 pub unlisted_of : (listed : Result (Vec Ref Global) ListError) (is_ended : Bool) (e : Error) → whole_refs listed is_ended ≡ Err e

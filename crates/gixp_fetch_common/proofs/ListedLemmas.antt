@@ -46,9 +46,9 @@ counted (suc k) n m h e = omega (arith, e)
 pub line_read : (before after : Option (List ℕ)) (old line : List ℕ) → old ≡ [] → 0 < length line
     → IfSome before (λ xs. line ≡ old ++ take_through 10 xs) → DropsThrough before after 10
     → ReadsTextLines before (strip_last 10 line ∷ []) after
-line_read None after old line none some is behind = tt
-line_read (Some xs) None old line none some is behind = absurd (none-some _ behind)
-line_read (Some xs) (Some rest) old line none some is behind =
+line_read None after old line none some is following = tt
+line_read (Some xs) None old line none some is following = absurd (none-some _ following)
+line_read (Some xs) (Some rest) old line none some is following =
     let whole : line ≡ take_through 10 xs = is ∙ ap (λ l. l ++ take_through 10 xs) none in
     let left : rest ≡ drop_through 10 xs = cc in
     first_line_of xs (some_first xs (subst (λ l. 0 < length l) whole some))

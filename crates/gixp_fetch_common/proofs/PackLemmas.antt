@@ -110,7 +110,7 @@ refused_read old w start now end read e kind h t is = (
   read
       ++ t.lost,
   came_more old w start now end read t.lost h t.rest t.ending (fails_held (side_reading now) (side_reading end) t.refusal t.fails),
-  record { read = read; now = now; why = e; copied = h; refuses = t; told = is },
+  record { read = read; now = now; why = e; copied = h; refuses = t; reported = is },
 )
 
 -- a borrowed piece remains

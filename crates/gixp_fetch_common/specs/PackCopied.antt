@@ -34,7 +34,7 @@ pub record RefusedAfter (old : Option (List ℕ)) (start : Side) (new : Option (
   pub why : io_error
   pub copied : CopiedNext old start read new now
   pub refuses : RefusesContent now end why
-  pub told : kind ≡ error_kind why
+  pub reported : kind ≡ error_kind why
 
 -- content was at hand for the writer, once it had got these bytes
 pub record ShownAfter (old : Option (List ℕ)) (start end : Side) : Type 0 where

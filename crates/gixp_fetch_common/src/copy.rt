@@ -19,7 +19,7 @@ pub enum StreamError {
     #[error("the pack can't be written: {0:?}")]
     Write(ErrorKind),
     /// The bytes are no whole pack.
-    #[error("what came is no whole pack: {0}")]
+    #[error("the received data is not a complete pack: {0}")]
     Pack(PackError),
     /// An allocation failed.
     #[error("out of memory")]

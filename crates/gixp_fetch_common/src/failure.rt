@@ -233,7 +233,7 @@ impl Display for Failure {
             Failure::ServerFailed => write!(f, "the server reported an error"),
             Failure::UnknownUnshallow { id } => write!(f, "no shallow found: unshallow {id}"),
             Failure::File { path, kind } => write!(f, "{path}: {}", kind_text(*kind)),
-            Failure::Line { path, line } => write!(f, "{path}: line {line} isn't readable"),
+            Failure::Line { path, line } => write!(f, "{path}: line {line} is malformed"),
             Failure::PackRefused => write!(f, "git refused the pack"),
             Failure::Missing { name } => write!(f, "couldn't find remote ref {name}"),
             Failure::Io(kind) => { write!(f, "standard input or output: {}", kind_text(*kind)) },

@@ -104,7 +104,7 @@ impl<R: BufRead> CommitText<R> {
     // Stores the refusal, and returns its error.
     fn refuse(&mut self, refusal: Refusal) -> NegotiatorError
         ensures refusal { self.new.refusal ≡ Some refusal }
-        ensures told { result ≡ error_of_refusal refusal }
+        ensures reported { result ≡ error_of_refusal refusal }
         ensures text { self.new.text ≡ self.old.text }
         ensures line { self.new.line ≡ self.old.line }
         ensures lines { self.new.lines ≡ self.old.lines }

@@ -37,7 +37,7 @@ impl Display for ReceiveError {
                 write!(f, "the pack can't be written: {}", kind_text(*kind))
             }
             ReceiveError::Stream(StreamError::Pack(e)) => {
-                write!(f, "what came is no whole pack: {e}")
+                write!(f, "the received data is not a complete pack: {e}")
             }
             ReceiveError::Stream(StreamError::Memory) => f.write_str("out of memory"),
         }

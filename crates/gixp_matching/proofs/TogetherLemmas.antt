@@ -12,7 +12,7 @@ use Rattle.std.proofs.lemmas.List.Sorted.{ranks_by, sorted_far}
 use Rattle.std.proofs.lemmas.Slice.Eq.{bytes_eq-Decides}
 use Rattle.gixp_matching.specs.declared.match_group.validate.groups.Named.{Named}
 use Rattle.gixp_matching.specs.Digest.{digest}
-use Rattle.gixp_matching.specs.Groups.{shown, numbered, behind, has_number, after_run, AreTogether}
+use Rattle.gixp_matching.specs.Groups.{shown, numbered, following, has_number, after_run, AreTogether}
 use Rattle.gixp_matching.specs.Mappings.{Mapped, local_eq}
 use Rattle.gixp_matching.specs.Validation.{of_local}
 use Rattle.gixp_matching.proofs.ListLemmas.{kept_same}
@@ -115,12 +115,12 @@ abbrev with_number : ℕ → List Shown → List Mapped
 with_number n ts = map (λ t. t.1) (filter (λ t. t.0 == n) ts)
 
 behind_shown : {M : Type 0} (f : M → Mapped) (n : ℕ) (rows : List (Named M))
-    → behind f (filter (has_number n) rows) ≡ with_number n (map (shown f) rows)
+    → following f (filter (has_number n) rows) ≡ with_number n (map (shown f) rows)
 behind_shown f n [] = refl
 behind_shown f n (row ∷ rows) = elim (cases_Bool (has_number n row)) [
-  | inl t ↦ ap (behind f) (cond-true _ _ _ t) ∙ ap (λ l. (shown f row).1 ∷ l) (behind_shown f n rows)
+  | inl t ↦ ap (following f) (cond-true _ _ _ t) ∙ ap (λ l. (shown f row).1 ∷ l) (behind_shown f n rows)
       ∙ sym (ap (map (λ (t : Shown). t.1)) (cond-true _ _ _ t))
-  | inr e ↦ ap (behind f) (cond-false _ _ _ e) ∙ behind_shown f n rows ∙ sym (ap (map (λ (t : Shown). t.1)) (cond-false _ _ _ e))
+  | inr e ↦ ap (following f) (cond-false _ _ _ e) ∙ behind_shown f n rows ∙ sym (ap (map (λ (t : Shown). t.1)) (cond-false _ _ _ e))
 ]
 
 other_name : (name own : List ℕ) (n : ℕ) (m : Mapped) (ts : List Shown) → local_eq m.local (Some name) ≡ false
@@ -163,6 +163,6 @@ local_numbered name n (m ∷ ms) = at (local_numbered name n ms) m.local refl wh
 
 -- the rows with the hash of a name contain all mappings with the name, and rows with other hashes none
 pub rows_local : {M : Type 0} (f : M → Mapped) (ms : List Mapped) (rows : List (Named M)) → map (shown f) rows ≡ flat_map numbered ms
-    → (name : List ℕ) (n : ℕ) → of_local name (behind f (filter (has_number n) rows)) ≡ cond (digest name == n) (of_local name ms) []
+    → (name : List ℕ) (n : ℕ) → of_local name (following f (filter (has_number n) rows)) ≡ cond (digest name == n) (of_local name ms) []
 rows_local f ms rows is name n =
     ap (of_local name) (behind_shown f n rows ∙ ap (with_number n) is) ∙ local_numbered name n ms

@@ -60,7 +60,7 @@ impl StoredObjects {
         }
     }
 
-    fn put(
+    fn add_object(
         &mut self,
         id: ObjectId,
         kind: Option<ObjectKind>,
@@ -84,7 +84,7 @@ impl StoredObjects {
         if self.has_object(&id) {
             return Ok(());
         }
-        self.put(id, kind, None)
+        self.add_object(id, kind, None)
     }
 
     /// Adds an object of a kind. An existing object with this id stays the same.
@@ -120,7 +120,7 @@ impl StoredObjects {
         ensures ok { OnOk result (self.new ≡ with_commit self.old id (commit_of commit)) }
         ensures err { OnErr result (self.new ≡ self.old) }
     {
-        self.put(id, Some(ObjectKind::Commit), Some(commit))
+        self.add_object(id, Some(ObjectKind::Commit), Some(commit))
     }
 
     // Adds the commit of a line. Returns false where the line isn't a commit's.

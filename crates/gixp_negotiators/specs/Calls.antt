@@ -6,8 +6,8 @@ use Rattle.gixp_graph.specs.GraphData.{GraphData}
 use Rattle.gixp_negotiators.specs.declared.consecutive.Consecutive.{Consecutive}
 use Rattle.gixp_negotiators.specs.declared.queue.Waiting.{Waiting}
 use Rattle.gixp_negotiators.specs.declared.skipping.Skipping.{Skipping}
-use Rattle.gixp_negotiators.specs.Marks.{COMMON, SEEN, Grows, Offers, SeesNone, SeesOnly, SettlesNone, ListsNone, ListsOnly, PopsNone, StaysIfSeen, IsMarkedIfThere, IsListedIfNew, has_mark}
-use Rattle.gixp_negotiators.specs.Spread.{is_there, was_seen, WhereNew, HasCommonParents, StaysSpread, Spreads, AllRead, AllHeld, MarksThrough, SettlesFrom, SeesCommon, SeesAmong, FindsCommon}
+use Rattle.gixp_negotiators.specs.Marks.{COMMON, SEEN, Grows, Offers, SeesNone, SeesOnly, MarksNoCommon, ListsNone, ListsOnly, PopsNone, StaysIfSeen, IsMarkedIfThere, IsListedIfNew, has_mark}
+use Rattle.gixp_negotiators.specs.Spread.{is_there, was_seen, WhereNew, HasCommonParents, StaysSpread, Spreads, AllRead, AllHeld, MarksThrough, MarksCommonFrom, SeesCommon, SeesAmong, FindsCommon}
 use Rattle.gixp_negotiators.specs.Passing.{Distances}
 use Rattle.gixp_negotiators.specs.Waiting.{FitsSeen, KeepsTimed, KeepsCount, Picks, EndsAtOnce, QueuesNew, PicksDated, KeepsUnread, IsUnreadIfNew}
 
@@ -32,7 +32,7 @@ pub record KnowsInTurn (n : Consecutive) (g : GraphData) (id : ObjectId) (m : Co
   pub pops : PopsNone g h
   pub parents : WhereNew g id (HasCommonParents is_there g h id)
   pub finds : SeesAmong (id ∷ []) g h
-  pub only : SettlesFrom id g h
+  pub only : MarksCommonFrom id g h
   pub spreads : StaysSpread is_there g h
   pub again : StaysIfSeen n g id m h
   pub steps : Steps n g m h
@@ -42,7 +42,7 @@ pub record AddsInTurn (n : Consecutive) (g : GraphData) (id : ObjectId) (m : Con
   pub grows : Grows g h
   pub seen : IsMarkedIfThere SEEN g h id
   pub sees : SeesOnly id g h
-  pub settles : SettlesNone g h
+  pub settles : MarksNoCommon g h
   pub unlisted : ListsNone g h
   pub pops : PopsNone g h
   pub again : StaysIfSeen n g id m h
@@ -54,7 +54,7 @@ pub record LearnsInTurn (n : Consecutive) (g : GraphData) (id : ObjectId) (m : C
   pub grows : Grows g h
   pub common : IsMarkedIfThere COMMON g h id
   pub finds : SeesCommon g h
-  pub only : SettlesFrom id g h
+  pub only : MarksCommonFrom id g h
   pub unlisted : ListsNone g h
   pub pops : PopsNone g h
   pub spreads : StaysSpread is_there g h
@@ -102,7 +102,7 @@ pub record KnowsSkipping (n : Skipping) (g : GraphData) (id : ObjectId) (m : Ski
   pub sees : SeesOnly id g h
   pub listed : IsListedIfNew g h id
   pub lists : ListsOnly id g h
-  pub settles : SettlesNone g h
+  pub settles : MarksNoCommon g h
   pub pops : PopsNone g h
   pub queues : QueuesDated n g m
   pub skips : m.skips ≡ n.skips
@@ -116,7 +116,7 @@ pub record AddsSkipping (n : Skipping) (g : GraphData) (id : ObjectId) (m : Skip
   pub grows : Grows g h
   pub seen : IsMarkedIfThere SEEN g h id
   pub sees : SeesOnly id g h
-  pub settles : SettlesNone g h
+  pub settles : MarksNoCommon g h
   pub unlisted : ListsNone g h
   pub pops : PopsNone g h
   pub queues : QueuesDated n g m

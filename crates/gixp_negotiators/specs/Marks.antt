@@ -61,12 +61,12 @@ abbrev pub SeesOnly : ObjectId → GraphData → GraphData → Type 0
 SeesOnly one g h = AddsOnly SEEN one g h
 
 -- no commit becomes common
-abbrev pub SettlesNone : GraphData → GraphData → Type 0
-SettlesNone g h = AddsNone COMMON g h
+abbrev pub MarksNoCommon : GraphData → GraphData → Type 0
+MarksNoCommon g h = AddsNone COMMON g h
 
 -- only this commit becomes common
-abbrev pub SettlesOnly : ObjectId → GraphData → GraphData → Type 0
-SettlesOnly one g h = AddsOnly COMMON one g h
+abbrev pub MarksCommonOnly : ObjectId → GraphData → GraphData → Type 0
+MarksCommonOnly one g h = AddsOnly COMMON one g h
 
 -- no commit is newly marked as a ref of the server
 abbrev pub ListsNone : GraphData → GraphData → Type 0

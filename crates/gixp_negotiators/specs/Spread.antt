@@ -6,7 +6,7 @@ use Rattle.gixp_hash.specs.declared.object_id.ObjectId.{ObjectId}
 use Rattle.gixp_hash.specs.ObjectId.{id_cmp}
 use Rattle.gixp_graph.specs.Object.{commit_at}
 use Rattle.gixp_graph.specs.GraphData.{GraphData, parents_in}
-use Rattle.gixp_negotiators.specs.Marks.{COMMON, COMMON_REF, SEEN, has_mark, Grows, SettlesNone}
+use Rattle.gixp_negotiators.specs.Marks.{COMMON, COMMON_REF, SEEN, has_mark, Grows, MarksNoCommon}
 
 -- which parents of a common commit become common: those that the objects have
 abbrev pub is_there : GraphData → ObjectId → Bool
@@ -100,20 +100,20 @@ pub data IsFrom (g : GraphData) (id : ObjectId) : ObjectId → Type 0 where
   parent : {child : ObjectId} {p : ObjectId} → IsFrom g id child → Contains (parents_in g.held child) p → IsFrom g id p
 
 -- each commit that became common is this one or one of its ancestors
-abbrev pub SettlesFrom : ObjectId → GraphData → GraphData → Type 0
-SettlesFrom id g h = (q : ObjectId) → IsNewlyCommon g h q → IsFrom h id q
+abbrev pub MarksCommonFrom : ObjectId → GraphData → GraphData → Type 0
+MarksCommonFrom id g h = (q : ObjectId) → IsNewlyCommon g h q → IsFrom h id q
 
 -- only these commits become common
-abbrev pub SettlesWithin : List ObjectId → GraphData → GraphData → Type 0
-SettlesWithin ids g h = (q : ObjectId) → has_mark COMMON h.held q ≡ true → (has_mark COMMON g.held q ≡ true) ⊎ Contains ids q
+abbrev pub MarksCommonWithin : List ObjectId → GraphData → GraphData → Type 0
+MarksCommonWithin ids g h = (q : ObjectId) → has_mark COMMON h.held q ≡ true → (has_mark COMMON g.held q ≡ true) ⊎ Contains ids q
 
 -- each commit that is due was due before, or is one of these
 abbrev pub OwesAmong : List ObjectId → List ObjectId → List ObjectId → Type 0
 OwesAmong ids before due = All (λ q. Contains before q ⊎ Contains ids q) due
 
 -- only these commits become common, and only those that were seen
-abbrev pub SettlesAmong : List ObjectId → GraphData → GraphData → Type 0
-SettlesAmong ids g h = (q : ObjectId) → has_mark COMMON h.held q ≡ true → (has_mark COMMON g.held q ≡ true)
+abbrev pub MarksCommonAmong : List ObjectId → GraphData → GraphData → Type 0
+MarksCommonAmong ids g h = (q : ObjectId) → has_mark COMMON h.held q ≡ true → (has_mark COMMON g.held q ≡ true)
     ⊎ ((has_mark SEEN g.held q ≡ true) × Contains ids q)
 
 -- the commits that the mark spreads to from a commit: itself, and the parents of each of them that was seen and wasn't common
@@ -135,7 +135,7 @@ SeesAmong ids g h = (id : ObjectId) → has_mark SEEN h.held id ≡ true → ((h
 -- or one of its parents, and no commit becomes common
 abbrev pub OpensParents : GraphData → ObjectId → GraphData → Type 0
 OpensParents g one h = ((has_mark COMMON_REF g.held one ≡ true) × SeesCommon g h)
-    ⊎ ((has_mark COMMON_REF g.held one ≡ false) × (SettlesNone g h × SeesAmong (parents_in h.held one) g h))
+    ⊎ ((has_mark COMMON_REF g.held one ≡ false) × (MarksNoCommon g h × SeesAmong (parents_in h.held one) g h))
 
 -- each commit newly seen in a call is common, except those that an offer opens
 abbrev pub FindsCommon : GraphData → Option ObjectId → GraphData → Type 0

@@ -4,9 +4,9 @@ ghost use Rattle.std.specs.Prelude.{IfOk, IfErr, IfSome, IfNone, OnOk, OnSome, I
 ghost use Rattle.std.specs.BinaryHeap.{heap_len, heap_items};
 ghost use Rattle.std.specs.List.Sorted.{IsPermutation};
 ghost use Rattle.gixp_graph.specs.GraphData.{parents_in};
-ghost use Rattle.gixp_graph.specs.Negotiation.{IsMemory, IsRefusal, TellsWhy};
-ghost use Rattle.gixp_negotiators.specs.Marks.{COMMON, COMMON_REF, SEEN, POPPED, Grows, SeesNone, SeesOnly, SettlesNone, SettlesOnly, ListsNone, ListsOnly, PopsNone, StaysIfSeen, IsOffered, IsMarkedIfThere, IsMarkedIfNew, IsListedIfNew, has_mark, has_all, left};
-ghost use Rattle.gixp_negotiators.specs.Spread.{is_there, IsKnown, WhereOpen, WhereNew, AllCommonAmong, SeesCommon, SeesAmong, OpensParents, FindsCommon, HasCommonParents, SettlesFrom, SettlesWithin, OwesAmong};
+ghost use Rattle.gixp_graph.specs.Negotiation.{IsMemory, IsRefusal, ErrorIsLookupRefusal};
+ghost use Rattle.gixp_negotiators.specs.Marks.{COMMON, COMMON_REF, SEEN, POPPED, Grows, SeesNone, SeesOnly, MarksNoCommon, MarksCommonOnly, ListsNone, ListsOnly, PopsNone, StaysIfSeen, IsOffered, IsMarkedIfThere, IsMarkedIfNew, IsListedIfNew, has_mark, has_all, left};
+ghost use Rattle.gixp_negotiators.specs.Spread.{is_there, IsKnown, WhereOpen, WhereNew, AllCommonAmong, SeesCommon, SeesAmong, OpensParents, FindsCommon, HasCommonParents, MarksCommonFrom, MarksCommonWithin, OwesAmong};
 ghost use Rattle.gixp_negotiators.specs.Spread.{KeepsSpread, SpreadsFrom, SpreadsAllFrom, StaysSpread};
 ghost use Rattle.gixp_negotiators.specs.Waiting.{Fits, AllCommon, EndsAtOnce, IsNewest, IsNewestTimed};
 ghost use Rattle.gixp_negotiators.specs.Calls.{Steps, StepsTaking};
@@ -60,8 +60,8 @@ impl Consecutive {
         ensures common { left COMMON graph.new.graph ≤ left COMMON graph.old.graph }
         ensures waits { OnOk result (IsMarkedIfThere SEEN graph.old.graph graph.new.graph id.now) }
         ensures spreads { OnOk result (StaysSpread is_there graph.old.graph graph.new.graph) }
-        ensures settles { bit_and marks.0 COMMON ≡ 0 → SettlesNone graph.old.graph graph.new.graph }
-        ensures settles_only { SettlesOnly id.now graph.old.graph graph.new.graph }
+        ensures settles { bit_and marks.0 COMMON ≡ 0 → MarksNoCommon graph.old.graph graph.new.graph }
+        ensures marks_common_only { MarksCommonOnly id.now graph.old.graph graph.new.graph }
         ensures marked { OnOk result (IsMarkedIfNew marks.0 graph.old.graph graph.new.graph id.now) }
         ensures sees_only { SeesOnly id.now graph.old.graph graph.new.graph }
         ensures finds { OnOk result (bit_and marks.0 COMMON ≡ COMMON → SeesCommon graph.old.graph graph.new.graph) }
@@ -73,7 +73,7 @@ impl Consecutive {
         ensures failures { graph.old.failures ≤ graph.new.failures }
         ensures failed { IfErr result (IsRefusal 0 0 graph.old.failures graph.new.failures) }
         ensures unrefused { OnOk result (graph.new.refusals ≡ graph.old.refusals) }
-        ensures refused { IfErr result (λ e. TellsWhy e graph.old.refusals graph.new.refusals) }
+        ensures refused { IfErr result (λ e. ErrorIsLookupRefusal e graph.old.refusals graph.new.refusals) }
     {
         let Some((time, flags)) = claim(graph, id, Flags::SEEN, marks)? else {
             return Ok(());
@@ -113,7 +113,7 @@ impl Consecutive {
     }
 
     // Marks a commit as common. Returns false where it isn't found or was common before.
-    fn settle<O: Objects>(
+    fn make_common<O: Objects>(
         &mut self,
         graph: &mut Graph<O>,
         id: &ObjectId,
@@ -124,8 +124,8 @@ impl Consecutive {
         ensures marked { OnOk result (IsMarkedIfThere COMMON graph.old.graph graph.new.graph id.now) }
         ensures seen { left SEEN graph.new.graph ≤ left SEEN graph.old.graph }
         ensures queue { self.new.queue ≡ self.old.queue }
-        ensures kept { IfOk result (λ done. done ≡ false → SettlesNone graph.old.graph graph.new.graph) }
-        ensures settles_only { SettlesOnly id.now graph.old.graph graph.new.graph }
+        ensures kept { IfOk result (λ done. done ≡ false → MarksNoCommon graph.old.graph graph.new.graph) }
+        ensures marks_common_only { MarksCommonOnly id.now graph.old.graph graph.new.graph }
         ensures sees { SeesNone graph.old.graph graph.new.graph }
         ensures settled { IfOk result (λ done. IsTrue done → has_mark COMMON graph.new.graph.held id.now ≡ true) }
         ensures lists { OnOk result (ListsNone graph.old.graph graph.new.graph) }
@@ -134,7 +134,7 @@ impl Consecutive {
         ensures failures { graph.old.failures ≤ graph.new.failures }
         ensures failed { IfErr result (IsRefusal 0 0 graph.old.failures graph.new.failures) }
         ensures unrefused { OnOk result (graph.new.refusals ≡ graph.old.refusals) }
-        ensures refused { IfErr result (λ e. TellsWhy e graph.old.refusals graph.new.refusals) }
+        ensures refused { IfErr result (λ e. ErrorIsLookupRefusal e graph.old.refusals graph.new.refusals) }
     {
         let Some((_, flags)) = claim(graph, id, Flags::COMMON, Flags::COMMON)? else {
             return Ok(false);
@@ -162,15 +162,15 @@ impl Consecutive {
         ensures common { OnOk result (AllCommonAmong graph.old.graph due.old.items → AllCommonAmong graph.new.graph due.new.items) }
         ensures lists { OnOk result (ListsNone graph.old.graph graph.new.graph) }
         ensures pops { OnOk result (PopsNone graph.old.graph graph.new.graph) }
-        ensures settles_only { SettlesOnly id.now graph.old.graph graph.new.graph }
+        ensures marks_common_only { MarksCommonOnly id.now graph.old.graph graph.new.graph }
         ensures owes { OnOk result (OwesAmong (id.now ∷ []) due.old.items due.new.items) }
         ensures grows { Grows graph.old.graph graph.new.graph }
         ensures failures { graph.old.failures ≤ graph.new.failures }
         ensures failed { IfErr result (IsRefusal 0 0 graph.old.failures graph.new.failures) }
         ensures unrefused { OnOk result (graph.new.refusals ≡ graph.old.refusals) }
-        ensures refused { IfErr result (λ e. TellsWhy e graph.old.refusals graph.new.refusals) }
+        ensures refused { IfErr result (λ e. ErrorIsLookupRefusal e graph.old.refusals graph.new.refusals) }
     {
-        if !self.settle(graph, id)? {
+        if !self.make_common(graph, id)? {
             return Ok(());
         }
         Ok(due.push(*id)?)
@@ -205,13 +205,13 @@ impl Consecutive {
         ensures common { OnOk result (AllCommonAmong graph.old.graph due.old.items → AllCommonAmong graph.new.graph due.new.items) }
         ensures lists { OnOk result (ListsNone graph.old.graph graph.new.graph) }
         ensures pops { OnOk result (PopsNone graph.old.graph graph.new.graph) }
-        ensures among { OnOk result (SettlesWithin ids.now graph.old.graph graph.new.graph) }
+        ensures among { OnOk result (MarksCommonWithin ids.now graph.old.graph graph.new.graph) }
         ensures owes { OnOk result (OwesAmong ids.now due.old.items due.new.items) }
         ensures grows { Grows graph.old.graph graph.new.graph }
         ensures failures { graph.old.failures ≤ graph.new.failures }
         ensures failed { IfErr result (IsRefusal 0 0 graph.old.failures graph.new.failures) }
         ensures unrefused { OnOk result (graph.new.refusals ≡ graph.old.refusals) }
-        ensures refused { IfErr result (λ e. TellsWhy e graph.old.refusals graph.new.refusals) }
+        ensures refused { IfErr result (λ e. ErrorIsLookupRefusal e graph.old.refusals graph.new.refusals) }
     {
         for id in ids {
             self.reach(graph, id, due)?;
@@ -238,13 +238,13 @@ impl Consecutive {
         ensures common { OnOk result (AllCommonAmong graph.old.graph due.old.items → AllCommonAmong graph.new.graph due.new.items) }
         ensures lists { OnOk result (ListsNone graph.old.graph graph.new.graph) }
         ensures pops { OnOk result (PopsNone graph.old.graph graph.new.graph) }
-        ensures among { OnOk result (SettlesWithin (parents_in graph.new.graph.held id.now) graph.old.graph graph.new.graph) }
+        ensures among { OnOk result (MarksCommonWithin (parents_in graph.new.graph.held id.now) graph.old.graph graph.new.graph) }
         ensures owes { OnOk result (OwesAmong (parents_in graph.new.graph.held id.now) due.old.items due.new.items) }
         ensures grows { Grows graph.old.graph graph.new.graph }
         ensures failures { graph.old.failures ≤ graph.new.failures }
         ensures failed { IfErr result (IsRefusal 0 0 graph.old.failures graph.new.failures) }
         ensures unrefused { OnOk result (graph.new.refusals ≡ graph.old.refusals) }
-        ensures refused { IfErr result (λ e. TellsWhy e graph.old.refusals graph.new.refusals) }
+        ensures refused { IfErr result (λ e. ErrorIsLookupRefusal e graph.old.refusals graph.new.refusals) }
     {
         let Some((_, flags)) = look(graph, id)? else {
             return Ok(());
@@ -273,12 +273,12 @@ impl Consecutive {
         ensures finds { OnOk result (IsKnown graph.old.graph id.now → SeesCommon graph.old.graph graph.new.graph) }
         ensures lists { OnOk result (ListsNone graph.old.graph graph.new.graph) }
         ensures pops { OnOk result (PopsNone graph.old.graph graph.new.graph) }
-        ensures only { OnOk result (SettlesFrom id.now graph.old.graph graph.new.graph) }
+        ensures only { OnOk result (MarksCommonFrom id.now graph.old.graph graph.new.graph) }
         ensures grows { Grows graph.old.graph graph.new.graph }
         ensures failures { graph.old.failures ≤ graph.new.failures }
         ensures failed { IfErr result (IsRefusal 0 0 graph.old.failures graph.new.failures) }
         ensures unrefused { OnOk result (graph.new.refusals ≡ graph.old.refusals) }
-        ensures refused { IfErr result (λ e. TellsWhy e graph.old.refusals graph.new.refusals) }
+        ensures refused { IfErr result (λ e. ErrorIsLookupRefusal e graph.old.refusals graph.new.refusals) }
     {
         let mut due = Vec::new(self.alloc);
         self.spread(graph, id, &mut due)?;
@@ -303,12 +303,12 @@ impl Consecutive {
         ensures finds { OnOk result (IsKnown graph.old.graph id.now → SeesCommon graph.old.graph graph.new.graph) }
         ensures lists { OnOk result (ListsNone graph.old.graph graph.new.graph) }
         ensures pops { OnOk result (PopsNone graph.old.graph graph.new.graph) }
-        ensures only { OnOk result (SettlesFrom id.now graph.old.graph graph.new.graph) }
+        ensures only { OnOk result (MarksCommonFrom id.now graph.old.graph graph.new.graph) }
         ensures grows { Grows graph.old.graph graph.new.graph }
         ensures failures { graph.old.failures ≤ graph.new.failures }
         ensures failed { IfErr result (IsRefusal 0 0 graph.old.failures graph.new.failures) }
         ensures unrefused { OnOk result (graph.new.refusals ≡ graph.old.refusals) }
-        ensures refused { IfErr result (λ e. TellsWhy e graph.old.refusals graph.new.refusals) }
+        ensures refused { IfErr result (λ e. ErrorIsLookupRefusal e graph.old.refusals graph.new.refusals) }
     {
         let Some((_, flags)) = look(graph, id)? else {
             return Ok(());
@@ -331,15 +331,15 @@ impl Consecutive {
         ensures lists { OnOk result (ListsNone graph.old.graph graph.new.graph) }
         ensures pops { OnOk result (PopsNone graph.old.graph graph.new.graph) }
         ensures finds { OnOk result (SeesCommon graph.old.graph graph.new.graph) }
-        ensures only { OnOk result (SettlesFrom id.now graph.old.graph graph.new.graph) }
+        ensures only { OnOk result (MarksCommonFrom id.now graph.old.graph graph.new.graph) }
         ensures grows { Grows graph.old.graph graph.new.graph }
         ensures common { OnOk result (IsMarkedIfThere COMMON graph.old.graph graph.new.graph id.now) }
         ensures failures { graph.old.failures ≤ graph.new.failures }
         ensures failed { IfErr result (IsRefusal 0 0 graph.old.failures graph.new.failures) }
         ensures unrefused { OnOk result (graph.new.refusals ≡ graph.old.refusals) }
-        ensures refused { IfErr result (λ e. TellsWhy e graph.old.refusals graph.new.refusals) }
+        ensures refused { IfErr result (λ e. ErrorIsLookupRefusal e graph.old.refusals graph.new.refusals) }
     {
-        if !self.settle(graph, id)? {
+        if !self.make_common(graph, id)? {
             return Ok(());
         }
         self.spread_all(graph, id)?;
@@ -362,12 +362,12 @@ impl Consecutive {
         ensures others { is_common ≡ false → OnOk result (SeesOnly parent.now graph.old.graph graph.new.graph) }
         ensures lists { OnOk result (ListsNone graph.old.graph graph.new.graph) }
         ensures pops { OnOk result (PopsNone graph.old.graph graph.new.graph) }
-        ensures settles { is_common ≡ false → OnOk result (SettlesNone graph.old.graph graph.new.graph) }
+        ensures settles { is_common ≡ false → OnOk result (MarksNoCommon graph.old.graph graph.new.graph) }
         ensures grows { Grows graph.old.graph graph.new.graph }
         ensures failures { graph.old.failures ≤ graph.new.failures }
         ensures failed { IfErr result (IsRefusal 0 0 graph.old.failures graph.new.failures) }
         ensures unrefused { OnOk result (graph.new.refusals ≡ graph.old.refusals) }
-        ensures refused { IfErr result (λ e. TellsWhy e graph.old.refusals graph.new.refusals) }
+        ensures refused { IfErr result (λ e. ErrorIsLookupRefusal e graph.old.refusals graph.new.refusals) }
     {
         if is_common {
             self.push(graph, parent, SEEN_COMMON)?;
@@ -394,12 +394,12 @@ impl Consecutive {
         ensures others { is_common ≡ false → OnOk result (SeesAmong parents.now graph.old.graph graph.new.graph) }
         ensures lists { OnOk result (ListsNone graph.old.graph graph.new.graph) }
         ensures pops { OnOk result (PopsNone graph.old.graph graph.new.graph) }
-        ensures settles { is_common ≡ false → OnOk result (SettlesNone graph.old.graph graph.new.graph) }
+        ensures settles { is_common ≡ false → OnOk result (MarksNoCommon graph.old.graph graph.new.graph) }
         ensures grows { Grows graph.old.graph graph.new.graph }
         ensures failures { graph.old.failures ≤ graph.new.failures }
         ensures failed { IfErr result (IsRefusal 0 0 graph.old.failures graph.new.failures) }
         ensures unrefused { OnOk result (graph.new.refusals ≡ graph.old.refusals) }
-        ensures refused { IfErr result (λ e. TellsWhy e graph.old.refusals graph.new.refusals) }
+        ensures refused { IfErr result (λ e. ErrorIsLookupRefusal e graph.old.refusals graph.new.refusals) }
     {
         for parent in parents {
             self.follow(graph, parent, is_common)?;
@@ -436,7 +436,7 @@ impl Consecutive {
         ensures failures { graph.old.failures ≤ graph.new.failures }
         ensures failed { IfErr result (IsRefusal 0 0 graph.old.failures graph.new.failures) }
         ensures unrefused { OnOk result (graph.new.refusals ≡ graph.old.refusals) }
-        ensures refused { IfErr result (λ e. TellsWhy e graph.old.refusals graph.new.refusals) }
+        ensures refused { IfErr result (λ e. ErrorIsLookupRefusal e graph.old.refusals graph.new.refusals) }
     {
         let Some((_, flags)) = claim(graph, &first.id, Flags::POPPED, Flags::POPPED)? else {
             return Ok(false);
@@ -486,7 +486,7 @@ impl Consecutive {
         ensures failures { graph.old.failures ≤ graph.new.failures }
         ensures failed { IfErr result (IsRefusal 0 0 graph.old.failures graph.new.failures) }
         ensures unrefused { OnOk result (graph.new.refusals ≡ graph.old.refusals) }
-        ensures refused { IfErr result (λ e. TellsWhy e graph.old.refusals graph.new.refusals) }
+        ensures refused { IfErr result (λ e. ErrorIsLookupRefusal e graph.old.refusals graph.new.refusals) }
     {
         while let Some(first) = self.pop() {
             if self.take(graph, &first)? {
@@ -512,12 +512,12 @@ impl Consecutive {
         ensures pops { OnOk result (PopsNone graph.old.graph graph.new.graph) }
         ensures finds { OnOk result (SeesAmong (id.now ∷ []) graph.old.graph graph.new.graph) }
         ensures again { OnOk result (StaysIfSeen self.old graph.old.graph id.now self.new graph.new.graph) }
-        ensures only { OnOk result (SettlesFrom id.now graph.old.graph graph.new.graph) }
+        ensures only { OnOk result (MarksCommonFrom id.now graph.old.graph graph.new.graph) }
         ensures grows { Grows graph.old.graph graph.new.graph }
         ensures failures { graph.old.failures ≤ graph.new.failures }
         ensures failed { IfErr result (IsRefusal 0 0 graph.old.failures graph.new.failures) }
         ensures unrefused { OnOk result (graph.new.refusals ≡ graph.old.refusals) }
-        ensures refused { IfErr result (λ e. TellsWhy e graph.old.refusals graph.new.refusals) }
+        ensures refused { IfErr result (λ e. ErrorIsLookupRefusal e graph.old.refusals graph.new.refusals) }
     {
         let Some((_, flags)) = look(graph, id)? else {
             return Ok(());

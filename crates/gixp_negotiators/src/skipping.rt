@@ -10,9 +10,9 @@ ghost use Rattle.std.specs.List.Sorted.{IsPermutation};
 ghost use Rattle.gixp_graph.specs.Object.{commit_at};
 ghost use Rattle.gixp_graph.specs.GraphData.{GraphData, parents_in};
 ghost use Rattle.gixp_negotiators.specs.declared.queue.Waiting.{Waiting};
-ghost use Rattle.gixp_graph.specs.Negotiation.{IsMemory, IsRefusal, TellsWhy};
-ghost use Rattle.gixp_negotiators.specs.Marks.{COMMON, COMMON_REF, SEEN, POPPED, Grows, SeesNone, SeesOnly, SettlesNone, ListsNone, ListsOnly, PopsNone, StaysIfSeen, IsOffered, IsMarkedIfThere, IsListedIfNew, has_all, has_mark, left};
-ghost use Rattle.gixp_negotiators.specs.Spread.{was_seen, BecomesCommon, KeepsSpread, SpreadsFrom, StaysNewly, AllRead, AllHeld, MarksThrough, SettlesAmong, Spreads};
+ghost use Rattle.gixp_graph.specs.Negotiation.{IsMemory, IsRefusal, ErrorIsLookupRefusal};
+ghost use Rattle.gixp_negotiators.specs.Marks.{COMMON, COMMON_REF, SEEN, POPPED, Grows, SeesNone, SeesOnly, MarksNoCommon, ListsNone, ListsOnly, PopsNone, StaysIfSeen, IsOffered, IsMarkedIfThere, IsListedIfNew, has_all, has_mark, left};
+ghost use Rattle.gixp_negotiators.specs.Spread.{was_seen, BecomesCommon, KeepsSpread, SpreadsFrom, StaysNewly, AllRead, AllHeld, MarksThrough, MarksCommonAmong, Spreads};
 ghost use Rattle.gixp_negotiators.specs.Waiting.{FitsOwing, AllCommon, IsNewest, IsNewestIn, QueuesNew, KeepsUnread, IsUnreadIfNew};
 ghost use Rattle.gixp_negotiators.specs.Calls.{FitsSkipping, CountsStill, CountsTaking, CountsAll};
 ghost use Rattle.gixp_negotiators.specs.declared.skipping.Legacy.TheVariants.{Common, Skips};
@@ -93,7 +93,7 @@ impl Skipping {
             ≤ left SEEN graph.old.graph + heap_len self.old.queue.waiting) }
         ensures waits { OnOk result (IsMarkedIfThere SEEN graph.old.graph graph.new.graph id.now) }
         ensures listed { OnOk result (bit_and marks.0 COMMON_REF ≡ COMMON_REF → IsListedIfNew graph.old.graph graph.new.graph id.now) }
-        ensures settles { SettlesNone graph.old.graph graph.new.graph }
+        ensures settles { MarksNoCommon graph.old.graph graph.new.graph }
         ensures queues { OnOk result (QueuesNew (heap_items self.old.queue.waiting) graph.old.graph (heap_items self.new.queue.waiting)) }
         ensures skips { OnOk result (self.new.skips ≡ self.old.skips) }
         ensures sees { SeesOnly id.now graph.old.graph graph.new.graph }
@@ -107,7 +107,7 @@ impl Skipping {
         ensures failures { graph.old.failures ≤ graph.new.failures }
         ensures failed { IfErr result (IsRefusal 0 0 graph.old.failures graph.new.failures) }
         ensures unrefused { OnOk result (graph.new.refusals ≡ graph.old.refusals) }
-        ensures refused { IfErr result (λ e. TellsWhy e graph.old.refusals graph.new.refusals) }
+        ensures refused { IfErr result (λ e. ErrorIsLookupRefusal e graph.old.refusals graph.new.refusals) }
     {
         let is_read = graph.get(id).is_some();
         let Some((time, _)) = claim(graph, id, Flags::SEEN, marks)? else {
@@ -178,7 +178,7 @@ impl Skipping {
         ensures seen { left SEEN graph.new.graph ≤ left SEEN graph.old.graph }
         ensures spreads { OnOk result (SpreadsFrom was_seen id.now due.old.items graph.old.graph due.new.items graph.new.graph) }
         ensures newly { OnOk result (StaysNewly due.old.items graph.old.graph due.new.items graph.new.graph) }
-        ensures among { OnOk result (SettlesAmong (parents_in graph.old.graph.held id.now) graph.old.graph graph.new.graph) }
+        ensures among { OnOk result (MarksCommonAmong (parents_in graph.old.graph.held id.now) graph.old.graph graph.new.graph) }
         ensures sees { SeesNone graph.old.graph graph.new.graph }
         ensures lists { OnOk result (ListsNone graph.old.graph graph.new.graph) }
         ensures pops { OnOk result (PopsNone graph.old.graph graph.new.graph) }
@@ -186,7 +186,7 @@ impl Skipping {
         ensures failures { graph.old.failures ≤ graph.new.failures }
         ensures failed { IfErr result (IsRefusal 0 0 graph.old.failures graph.new.failures) }
         ensures unrefused { OnOk result (graph.new.refusals ≡ graph.old.refusals) }
-        ensures refused { IfErr result (λ e. TellsWhy e graph.old.refusals graph.new.refusals) }
+        ensures refused { IfErr result (λ e. ErrorIsLookupRefusal e graph.old.refusals graph.new.refusals) }
     {
         let parents = self.parents_of(graph, id)?;
         reach_all(graph, &parents, due)?;
@@ -230,7 +230,7 @@ impl Skipping {
         ensures failures { graph.old.failures ≤ graph.new.failures }
         ensures failed { IfErr result (IsRefusal 0 0 graph.old.failures graph.new.failures) }
         ensures unrefused { OnOk result (graph.new.refusals ≡ graph.old.refusals) }
-        ensures refused { IfErr result (λ e. TellsWhy e graph.old.refusals graph.new.refusals) }
+        ensures refused { IfErr result (λ e. ErrorIsLookupRefusal e graph.old.refusals graph.new.refusals) }
     {
         let mut due = Vec::new(self.alloc);
         reach(graph, id, &mut due)?;
@@ -281,7 +281,7 @@ impl Skipping {
         ensures seen { left SEEN graph.new.graph ≤ left SEEN graph.old.graph }
         ensures queue { self.new.queue ≡ self.old.queue }
         ensures hands { OnOk result (HandsOne legacy id.now self.old.skips.entries self.new.skips.entries) }
-        ensures settles { legacy ≢ Common → OnOk result (SettlesNone graph.old.graph graph.new.graph) }
+        ensures settles { legacy ≢ Common → OnOk result (MarksNoCommon graph.old.graph graph.new.graph) }
         ensures unread { self.new.unread ≡ self.old.unread }
         ensures sees { SeesNone graph.old.graph graph.new.graph }
         ensures lists { OnOk result (ListsNone graph.old.graph graph.new.graph) }
@@ -290,7 +290,7 @@ impl Skipping {
         ensures failures { graph.old.failures ≤ graph.new.failures }
         ensures failed { IfErr result (IsRefusal 0 0 graph.old.failures graph.new.failures) }
         ensures unrefused { OnOk result (graph.new.refusals ≡ graph.old.refusals) }
-        ensures refused { IfErr result (λ e. TellsWhy e graph.old.refusals graph.new.refusals) }
+        ensures refused { IfErr result (λ e. ErrorIsLookupRefusal e graph.old.refusals graph.new.refusals) }
     {
         match legacy {
             Legacy::Common => {
@@ -320,7 +320,7 @@ impl Skipping {
         ensures taken { IfOk result (λ waits. waits ≡ false → has_mark POPPED graph.new.graph.held parent.now ≡ true) }
         ensures hands { OnOk result (Hands legacy (parent.now ∷ []) graph.new.graph self.old.skips.entries self.new.skips.entries) }
         ensures queues { OnOk result (QueuesNew (heap_items self.old.queue.waiting) graph.old.graph (heap_items self.new.queue.waiting)) }
-        ensures settles { legacy ≢ Common → OnOk result (SettlesNone graph.old.graph graph.new.graph) }
+        ensures settles { legacy ≢ Common → OnOk result (MarksNoCommon graph.old.graph graph.new.graph) }
         ensures lists { OnOk result (ListsNone graph.old.graph graph.new.graph) }
         ensures pops { OnOk result (PopsNone graph.old.graph graph.new.graph) }
         ensures unread { OnOk result (KeepsUnread self.old.unread graph.old.graph self.new.unread graph.new.graph) }
@@ -328,7 +328,7 @@ impl Skipping {
         ensures failures { graph.old.failures ≤ graph.new.failures }
         ensures failed { IfErr result (IsRefusal 0 0 graph.old.failures graph.new.failures) }
         ensures unrefused { OnOk result (graph.new.refusals ≡ graph.old.refusals) }
-        ensures refused { IfErr result (λ e. TellsWhy e graph.old.refusals graph.new.refusals) }
+        ensures refused { IfErr result (λ e. ErrorIsLookupRefusal e graph.old.refusals graph.new.refusals) }
     {
         self.push(graph, parent, Flags::SEEN)?;
         if is_marked(graph, parent, Flags::POPPED) {
@@ -354,7 +354,7 @@ impl Skipping {
         ensures taken { IfOk result (λ any. any ≡ false → AllTaken graph.new.graph parents.now) }
         ensures hands { OnOk result (Hands legacy parents.now graph.new.graph self.old.skips.entries self.new.skips.entries) }
         ensures queues { OnOk result (QueuesNew (heap_items self.old.queue.waiting) graph.old.graph (heap_items self.new.queue.waiting)) }
-        ensures settles { legacy ≢ Common → OnOk result (SettlesNone graph.old.graph graph.new.graph) }
+        ensures settles { legacy ≢ Common → OnOk result (MarksNoCommon graph.old.graph graph.new.graph) }
         ensures lists { OnOk result (ListsNone graph.old.graph graph.new.graph) }
         ensures pops { OnOk result (PopsNone graph.old.graph graph.new.graph) }
         ensures unread { OnOk result (KeepsUnread self.old.unread graph.old.graph self.new.unread graph.new.graph) }
@@ -362,7 +362,7 @@ impl Skipping {
         ensures failures { graph.old.failures ≤ graph.new.failures }
         ensures failed { IfErr result (IsRefusal 0 0 graph.old.failures graph.new.failures) }
         ensures unrefused { OnOk result (graph.new.refusals ≡ graph.old.refusals) }
-        ensures refused { IfErr result (λ e. TellsWhy e graph.old.refusals graph.new.refusals) }
+        ensures refused { IfErr result (λ e. ErrorIsLookupRefusal e graph.old.refusals graph.new.refusals) }
     {
         let mut any = false;
         for parent in parents {
@@ -392,7 +392,7 @@ impl Skipping {
         ensures failures { graph.old.failures ≤ graph.new.failures }
         ensures failed { IfErr result (IsRefusal 0 0 graph.old.failures graph.new.failures) }
         ensures unrefused { OnOk result (graph.new.refusals ≡ graph.old.refusals) }
-        ensures refused { IfErr result (λ e. TellsWhy e graph.old.refusals graph.new.refusals) }
+        ensures refused { IfErr result (λ e. ErrorIsLookupRefusal e graph.old.refusals graph.new.refusals) }
     {
         let Some((_, flags)) = claim(graph, &first.id, Flags::POPPED, Flags::POPPED)? else {
             return Ok(false);
@@ -446,7 +446,7 @@ impl Skipping {
         ensures failures { graph.old.failures ≤ graph.new.failures }
         ensures failed { IfErr result (IsRefusal 0 0 graph.old.failures graph.new.failures) }
         ensures unrefused { OnOk result (graph.new.refusals ≡ graph.old.refusals) }
-        ensures refused { IfErr result (λ e. TellsWhy e graph.old.refusals graph.new.refusals) }
+        ensures refused { IfErr result (λ e. ErrorIsLookupRefusal e graph.old.refusals graph.new.refusals) }
     {
         while let Some(first) = self.pop() {
             if self.take(graph, &first)? {
@@ -470,7 +470,7 @@ fn reach<O: Objects>(
     ensures seen { left SEEN graph.new.graph ≤ left SEEN graph.old.graph }
     ensures spreads { OnOk result (KeepsSpread was_seen due.old.items graph.old.graph due.new.items graph.new.graph) }
     ensures newly { OnOk result (StaysNewly due.old.items graph.old.graph due.new.items graph.new.graph) }
-    ensures among { OnOk result (SettlesAmong (id.now ∷ []) graph.old.graph graph.new.graph) }
+    ensures among { OnOk result (MarksCommonAmong (id.now ∷ []) graph.old.graph graph.new.graph) }
     ensures sees { SeesNone graph.old.graph graph.new.graph }
     ensures lists { OnOk result (ListsNone graph.old.graph graph.new.graph) }
     ensures pops { OnOk result (PopsNone graph.old.graph graph.new.graph) }
@@ -478,7 +478,7 @@ fn reach<O: Objects>(
     ensures failures { graph.old.failures ≤ graph.new.failures }
     ensures failed { IfErr result (IsRefusal 0 0 graph.old.failures graph.new.failures) }
     ensures unrefused { OnOk result (graph.new.refusals ≡ graph.old.refusals) }
-    ensures refused { IfErr result (λ e. TellsWhy e graph.old.refusals graph.new.refusals) }
+    ensures refused { IfErr result (λ e. ErrorIsLookupRefusal e graph.old.refusals graph.new.refusals) }
 {
     if !is_due(graph, id) {
         return Ok(());
@@ -513,7 +513,7 @@ fn reach_all<O: Objects>(
     ensures spreads { OnOk result (KeepsSpread was_seen due.old.items graph.old.graph due.new.items graph.new.graph) }
     ensures newly { OnOk result (StaysNewly due.old.items graph.old.graph due.new.items graph.new.graph) }
     ensures common { OnOk result (All (BecomesCommon was_seen graph.old.graph graph.new.graph) ids.now) }
-    ensures among { OnOk result (SettlesAmong ids.now graph.old.graph graph.new.graph) }
+    ensures among { OnOk result (MarksCommonAmong ids.now graph.old.graph graph.new.graph) }
     ensures sees { SeesNone graph.old.graph graph.new.graph }
     ensures lists { OnOk result (ListsNone graph.old.graph graph.new.graph) }
     ensures pops { OnOk result (PopsNone graph.old.graph graph.new.graph) }
@@ -521,7 +521,7 @@ fn reach_all<O: Objects>(
     ensures failures { graph.old.failures ≤ graph.new.failures }
     ensures failed { IfErr result (IsRefusal 0 0 graph.old.failures graph.new.failures) }
     ensures unrefused { OnOk result (graph.new.refusals ≡ graph.old.refusals) }
-    ensures refused { IfErr result (λ e. TellsWhy e graph.old.refusals graph.new.refusals) }
+    ensures refused { IfErr result (λ e. ErrorIsLookupRefusal e graph.old.refusals graph.new.refusals) }
 {
     for id in ids {
         reach(graph, id, due)?;

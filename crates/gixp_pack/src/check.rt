@@ -29,13 +29,13 @@ pub struct PackSummary {
 #[derive(Clone, Copy, Debug, PartialEq, Eq, Error)]
 pub enum PackError {
     /// There are fewer bytes than a header and a trailer have.
-    #[error("it ends early")]
+    #[error("it ends too early")]
     Short,
     /// It doesn't begin with `PACK`.
-    #[error("it doesn't begin as a pack")]
+    #[error("it doesn't begin like a pack")]
     Signature,
     /// Its version is neither 2 nor 3.
-    #[error("it has the version {0}, which is unknown")]
+    #[error("its version {0} is unknown")]
     Version(u32),
     /// The last 20 bytes aren't the SHA-1 of those before them.
     #[error("its checksum is wrong")]

@@ -8,7 +8,7 @@ ghost use Rattle.gixp_packetline.specs.Items.{is_stop};
 ghost use Rattle.std.specs.declared.io.ErrorKind.TheVariants.{Other};
 ghost use Rattle.gixp_packetline.specs.declared.read.Error.TheVariants.{Io, Memory};
 ghost use Rattle.gixp_packetline.specs.declared.packets.Place.TheVariants.{Open};
-ghost use Rattle.gixp_packetline.specs.Packets.{NotesRead, Fills, Settles, Spends, packets_reading, memory_remaining};
+ghost use Rattle.gixp_packetline.specs.Packets.{NotesRead, Fills, FillsHeader, Spends, packets_reading, memory_remaining};
 
 use crate::packet::{Head, read_head};
 use crate::protocol::{MessageKind, Protocol};
@@ -100,13 +100,13 @@ impl Packets<Cursor<Vec<u8>>> {
 }
 
 impl<R: Read> Packets<R> {
-    ghost use Rattle.gixp_packetline.specs.ReadAhead.{StandsAhead};
+    ghost use Rattle.gixp_packetline.specs.ReadAhead.{HoldsAhead};
 
     /// Returns the reader, and the bytes that were read from it after the last line, flush packet or delimiter packet that was
     /// taken or peeked at.
     pub fn into_parts(self) -> (R, Vec<u8>)
         ensures reader { result.0 ≡ self.reader }
-        ensures ahead { StandsAhead (packets_reading R.remaining self) (R.remaining result.0) result.1.items }
+        ensures ahead { HoldsAhead (packets_reading R.remaining self) (R.remaining result.0) result.1.items }
     {
         let Packets {
             alloc: _alloc,
@@ -198,8 +198,8 @@ impl<R: Read> Packets<R> {
     }
 
     // Reads until the packet line at the front is whole, and returns its head.
-    fn settle(&mut self) -> Result<Head, Error>
-        ensures { Settles R.remaining self.old self.new result }
+    fn fill_header(&mut self) -> Result<Head, Error>
+        ensures { FillsHeader R.remaining self.old self.new result }
     {
         loop {
             match read_head(self.window.pending()) {
@@ -221,7 +221,7 @@ impl<R: Read> Packets<R> {
         ensures open { result ≡ Ok true → self.new.place ≡ Open }
         ensures spends { Spends self.old self.new result }
     {
-        match self.settle() {
+        match self.fill_header() {
             Ok(Head::Data(size)) => {
                 let text = &self.window.pending()[4..size];
                 if is_server_error(text) {

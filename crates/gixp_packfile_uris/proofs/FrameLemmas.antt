@@ -12,7 +12,7 @@ use Rattle.gixp_packfile_uris.specs.declared.place.Fate.TheVariants.{Pass, Take,
 use Rattle.gixp_packfile_uris.specs.declared.place.Next.TheVariants.{Hold, Payload, Rest, Refused}
 use Rattle.gixp_packfile_uris.specs.declared.place.After.{After}
 use Rattle.gixp_packfile_uris.specs.Line.{is_message, text_of, fate}
-use Rattle.gixp_packfile_uris.specs.Parts.{Parts, ending, behind, parts, parts_of, in_uris, after_delimiter, line_after, digits_after, fate_after, held_after, lines_held, takes_uri}
+use Rattle.gixp_packfile_uris.specs.Parts.{Parts, ending, following, parts, parts_of, in_uris, after_delimiter, line_after, digits_after, fate_after, held_after, lines_held, takes_uri}
 use Rattle.gixp_packfile_uris.specs.Uris.{without_uris, uri_lines, is_refused}
 use Rattle.gixp_packfile_uris.proofs.PartsLemmas.{not_less, payload_front, payload_part, payload_over, held_part, held_whole}
 
@@ -34,12 +34,12 @@ digits_of place o digits more four size = held_whole place 4 [] digits more (ome
 
 -- digits that are passed on before a packet line
 passed_line : (place : Place) (text rest : List ℕ) (count : ℕ) → length text ≤ count
-    → parts place (Payload 0) (take count text) rest ≡ behind text [] (lines place rest)
+    → parts place (Payload 0) (take count text) rest ≡ following text [] (lines place rest)
 passed_line place text rest count h = ap (λ xs. parts place (Payload 0) xs rest) (take_all count text h)
-    ∙ payload_front place 0 text rest ∙ ap (behind text []) (payload_over place rest)
+    ∙ payload_front place 0 text rest ∙ ap (following text []) (payload_over place rest)
 
 delimited : (place : Place) (text rest : List ℕ) → Counts text 1
-    → lines place (text ++ rest) ≡ (if in_uris place then lines Over rest else behind text [] (lines (after_delimiter place) rest))
+    → lines place (text ++ rest) ≡ (if in_uris place then lines Over rest else following text [] (lines (after_delimiter place) rest))
 delimited SectionStart text rest c = digits_of SectionStart (Some 1) text rest c.0 c.1 ∙ passed_line SectionStart text rest 4 (omega (arith, c.0))
 delimited Section text rest c = digits_of Section (Some 1) text rest c.0 c.1 ∙ passed_line SectionStart text rest 4 (omega (arith, c.0))
 delimited (Uris n) text rest c = digits_of (Uris n) (Some 1) text rest c.0 c.1
@@ -47,7 +47,7 @@ delimited Over text rest c = digits_of Over (Some 1) text rest c.0 c.1 ∙ passe
 
 -- the digits of a flush or response-end packet
 flushed : (place : Place) (k : ℕ) (text rest : List ℕ) → Counts text k → nat_eq k 1 ≡ false → nat_lt k 3 ≡ true
-    → lines place (text ++ rest) ≡ (if in_uris place then nothing else behind text [] (lines SectionStart rest))
+    → lines place (text ++ rest) ≡ (if in_uris place then nothing else following text [] (lines SectionStart rest))
 flushed SectionStart k text rest c one three =
     digits_of SectionStart (Some k) text rest c.0 c.1 ∙ rw (one, three) (passed_line SectionStart text rest 4 (omega (arith, c.0)))
 flushed Section k text rest c one three =
@@ -66,12 +66,12 @@ begun place k some fits =
 
 -- what happens to a line
 abbrev by_fate : Place → Fate → (text p rest : List ℕ) → Parts
-by_fate place (Pass next) text p rest = behind text [] (lines next rest)
-by_fate place (Take next) text p rest = behind [] (if in_uris place then text_of p ∷ [] else []) (lines next rest)
+by_fate place (Pass next) text p rest = following text [] (lines next rest)
+by_fate place (Take next) text p rest = following [] (if in_uris place then text_of p ∷ [] else []) (lines next rest)
 by_fate place Refuse text p rest = nothing
 
 decided : (place : Place) (f : Fate) (text p rest : List ℕ)
-    → behind [] (if takes_uri place f then text_of p ∷ [] else [])
+    → following [] (if takes_uri place f then text_of p ∷ [] else [])
     (parts (fate_after place f (length text)).place (fate_after place f (length text)).next
     (take (fate_after place f (length text)).count text) rest) ≡ by_fate place f text p rest
 decided place (Pass next) text p rest = passed_line next text rest (length text) (omega arith)
@@ -93,19 +93,19 @@ held_line place digits p rest four some =
 
 -- any other line
 passed_on : (place : Place) (digits p rest : List ℕ)
-    → parts place (Payload ((4 + length p) - 4)) digits (p ++ rest) ≡ behind (digits ++ p) [] (lines place rest)
+    → parts place (Payload ((4 + length p) - 4)) digits (p ++ rest) ≡ following (digits ++ p) [] (lines place rest)
 passed_on place digits p rest =
     let n : (4 + length p) - 4 ≡ length p = omega arith in
     let z : length p - length p ≡ 0 = omega arith in
     let P : List ℕ → Parts = λ xs. record { passed = xs; lines = (lines place rest).lines; is_refused = (lines place rest).is_refused } in
     ap (λ k. parts place (Payload k) digits (p ++ rest)) n
     ∙ payload_front place (length p) digits (p ++ rest)
-    ∙ ap (behind digits []) (payload_part place (length p) p rest (omega arith)
-    ∙ ap (λ k. behind p [] (parts place (Payload k) [] rest)) z ∙ ap (behind p []) (payload_over place rest))
+    ∙ ap (following digits []) (payload_part place (length p) p rest (omega arith)
+    ∙ ap (λ k. following p [] (parts place (Payload k) [] rest)) z ∙ ap (following p []) (payload_over place rest))
     ∙ ap P (sym (append_assoc digits p (lines place rest).passed))
 
 same_fate : (b : Bool) (place : Place) (text p rest : List ℕ)
-    → behind text [] (lines place rest) ≡ by_fate place (if b then Pass place else Pass place) text p rest
+    → following text [] (lines place rest) ≡ by_fate place (if b then Pass place else Pass place) text p rest
 same_fate true place text p rest = refl
 same_fate false place text p rest = refl
 
@@ -160,16 +160,16 @@ part_by Section n digits more few four = ap (λ xs. parts Section (Payload (n - 
     payload_rest : (place : Place) (k : ℕ) (digits more : List ℕ) → length more ≤ k
         → parts place (Payload k) digits more ≡ ending (digits ++ more)
     payload_rest place k digits more h = payload_front place k digits more
-        ∙ ap (λ xs. behind digits [] (parts place (Payload k) [] xs)) (sym (append-nil more))
-        ∙ ap (behind digits []) (payload_part place k more [] h) ∙ ap (λ xs. ending (digits ++ xs)) (append-nil more)
+        ∙ ap (λ xs. following digits [] (parts place (Payload k) [] xs)) (sym (append-nil more))
+        ∙ ap (following digits []) (payload_part place k more [] h) ∙ ap (λ xs. ending (digits ++ xs)) (append-nil more)
 part_by Over n digits more few four = ap (λ xs. parts Over (Payload (n - 4)) xs more) (take_all 4 digits (omega arith))
     ∙ payload_rest Over (n - 4) digits more (omega (arith, few, four))
   where
     payload_rest : (place : Place) (k : ℕ) (digits more : List ℕ) → length more ≤ k
         → parts place (Payload k) digits more ≡ ending (digits ++ more)
     payload_rest place k digits more h = payload_front place k digits more
-        ∙ ap (λ xs. behind digits [] (parts place (Payload k) [] xs)) (sym (append-nil more))
-        ∙ ap (behind digits []) (payload_part place k more [] h) ∙ ap (λ xs. ending (digits ++ xs)) (append-nil more)
+        ∙ ap (λ xs. following digits [] (parts place (Payload k) [] xs)) (sym (append-nil more))
+        ∙ ap (following digits []) (payload_part place k more [] h) ∙ ap (λ xs. ending (digits ++ xs)) (append-nil more)
 
 end_same : (place : Place) (rest : List ℕ) (end : End) → IsEnd rest end → lines place rest ≡ ending rest
 end_same place rest (bad HexDecode) h = refused_digits place None rest h.0 h.1 h.2 h.3.0 h.3.1 refl
@@ -200,7 +200,7 @@ none_left p e = (
 )
 
 -- a packet line that is passed on
-one_more : (p q : Parts) (f : Frame) (text : List ℕ) (fs : Frames) (taken : List (List ℕ)) (refused : Bool) → p ≡ behind text [] q
+one_more : (p q : Parts) (f : Frame) (text : List ℕ) (fs : Frames) (taken : List (List ℕ)) (refused : Bool) → p ≡ following text [] q
     → IsFrame text f → AreThese q fs taken refused → AreThese p (record { list = f ∷ fs.list; end = fs.end }) taken refused
 one_more p q f text fs taken refused e is h = (
   (text, q.passed, ap (λ (x : Parts). x.passed) e, is, h.0),
@@ -236,12 +236,12 @@ by_line place (Pass next) bytes text p rest frames end is e ih =
     (is_refused next frames) e is (ih next)
 by_line place (Take next) bytes text p rest frames end is e ih =
     let one = if in_uris place then text_of p ∷ [] else [] in
-    same_these (lines place bytes) (behind [] one (lines next rest)) (without_uris next frames end) (one ++ uri_lines next frames)
+    same_these (lines place bytes) (following [] one (lines next rest)) (without_uris next frames end) (one ++ uri_lines next frames)
     (is_refused next frames) e ((ih next).0, ap (λ ls. one ++ ls) (ih next).1, (ih next).2)
 by_line place Refuse bytes text p rest frames end is e ih = none_left (lines place bytes) e
 
 by_delimiter : (place : Place) (b : Bool) (bytes text rest : List ℕ) (frames : List Frame) (end : End) → IsFrame text (special Delimiter)
-    → lines place bytes ≡ (if b then lines Over rest else behind text [] (lines (after_delimiter place) rest))
+    → lines place bytes ≡ (if b then lines Over rest else following text [] (lines (after_delimiter place) rest))
     → ((next : Place) → AreBehind next rest frames end)
     → AreThese (lines place bytes)
     (if b then without_uris Over frames end
@@ -259,7 +259,7 @@ by_delimiter place false bytes text rest frames end is e ih =
     (uri_lines (after_delimiter place) frames) (is_refused (after_delimiter place) frames) e is (ih (after_delimiter place))
 
 by_flush : (place : Place) (b : Bool) (f : Frame) (bytes text rest : List ℕ) (frames : List Frame) (end : End) → IsFrame text f
-    → lines place bytes ≡ (if b then nothing else behind text [] (lines SectionStart rest))
+    → lines place bytes ≡ (if b then nothing else following text [] (lines SectionStart rest))
     → AreBehind SectionStart rest frames end
     → AreThese (lines place bytes)
     (if b then record { list = []; end = ended }

@@ -12,39 +12,39 @@ use Rattle.gixp_packfile_uris.specs.declared.place.After.{After}
 use Rattle.gixp_packfile_uris.specs.declared.place.Next.TheVariants.{Hold, Payload, Rest, Refused}
 use Rattle.gixp_packfile_uris.specs.Order.{is_holding}
 use Rattle.gixp_packfile_uris.specs.Line.{text_of, fate}
-use Rattle.gixp_packfile_uris.specs.Parts.{Parts, ending, behind, parts, parts_from, passed_from, lines_from, refused_from, fate_after, takes_uri, held_after, lines_held}
+use Rattle.gixp_packfile_uris.specs.Parts.{Parts, ending, following, parts, parts_from, passed_from, lines_from, refused_from, fate_after, takes_uri, held_after, lines_held}
 use Rattle.gixp_packfile_uris.specs.Sink.{TakesLines, all_lines, SameKnown}
 
 pub not_less : (m n : ℕ) → n ≤ m → nat_lt m n ≡ false
 not_less m n h = search rules
 
 -- held bytes come first, unless a line is held
-pub payload_front : (place : Place) (n : ℕ) (held ys : List ℕ) → parts place (Payload n) held ys ≡ behind held [] (parts place (Payload n) [] ys)
+pub payload_front : (place : Place) (n : ℕ) (held ys : List ℕ) → parts place (Payload n) held ys ≡ following held [] (parts place (Payload n) [] ys)
 payload_front place n held [] = ap ending (sym (append-nil held))
 payload_front place zero held (b ∷ ys) = refl
 payload_front place (suc n) held (b ∷ ys) = refl
 
 -- two front parts, one after the other
-behind_twice : (a b : List ℕ) (p : Parts) → behind (a ++ b) [] p ≡ behind a [] (behind b [] p)
+behind_twice : (a b : List ℕ) (p : Parts) → following (a ++ b) [] p ≡ following a [] (following b [] p)
 behind_twice a b p = let P : List ℕ → Parts = λ xs. record { passed = xs; lines = p.lines; is_refused = p.is_refused } in ap P (append_assoc a b p.passed)
 
 pub known_front : (place : Place) (next : Next) (a b ys : List ℕ) → is_holding next ≡ false
-    → parts place next (a ++ b) ys ≡ behind a [] (parts place next b ys)
+    → parts place next (a ++ b) ys ≡ following a [] (parts place next b ys)
 known_front place (Hold size) a b ys h = cc
 known_front place (Payload n) a b ys h = payload_front place n (a ++ b) ys
-    ∙ (behind_twice a b (parts place (Payload n) [] ys) ∙ ap (behind a []) (sym (payload_front place n b ys)))
+    ∙ (behind_twice a b (parts place (Payload n) [] ys) ∙ ap (following a []) (sym (payload_front place n b ys)))
 known_front place Rest a b ys h = ap ending (append_assoc a b ys)
 known_front place Refused a b ys h = refl
 
 -- a payload is passed on unchanged
 pub payload_part : (place : Place) (n : ℕ) (xs ys : List ℕ) → length xs ≤ n
-    → parts place (Payload n) [] (xs ++ ys) ≡ behind xs [] (parts place (Payload (n - length xs)) [] ys)
+    → parts place (Payload n) [] (xs ++ ys) ≡ following xs [] (parts place (Payload (n - length xs)) [] ys)
 payload_part place n [] ys h = let e : n ≡ n - 0 = omega arith in ap (λ k. parts place (Payload k) [] ys) e
 payload_part place zero (x ∷ xs) ys h = absurd (omega arith)
 payload_part place (suc n) (x ∷ xs) ys h =
     let e : n - length xs ≡ suc n - length (x ∷ xs) = omega arith in
-    ap (behind (x ∷ []) []) (payload_part place n xs ys (omega arith))
-    ∙ ap (λ k. behind (x ∷ xs) [] (parts place (Payload k) [] ys)) e
+    ap (following (x ∷ []) []) (payload_part place n xs ys (omega arith))
+    ∙ ap (λ k. following (x ∷ xs) [] (parts place (Payload k) [] ys)) e
 
 -- a packet line after a payload
 pub payload_over : (place : Place) (ys : List ℕ) → parts place (Payload 0) [] ys ≡ parts place (Hold 4) [] ys
@@ -53,7 +53,7 @@ payload_over place (b ∷ ys) = refl
 
 -- what is passed on after a whole line
 abbrev pub whole : Place → ℕ → List ℕ → List ℕ → Parts
-whole place size held ys = behind [] (lines_held place size held)
+whole place size held ys = following [] (lines_held place size held)
     (parts (held_after place size held).place (held_after place size held).next (take (held_after place size held).count held) ys)
 
 -- while bytes are missing
@@ -89,9 +89,9 @@ held_whole place size held (x ∷ xs) ys h k = elim (cases_lt (length held + 1) 
 ]
 
 -- bytes that arrived
-pub told : (place : Place) (size : ℕ) (held xs ys : List ℕ) → length held + length xs ≤ size → length held < size
+pub reported : (place : Place) (size : ℕ) (held xs ys : List ℕ) → length held + length xs ≤ size → length held < size
     → parts place (Hold size) held (xs ++ ys) ≡ parts_from place size (held ++ xs) ys
-told place size held xs ys h k = elim (cases_lt (length (held ++ xs)) size) [
+reported place size held xs ys h k = elim (cases_lt (length (held ++ xs)) size) [
   | inl lt ↦ let t : nat_lt (length (held ++ xs)) size ≡ true = search rules in
       rw t (held_part place size held xs ys (omega (arith, length-append held xs)))
   | inr ge ↦ let t : nat_lt (length (held ++ xs)) size ≡ false = search rules in
@@ -177,15 +177,15 @@ gives_no_line (Some t) (Some bs) place next held out later d e =
 pub takes_held : (old new : Option (List ℕ)) (place : Place) (size : ℕ) (held got after : List ℕ)
     → Consumes old new got → length held + length got ≤ size → length held < size → after ≡ held ++ got
     → Keeps (option_map (λ bs. (parts place (Hold size) held bs).passed) old) (passed_from place size after new)
-takes_held old new place size held got after came h k e = rw e (takes_through old new got (λ bs. (parts place (Hold size) held bs).passed)
-    (λ bs. (parts_from place size (held ++ got) bs).passed) came (λ ys. ap (λ (p : Parts). p.passed) (told place size held got ys h k)))
+takes_held old new place size held got after received h k e = rw e (takes_through old new got (λ bs. (parts place (Hold size) held bs).passed)
+    (λ bs. (parts_from place size (held ++ got) bs).passed) received (λ ys. ap (λ (p : Parts). p.passed) (reported place size held got ys h k)))
 
 pub takes_lines : (taken : Option (List (List ℕ))) (old new : Option (List ℕ)) (place : Place) (size : ℕ) (held got after : List ℕ)
     → Consumes old new got → length held + length got ≤ size → length held < size → after ≡ held ++ got
     → SameKnown (all_lines taken (option_map (λ bs. (parts place (Hold size) held bs).lines) old)) (lines_from taken place size after new)
-takes_lines taken old new place size held got after came h k e = rw e (lines_through taken old new got
+takes_lines taken old new place size held got after received h k e = rw e (lines_through taken old new got
     (λ bs. (parts place (Hold size) held bs).lines)
-    (λ bs. (parts_from place size (held ++ got) bs).lines) came (λ ys. ap (λ (p : Parts). p.lines) (told place size held got ys h k)))
+    (λ bs. (parts_from place size (held ++ got) bs).lines) received (λ ys. ap (λ (p : Parts). p.lines) (reported place size held got ys h k)))
 
 pub end_through : (new : Option (List ℕ)) (f : List ℕ → List ℕ) → IsAtEnd new → f [] ≡ [] → IsAtEnd (option_map f new)
 end_through None f h e = tt
@@ -198,13 +198,13 @@ pub reads_payload : (old new : Option (List ℕ)) (place : Place) (next : Next) 
     → Consumes (option_map (λ bs. (parts place next held bs).passed) old)
     (option_map (λ bs. (parts place (Payload (left - n)) held bs).passed) new) (take n (buf ++ rest))
     × (n ≡ 0 → 0 < length (buf ++ rest) → IsAtEnd (option_map (λ bs. (parts place (Payload (left - n)) held bs).passed) new))
-reads_payload old new place next held buf rest left n is none fits bound some came at_end =
+reads_payload old new place next held buf rest left n is none fits bound some received at_end =
     let l : length (take n buf) ≡ n = length-take-le n buf fits in
     rw (is, none, take-append-le n buf rest fits) (
       consumes_through old new (take n buf) (take n buf) (λ bs. (parts place (Payload left) [] bs).passed)
-          (λ bs. (parts place (Payload (left - n)) [] bs).passed) came
+          (λ bs. (parts place (Payload (left - n)) [] bs).passed) received
           (λ ys. ap (λ (p : Parts). p.passed) (payload_part place left (take n buf) ys (omega arith)
-          ∙ ap (λ k. behind (take n buf) [] (parts place (Payload (left - k)) [] ys)) l)),
+          ∙ ap (λ k. following (take n buf) [] (parts place (Payload (left - k)) [] ys)) l)),
       λ z _. end_through new (λ bs. (parts place (Payload (left - n)) [] bs).passed) (at_end z some) refl,
     )
 
@@ -212,11 +212,11 @@ pub reads_no_line : (taken : Option (List (List ℕ))) (old new : Option (List �
     (left n : ℕ) → next ≡ Payload left → held ≡ [] → length got ≡ n → n ≤ left → Consumes old new got
     → SameKnown (all_lines taken (option_map (λ bs. (parts place next held bs).lines) old))
     (all_lines taken (option_map (λ bs. (parts place (Payload (left - n)) held bs).lines) new))
-reads_no_line taken old new place next held got left n is none len fits came =
+reads_no_line taken old new place next held got left n is none len fits received =
     rw (is, none) (lines_through taken old new got (λ bs. (parts place (Payload left) [] bs).lines)
-    (λ bs. (parts place (Payload (left - n)) [] bs).lines) came
+    (λ bs. (parts place (Payload (left - n)) [] bs).lines) received
     (λ ys. ap (λ (p : Parts). p.lines) (payload_part place left got ys (omega arith)
-    ∙ ap (λ k. behind got [] (parts place (Payload (left - k)) [] ys)) len)))
+    ∙ ap (λ k. following got [] (parts place (Payload (left - k)) [] ys)) len)))
 
 -- a held line is taken
 pub took_whole : (o : Option (List ℕ)) (place : Place) (size : ℕ) (held kept : List ℕ) (a : After) → size ≤ length held
@@ -275,10 +275,10 @@ line_is place size held line f a some len is by after =
 pub line_text : (place : Place) (size : ℕ) (held line text : List ℕ) (f : Fate) (is_taken : Bool) → 4 < size → line ≡ drop 4 held
     → f ≡ fate place line → is_taken ≡ takes_uri place f → text ≡ text_of line
     → (if is_taken then text ∷ [] else []) ≡ lines_held place size held
-line_text place size held line text f is_taken some is by taken told =
+line_text place size held line text f is_taken some is by taken reported =
     let t : nat_eq size 4 ≡ false = ne_eqb size 4 (λ e. absurd (omega (arith, e, some))) in
     let u : is_taken ≡ takes_uri place (fate place (drop 4 held)) = taken ∙ ap (takes_uri place) (by ∙ ap (fate place) is) in
-    let v : text ≡ text_of (drop 4 held) = told ∙ ap text_of is in
+    let v : text ≡ text_of (drop 4 held) = reported ∙ ap text_of is in
     rw (t, u, v) refl
 
 -- the bytes read of a line follow the held ones
@@ -298,19 +298,19 @@ gives_refusal (Some bs) place next held out later d e =
 pub takes_refusal : (old new : Option (List ℕ)) (place : Place) (size : ℕ) (held got after : List ℕ)
     → Consumes old new got → length held + length got ≤ size → length held < size → after ≡ held ++ got
     → SameKnown (option_map (λ bs. (parts place (Hold size) held bs).is_refused) old) (refused_from place size after new)
-takes_refusal old new place size held got after came h k e = rw e (known_through old new got
+takes_refusal old new place size held got after received h k e = rw e (known_through old new got
     (λ bs. (parts place (Hold size) held bs).is_refused)
-    (λ bs. (parts_from place size (held ++ got) bs).is_refused) came (λ ys. ap (λ (p : Parts). p.is_refused) (told place size held got ys h k)))
+    (λ bs. (parts_from place size (held ++ got) bs).is_refused) received (λ ys. ap (λ (p : Parts). p.is_refused) (reported place size held got ys h k)))
 
 pub reads_refusal : (old new : Option (List ℕ)) (place : Place) (next : Next) (held got : List ℕ)
     (left n : ℕ) → next ≡ Payload left → held ≡ [] → length got ≡ n → n ≤ left → Consumes old new got
     → SameKnown (option_map (λ bs. (parts place next held bs).is_refused) old)
     (option_map (λ bs. (parts place (Payload (left - n)) held bs).is_refused) new)
-reads_refusal old new place next held got left n is none len fits came =
+reads_refusal old new place next held got left n is none len fits received =
     rw (is, none) (known_through old new got (λ bs. (parts place (Payload left) [] bs).is_refused)
-    (λ bs. (parts place (Payload (left - n)) [] bs).is_refused) came
+    (λ bs. (parts place (Payload (left - n)) [] bs).is_refused) received
     (λ ys. ap (λ (p : Parts). p.is_refused) (payload_part place left got ys (omega arith)
-    ∙ ap (λ k. behind got [] (parts place (Payload (left - k)) [] ys)) len)))
+    ∙ ap (λ k. following got [] (parts place (Payload (left - k)) [] ys)) len)))
 
 pub took_refusal : (o : Option (List ℕ)) (place : Place) (size : ℕ) (held kept : List ℕ) (a : After) → size ≤ length held
     → a ≡ held_after place size held → kept ≡ take a.count held

@@ -86,8 +86,8 @@ pub record Parts : Type 0 where
 abbrev pub ending : List ℕ → Parts
 ending bytes = record { passed = bytes; lines = []; is_refused = false }
 
-abbrev pub behind : List ℕ → List (List ℕ) → Parts → Parts
-behind front first p = record { passed = front ++ p.passed; lines = first ++ p.lines; is_refused = p.is_refused }
+abbrev pub following : List ℕ → List (List ℕ) → Parts → Parts
+following front first p = record { passed = front ++ p.passed; lines = first ++ p.lines; is_refused = p.is_refused }
 
 -- the parts of held bytes and of the bytes after them
 abbrev pub parts : Place → Next → (held : List ℕ) → List ℕ → Parts
@@ -95,13 +95,13 @@ parts place Refused held bytes = record { passed = held; lines = []; is_refused 
 parts place Rest held bytes = ending (held ++ bytes)
 parts place (Payload n) held [] = ending held
 parts place (Payload n) held (b ∷ bytes) = elim n [
-  | zero ↦ behind held [] (parts place (Hold 4) (b ∷ []) bytes)
-  | suc m ↦ behind held [] (behind (b ∷ []) [] (parts place (Payload m) [] bytes))
+  | zero ↦ following held [] (parts place (Hold 4) (b ∷ []) bytes)
+  | suc m ↦ following held [] (following (b ∷ []) [] (parts place (Payload m) [] bytes))
 ]
 parts place (Hold size) held [] = ending held
 parts place (Hold size) held (b ∷ bytes) =
     if nat_lt (length held + 1) size then parts place (Hold size) (held ++ b ∷ []) bytes
-    else behind [] (lines_held place size (held ++ b ∷ []))
+    else following [] (lines_held place size (held ++ b ∷ []))
     (parts (held_after place size (held ++ b ∷ [])).place (held_after place size (held ++ b ∷ [])).next
     (take (held_after place size (held ++ b ∷ [])).count (held ++ b ∷ [])) bytes)
 
@@ -113,7 +113,7 @@ parts_of bytes = parts SectionStart (Hold 4) [] bytes
 abbrev pub parts_from : Place → (size : ℕ) → List ℕ → List ℕ → Parts
 parts_from place size held bytes =
     if nat_lt (length held) size then parts place (Hold size) held bytes
-    else behind [] (lines_held place size held)
+    else following [] (lines_held place size held)
     (parts (held_after place size held).place (held_after place size held).next (take (held_after place size held).count held) bytes)
 
 -- the bytes that a reader has still to pass on

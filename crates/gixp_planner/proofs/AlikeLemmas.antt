@@ -3,8 +3,8 @@ use Rattle.std.proofs.Common.{◌≡◌, ◌⊎◌, ℕ, Bool, true, List, [], �
 use Rattle.gixp_hash.specs.declared.object_id.ObjectId.{ObjectId}
 use Rattle.gixp_packetline.specs.Reading.{Reading}
 use Rattle.gixp_packetline.specs.TransportState.{TransportState}
-use Rattle.gixp_wire.specs.declared.bodies.Body.{Body}
-use Rattle.gixp_wire.specs.Bodies.{bodies_reading}
+use Rattle.gixp_transport.specs.declared.bodies.Body.{Body}
+use Rattle.gixp_transport.specs.Bodies.{bodies_reading}
 use Rattle.gixp_refspec.specs.declared.parse.Error.{Error as SpecError}
 use Rattle.gixp_refspec.specs.Spec.{Spec}
 use Rattle.gixp_refmap.specs.declared.refmap.map.RefMap.{RefMap}
@@ -113,7 +113,7 @@ module _ {N I A S C P : Type 0} (parties : Parties N I A S C P CopyError) (basis
     last : Reading
     way : Way parties basis haves list IsEmpty reads none follows never mapped.handshake.server_protocol_version
         mapped.handshake.capabilities
-        (bands mapped.handshake.server_protocol_version mapped.handshake.capabilities) negotiate mapped.behind last course.ended
+        (bands mapped.handshake.server_protocol_version mapped.handshake.capabilities) negotiate mapped.following last course.ended
     ends : last.held.sent ≡ course.sent
     maps : course.mapped ≡ Some made
 
@@ -170,49 +170,49 @@ module _ {N I A S C P : Type 0} (parties : Parties N I A S C P CopyError) (basis
             at (inr q) = for_memory (codes "refs", f ∙ ap (λ x. ends_refused (refusal (codes "refs") (map_name x))) q)
             at (inl q) = at_map (record { discovered = p.discovered; read = p.read }) q.0 (sym g.is_course.sent ∙ q.1) m f
 
-    fetched-so : (h : Handshake) (mid behind : Reading) (m : RefMap) (r : Result (Option Outcome) (FetchError A CopyError))
+    fetched-so : (h : Handshake) (mid following : Reading) (m : RefMap) (r : Result (Option Outcome) (FetchError A CopyError))
         → GreetsWithoutAccount true (bodies_reading g.is_course.transport) mid (Ok h)
-        → MapsRefs g.is_course.context h true mid behind (Ok m) → FetchesMapped parties (IsOver m) IsEmpty
-        (without_refs h) behind g.is_course.last r → IsUndisturbed r → course.mapped ≡ Some m → course.ended ≡ end_of r
+        → MapsRefs g.is_course.context h true mid following (Ok m) → FetchesMapped parties (IsOver m) IsEmpty
+        (without_refs h) following g.is_course.last r → IsUndisturbed r → course.mapped ≡ Some m → course.ended ≡ end_of r
         → Went IsOver course
-    fetched-so h mid behind m r k l t u p f =
-        let mapped : IsMapped bodies words behind.held.sent m =
+    fetched-so h mid following m r k l t u p f =
+        let mapped : IsMapped bodies words following.held.sent m =
         record {
           context = g.is_course.context;
           transport = g.is_course.transport;
           handshake = h;
           mid = mid;
-          behind = behind;
+          following = following;
           read = g.is_course.read;
           over = g.is_course.over;
           greets = k;
           maps = l;
           by_then = refl;
         } in
-        at (goes-way parties basis haves list IsEmpty reads none follows never (IsOver m) (without_refs h) behind g.is_course.last
-        (both-alike bodies words behind.held.sent behind.held.sent m m mapped mapped).alike.alone g.unfailed r u t)
+        at (goes-way parties basis haves list IsEmpty reads none follows never (IsOver m) (without_refs h) following g.is_course.last
+        (both-alike bodies words following.held.sent following.held.sent m m mapped mapped).alike.alone g.unfailed r u t)
       where
-        plans : Plans bodies words behind.held.sent (Ok m)
+        plans : Plans bodies words following.held.sent (Ok m)
         plans =
-            (planning bodies words (Ok m) g.is_course.context g.is_course.transport h mid behind g.is_course.read g.is_course.over k l
+            (planning bodies words (Ok m) g.is_course.context g.is_course.transport h mid following g.is_course.read g.is_course.over k l
             (λ e q. absurd (made-or-refused m e q))).plans
 
         at : (r ≡ Err fetch.Memory)
             ⊎ ((n : N) × IsOver m n
             × Way parties basis haves list IsEmpty reads none follows never h.server_protocol_version h.capabilities
-            (bands h.server_protocol_version h.capabilities) n behind g.is_course.last (end_of r)) → Went IsOver course
+            (bands h.server_protocol_version h.capabilities) n following g.is_course.last (end_of r)) → Went IsOver course
         at (inl q) = for_memory (codes "fetch", f ∙ ap (λ (x : Result (Option Outcome) (FetchError A CopyError)). end_of x) q)
         at (inr w) =
             to_fetch (record { discovered = plans.discovered; read = plans.read }) plans.ends.0
             (record {
-              sent = behind.held.sent;
+              sent = following.held.sent;
               made = m;
               mapped = record {
                 context = g.is_course.context;
                 transport = g.is_course.transport;
                 handshake = h;
                 mid = mid;
-                behind = behind;
+                following = following;
                 read = g.is_course.read;
                 over = g.is_course.over;
                 greets = k;
@@ -224,7 +224,7 @@ module _ {N I A S C P : Type 0} (parties : Parties N I A S C P CopyError) (basis
               last = g.is_course.last;
               way =
                   subst (λ x. Way parties basis haves list IsEmpty reads none follows never h.server_protocol_version
-                  h.capabilities (bands h.server_protocol_version h.capabilities) w.0 behind g.is_course.last x) (sym f) w.2;
+                  h.capabilities (bands h.server_protocol_version h.capabilities) w.0 following g.is_course.last x) (sym f) w.2;
               ends = g.is_course.sent;
               maps = p;
             })
@@ -237,7 +237,7 @@ module _ {N I A S C P : Type 0} (parties : Parties N I A S C P CopyError) (basis
             (bodies_reading g.is_course.transport) g.is_course.last course.mapped ran → Went IsOver course
         by ran q (ungreeted e h m f) = ungreeted-so e h m (ended-so ran q ∙ f)
         by ran q (unmapped h mid e k l m f) = unmapped-so h mid e k l m (ended-so ran q ∙ f)
-        by ran q (fetched h mid behind m r k l t p f) = fetched-so h mid behind m r k l t.0 t.1 p (ended-so ran q ∙ f)
+        by ran q (fetched h mid following m r k l t p f) = fetched-so h mid following m r k l t.0 t.1 p (ended-so ran q ∙ f)
 
   -- ---- two sessions
 
@@ -255,21 +255,21 @@ module _ {N I A S C P : Type 0} (parties : Parties N I A S C P CopyError) (basis
   fetched-alike c d x y =
       let greet : SameGreeting x.mapped.mid y.mapped.mid x.mapped.handshake y.mapped.handshake =
       both-greet bodies words x.sent y.sent x.made y.made x.mapped y.mapped in
-      let maps : SameMap x.mapped.behind y.mapped.behind x.made y.made =
+      let maps : SameMap x.mapped.following y.mapped.following x.made y.made =
       both-alike bodies words x.sent y.sent x.made y.made x.mapped y.mapped in
       let base = same x.made y.made x.negotiate y.negotiate x.over y.over maps.mappings in
       let v = x.mapped.handshake.server_protocol_version in
       let other : Way parties basis haves list IsEmpty reads none follows never v x.mapped.handshake.capabilities
-      (bands v x.mapped.handshake.capabilities) y.negotiate y.mapped.behind y.last d.ended =
+      (bands v x.mapped.handshake.capabilities) y.negotiate y.mapped.following y.last d.ended =
       subst (λ w. Way parties basis haves list IsEmpty reads none follows never w x.mapped.handshake.capabilities
-      (bands w x.mapped.handshake.capabilities) y.negotiate y.mapped.behind y.last d.ended) (sym greet.version)
+      (bands w x.mapped.handshake.capabilities) y.negotiate y.mapped.following y.last d.ended) (sym greet.version)
       (subst (λ k. Way parties basis haves list IsEmpty reads none follows never y.mapped.handshake.server_protocol_version k
-      (bands y.mapped.handshake.server_protocol_version k) y.negotiate y.mapped.behind y.last d.ended)
+      (bands y.mapped.handshake.server_protocol_version k) y.negotiate y.mapped.following y.last d.ended)
       (sym greet.capabilities) y.way) in
       let ends =
       ways-alike parties basis haves list IsEmpty reads none follows never v x.mapped.handshake.capabilities x.negotiate
-      y.negotiate x.mapped.behind y.mapped.behind x.last y.last base.0 (base.1 ∙ sym base.2)
-      (hold-alike x.mapped.behind y.mapped.behind maps.alike) c.ended d.ended x.way other in
+      y.negotiate x.mapped.following y.mapped.following x.last y.last base.0 (base.1 ∙ sym base.2)
+      (hold-alike x.mapped.following y.mapped.following maps.alike) c.ended d.ended x.way other in
       alike-by c d (sym x.ends ∙ ap (λ (z : TransportState). z.sent) ends.0 ∙ y.ends)
       (ap mapped_shown x.maps ∙ maps.shown ∙ sym (ap mapped_shown y.maps)) ends.1
 

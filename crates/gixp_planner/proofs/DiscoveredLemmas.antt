@@ -10,12 +10,12 @@ use Rattle.gixp_packetline.specs.TransportState.{TransportState}
 use Rattle.gixp_capabilities.specs.declared.client.Error.{Error as client_error}
 use Rattle.gixp_capabilities.specs.declared.client.Error.TheVariants as client
 use Rattle.gixp_capabilities.specs.Client.{client_refusal}
-use Rattle.gixp_wire.specs.declared.service.Service.TheVariants.{UploadPack}
-use Rattle.gixp_wire.specs.declared.service.SetServiceResponse.{SetServiceResponse}
-use Rattle.gixp_wire.specs.Bodies.{bodies_reading}
-use Rattle.gixp_wire.specs.CapabilityAdvertisement.{Advertised, advertisement, Answers, IsOfSaid, IsFromDevice}
-use Rattle.gixp_wire.specs.Handshake.{Handshakes, HandshakesBy}
-use Rattle.gixp_wire.specs.Transport.{first_answer, later_answers, answer_pieces}
+use Rattle.gixp_transport.specs.declared.service.Service.TheVariants.{UploadPack}
+use Rattle.gixp_transport.specs.declared.service.SetServiceResponse.{SetServiceResponse}
+use Rattle.gixp_transport.specs.Bodies.{bodies_reading}
+use Rattle.gixp_transport.specs.CapabilityAdvertisement.{Advertised, advertisement, Answers, IsOfAdvertisement, IsFromDevice}
+use Rattle.gixp_transport.specs.Handshake.{Handshakes, HandshakesBy}
+use Rattle.gixp_transport.specs.Transport.{first_answer, later_answers, answer_pieces}
 use Rattle.gixp_refs.specs.declared.handshake.refs.parse.Error.{Error as parse_error}
 use Rattle.gixp_refs.specs.declared.handshake.refs.parse.Error.TheVariants as parse
 use Rattle.gixp_refs.specs.Ref.{RefValue, ref_value}
@@ -31,7 +31,7 @@ use Rattle.gixp_handshake.specs.ShakeError.{from_client, from_parse, is_denial, 
 use Rattle.gixp_planner.specs.Refusal.{handshake_name}
 use Rattle.gixp_planner.specs.Session.{AreUnanswered, GreetsWithoutAccount}
 use Rattle.gixp_planner.specs.Discovered.{Discovery, discovered, with_refs, by_symrefs, by_refs, by_acceptance, by_advertisement, discovery, values_of, HasDiscovered, IsDiscovered, GreetingsFollow}
-use Rattle.gixp_planner.proofs.MappedLemmas.{if-known, new-held, Hears, hears-by, Greeted, greeted}
+use Rattle.gixp_planner.proofs.MappedLemmas.{if-known, new-held, Hears, receives-by, Greeted, greeted}
 use Rattle.gixp_planner.proofs.AnswerLemmas.{never-none}
 
 -- ---- what was said
@@ -47,8 +47,8 @@ record Said (accepted : List Protocol) (p : Pieces) (new : Reading) (found : Set
   version : new.version ≡ what.version
   accepts : is_accepted accepted found.actual_protocol ≡ is_accepted accepted what.version
 
-heard : (old new : Reading) (found : SetServiceResponse) → Hears old new found → Said old.held.accepted (next_pieces old) new found
-heard old new found h =
+listening_transport : (old new : Reading) (found : SetServiceResponse) → Hears old new found → Said old.held.accepted (next_pieces old) new found
+listening_transport old new found h =
     let v = if-known _ h.mid.to_come (next_pieces old) h.takes.to_come h.reads.value in
     record {
       what = v.0;
@@ -86,7 +86,7 @@ no-refs refs e = cc e
 module _ (plain : Bool) (old new : Reading) (h : Handshake) (g : Greeted plain old new h)
     (s : Said old.held.accepted (next_pieces old) g.mid g.found) where
   held-then : g.mid.held ≡ record old.held { answers = later_answers old.held.answers }
-  held-then = g.hears.reads.held ∙ g.hears.takes.held
+  held-then = g.receives.reads.held ∙ g.receives.takes.held
 
   discovers-by : (follow : Bool) → discovery old.held.accepted (next_pieces old) ≡ by_refs follow s.what
       → ReadsFirst follow g.found plain g.mid new (Ok h) → Discovers old new h
@@ -122,7 +122,7 @@ pub discovers : (plain : Bool) (old new : Reading) (h : Handshake) → old.held.
     → GreetsWithoutAccount plain old new (Ok h) → Discovers old new h
 discovers plain old new h alone greets =
     let g = greeted plain old new h alone greets in
-    let s = heard old g.mid g.found g.hears in
+    let s = listening_transport old g.mid g.found g.receives in
     discovers-by plain old new h g s g.found.has_refs
     (said-so old.held.accepted (next_pieces old) g.mid g.found s true g.accepted
     ∙ ap (λ b. by_refs b s.what) (sym s.answers.has_refs)) g.first
@@ -191,7 +191,7 @@ from-device old new client.Memory z d = refl
 -- what was said is refused
 record Unsaid (p : Pieces) (c : client_error) : Type 0 where
   said : advertisement p ≡ Err (client_refusal c)
-  caused : IsOfSaid c
+  caused : IsOfAdvertisement c
 
 unsaid : (old new : Reading) (c : client_error) → new.failures ≡ 0 → HandshakesBy false UploadPack [] old new (Err c)
     → Unsaid (next_pieces old) c ⊎ (c ≡ client.Memory)
@@ -199,7 +199,7 @@ unsaid old new c z (inl h) = absurd (never-none old.failures new.failures h.3.1 
 unsaid old new c z (inr h) = by_why h.3.why h.3.caused
   where
     by_why : (IfSome h.0.to_come (λ p. advertisement p ≡ Err (client_refusal c)) × (new.failures ≡ h.0.failures)) ⊎ IsFromDevice h.0 new c
-        → (IsOfSaid c × (new.failures ≡ h.0.failures)) ⊎ IsFromDevice h.0 new c → Unsaid (next_pieces old) c ⊎ (c ≡ client.Memory)
+        → (IsOfAdvertisement c × (new.failures ≡ h.0.failures)) ⊎ IsFromDevice h.0 new c → Unsaid (next_pieces old) c ⊎ (c ≡ client.Memory)
     by_why (inr d) x = inr (from-device h.0 new c z d)
     by_why (inl w) (inr d) = inr (from-device h.0 new c z d)
     by_why (inl w) (inl x) =
@@ -212,7 +212,7 @@ unsaid old new c z (inr h) = by_why h.3.why h.3.caused
 wants-none : (kind : ErrorKind) → kind ≡ UnexpectedEof → is_denial kind ≡ false
 wants-none kind e = ap is_denial e
 
-undenied-so : (c : client_error) → IsOfSaid c → is_denied c ≡ false
+undenied-so : (c : client_error) → IsOfAdvertisement c → is_denied c ≡ false
 undenied-so (client.Io kind) s = wants-none kind s
 undenied-so (client.Read e) s = refl
 undenied-so client.LineTooLong s = refl
@@ -333,9 +333,9 @@ module _ (old new : Reading) (e : handshake_error) (turns : List CredentialCall)
         → First first UploadPack [] now mid turns opened → IsDiscovered verdict (Err e)
     by-call (Err c) now h f = by-denial (is_denied c) c now refl h f
     by-call (Ok found) now h f =
-        let hears = hears-by UploadPack [] old.held.persists old now found alone h in
+        let receives = receives-by UploadPack [] old.held.persists old now found alone h in
         let k = subst (λ o. FinishesHandshake old.held.accepted o true mid new (Err e)) f.2 g in
-        by-version now found (heard old now found hears) (is_accepted old.held.accepted found.actual_protocol) refl
+        by-version now found (listening_transport old now found receives) (is_accepted old.held.accepted found.actual_protocol) refl
         (subst (λ r. KeepsVersion (is_accepted old.held.accepted found.actual_protocol) found true r new (Err e)) f.1 k)
 
     by-opens : Opens UploadPack [] old mid turns opened ⊎ StopsForMemory old mid turns opened → IsDiscovered verdict (Err e)

@@ -171,7 +171,7 @@ stops_behind old mid new h f k =
 printed-all : (old mid new : Reading) (text : List ℕ) → Printed old mid text → ReadsRefs mid new [] → PrintsAhead old new text
 printed-all old mid new text h k = record {
   printed = at old.to_come (printed_rest old mid text (Ok []) h k.value);
-  behind = stops_behind old mid new h.ending h.failures k;
+  following = stops_behind old mid new h.ending h.failures k;
 }
   where
     at : (o : Option Pieces) → IfSome o (λ p. v2_refs (lines_ahead old p) ≡ Ok (h.values ++ []))

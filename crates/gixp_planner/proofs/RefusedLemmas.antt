@@ -2,16 +2,16 @@
 use Rattle.std.proofs.Common.{◌≡◌, ◌⊎◌, ℕ, Bool, true, false, List, [], ◌++◌, codes, Option, Some, None, Result, Ok, Err, inl, inr, refl, sym, ap, ◌∙◌, subst}
 use Rattle.std.specs.Prelude.{◌==◌, if◌then◌else◌}
 use Rattle.std.specs.Io.KnownBytes.{Appends}
-use Rattle.gixp_wire.specs.declared.service.Service.TheVariants.{UploadPack}
-use Rattle.gixp_wire.specs.declared.service.SetServiceResponse.{SetServiceResponse}
+use Rattle.gixp_transport.specs.declared.service.Service.TheVariants.{UploadPack}
+use Rattle.gixp_transport.specs.declared.service.SetServiceResponse.{SetServiceResponse}
 use Rattle.gixp_capabilities.specs.declared.client.Error.{Error as client_error}
-use Rattle.gixp_wire.specs.declared.bodies.Body.{Body}
-use Rattle.gixp_wire.specs.Bodies.{bodies_reading}
+use Rattle.gixp_transport.specs.declared.bodies.Body.{Body}
+use Rattle.gixp_transport.specs.Bodies.{bodies_reading}
 use Rattle.gixp_packetline.specs.TransportState.{TransportState}
 use Rattle.gixp_packetline.specs.Reading.{Reading}
-use Rattle.gixp_wire.specs.Handshake.{HandshakesBy}
-use Rattle.gixp_wire.specs.CapabilityAdvertisement.{advertisement, TakesFirst, Advertises}
-use Rattle.gixp_wire.specs.Transport.{TakesAnswer}
+use Rattle.gixp_transport.specs.Handshake.{HandshakesBy}
+use Rattle.gixp_transport.specs.CapabilityAdvertisement.{advertisement, TakesFirst, Advertises}
+use Rattle.gixp_transport.specs.Transport.{TakesAnswer}
 use Rattle.gixp_handshake.specs.declared.handshake.error.Error.{Error as HandshakeError}
 use Rattle.gixp_handshake.specs.declared.handshake.read.Handshake.{Handshake}
 use Rattle.gixp_handshake.specs.Shake.{CredentialCall, OpeningResult, Got, StopsForMemory, Denied, First, Opens}
@@ -123,7 +123,7 @@ module _ {A X : Type 0} (Receives : RefMap → Handshake → Reading → Reading
       (subst (λ s. Appends old new (requests_shown s ++ mapped_shown course.mapped ++ end_shown course.ended)) sent w))
   shown-ungreeted e q course c k (unmapped h mid x g l m f) w =
       absurd (other-step (codes "handshake") (codes "refs") e q (step-before c.last.failures c.ran course.ended e c.ended k f) f-not-n)
-  shown-ungreeted e q course c k (fetched h mid behind m r g l t p f) w =
+  shown-ungreeted e q course c k (fetched h mid following m r g l t p f) w =
       absurd (other-step (codes "handshake") (codes "fetch") e q (fetch-step c.last.failures r course.ended e c.ended k f) t-not-n)
 
   shows-ungreeted : (e : PlanError) → e.step.now ≡ codes "handshake" → (course : Course) → IsCourse Receives bodies specs course

@@ -41,10 +41,10 @@ record AsksAlike {N I : Type 0} (haves : N → List ObjectId) (t u : Turn N I) :
 
 module _ {N I A : Type 0} (m : Manner N I A) where
   -- at least one request comes after those before
-  pub asks-behind : (x : At N I) (rs : List Round) (us : List ShallowUpdate) (a : AnswerValue) (end : At N I)
+  pub asks-following : (x : At N I) (rs : List Round) (us : List ShallowUpdate) (a : AnswerValue) (end : At N I)
       → x.reading.held.persists ≡ false → Packed m x rs us a end
       → (first : List ℕ) × (later : List (List ℕ)) × (end.reading.held.sent ≡ x.reading.held.sent ++ first ∷ later)
-  asks-behind x rs us a end alone p = by_turns p.turns (ap (λ (z : At N I). z.reading.held.sent) p.stands
+  asks-following x rs us a end alone p = by_turns p.turns (ap (λ (z : At N I). z.reading.held.sent) p.stands
       ∙ (last_written m x p.before p.turns p.last p.run p.lasts).enters alone)
     where
       by_turns : (ts : List (Turn N I)) → end.reading.held.sent ≡ x.reading.held.sent ++ (requests_of ts ++ request_of p.last ∷ [])

@@ -8,11 +8,11 @@ use Rattle.gixp_packetline.specs.Pieces.{Pieces}
 use Rattle.gixp_packetline.specs.Reading.{Reading, lines_from_stop}
 use Rattle.gixp_capabilities.specs.Capabilities.{CapabilityValue}
 use Rattle.gixp_capabilities.specs.Client.{ClientRefusal}
-use Rattle.gixp_wire.specs.declared.bodies.Body.{Body}
-use Rattle.gixp_wire.specs.declared.bodies.Bodies.{Bodies}
-use Rattle.gixp_wire.specs.Bodies.{answer_of, bodies_reading, IsNewBodies}
-use Rattle.gixp_wire.specs.CapabilityAdvertisement.{Advertised, advertisement}
-use Rattle.gixp_wire.specs.Transport.{first_answer, answer_pieces}
+use Rattle.gixp_transport.specs.declared.bodies.Body.{Body}
+use Rattle.gixp_transport.specs.declared.bodies.Bodies.{Bodies}
+use Rattle.gixp_transport.specs.Bodies.{answer_of, bodies_reading, IsNewBodies}
+use Rattle.gixp_transport.specs.CapabilityAdvertisement.{Advertised, advertisement}
+use Rattle.gixp_transport.specs.Transport.{first_answer, answer_pieces}
 use Rattle.gixp_refs.specs.declared.handshake.Ref.{Ref}
 use Rattle.gixp_refs.specs.Ref.{RefValue, ref_value}
 use Rattle.gixp_refs.specs.RefLine.{RefsRefusal}

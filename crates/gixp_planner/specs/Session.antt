@@ -6,7 +6,7 @@ use Rattle.gixp_graph.specs.declared.empty.NoRefs.{NoRefs}
 use Rattle.gixp_shallow.specs.declared.shallow.Shallow.TheVariants.{NoChange}
 use Rattle.gixp_shallow.specs.declared.store.memory.ShallowMemory.{ShallowMemory}
 use Rattle.gixp_negotiate.specs.declared.negotiate.negotiation.Negotiation.{Negotiation}
-use Rattle.gixp_wire.specs.declared.service.Service.TheVariants.{UploadPack}
+use Rattle.gixp_transport.specs.declared.service.Service.TheVariants.{UploadPack}
 use Rattle.gixp_packetline.specs.Reading.{Reading}
 use Rattle.gixp_requests.specs.Feature.{FeatureValue}
 use Rattle.gixp_requests.specs.Command.{git_table}
@@ -61,7 +61,7 @@ planner_call h = record {
   agent = planner_agent;
   more = [];
   tags = tags.None;
-  wishes = record { shallow = no_change; told = update_items h.v1_shallow_updates; reject = false };
+  fetch_options = record { shallow = no_change; reported = update_items h.v1_shallow_updates; reject = false };
 }
 
 -- a fetch of the planner
@@ -131,9 +131,9 @@ module _ {A X : Type 0} (Receives : RefMap → Handshake → Reading → Reading
     unmapped : (h : Handshake) (mid : Reading) (e : MapError) → GreetsWithoutAccount plain old mid (Ok h)
         → MapsRefs context h plain mid new (Err e) → mapped ≡ None
         → ended ≡ Err (refusal (codes "refs") (map_name e)) → Runs new mapped ended
-    fetched : (h : Handshake) (mid behind : Reading) (m : RefMap) (r : Result (Option Outcome) (FetchError A X))
-        → GreetsWithoutAccount plain old mid (Ok h) → MapsRefs context h plain mid behind (Ok m)
-        → Receives m (without_refs h) behind new r → mapped ≡ Some m → ended ≡ end_of r → Runs new mapped ended
+    fetched : (h : Handshake) (mid following : Reading) (m : RefMap) (r : Result (Option Outcome) (FetchError A X))
+        → GreetsWithoutAccount plain old mid (Ok h) → MapsRefs context h plain mid following (Ok m)
+        → Receives m (without_refs h) following new r → mapped ≡ Some m → ended ≡ end_of r → Runs new mapped ended
 
   -- a session whose ref map has this text
   pub record RunsPrinted (new : Reading) (text : List ℕ) (ended : Result Bool PlanRefusal) : Type 0 where

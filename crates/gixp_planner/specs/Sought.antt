@@ -6,10 +6,10 @@ use Rattle.gixp_packetline.specs.Pieces.{Pieces}
 use Rattle.gixp_packetline.specs.Lines.{lines_of}
 use Rattle.gixp_packetline.specs.Reading.{Reading}
 use Rattle.gixp_capabilities.specs.Capabilities.{CapabilityValue}
-use Rattle.gixp_wire.specs.declared.bodies.Body.{Body}
-use Rattle.gixp_wire.specs.declared.bodies.Bodies.{Bodies}
-use Rattle.gixp_wire.specs.Bodies.{answer_of, bodies_reading, IsNewBodies}
-use Rattle.gixp_wire.specs.Transport.{first_answer, later_answers, answer_pieces}
+use Rattle.gixp_transport.specs.declared.bodies.Body.{Body}
+use Rattle.gixp_transport.specs.declared.bodies.Bodies.{Bodies}
+use Rattle.gixp_transport.specs.Bodies.{answer_of, bodies_reading, IsNewBodies}
+use Rattle.gixp_transport.specs.Transport.{first_answer, later_answers, answer_pieces}
 use Rattle.gixp_refs.specs.Ref.{RefValue}
 use Rattle.gixp_refs.specs.RefLine.{RefsRefusal}
 use Rattle.gixp_refs.specs.Refs.{v2_refs}

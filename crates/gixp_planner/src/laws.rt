@@ -1,7 +1,7 @@
 //! Laws of the definitions that contracts cite. The functions do nothing. A caller that needs a law calls its function.
 ghost use Rattle.std.specs.Prelude.{◌≡◌, ℕ, true, List};
 ghost use Rattle.gixp_fetch.specs.Fetch.{parties_of};
-ghost use Rattle.gixp_wire.specs.declared.bodies.Body.{Body};
+ghost use Rattle.gixp_transport.specs.declared.bodies.Body.{Body};
 ghost use Rattle.gixp_hash.specs.declared.object_id.ObjectId.{ObjectId};
 ghost use Rattle.gixp_graph.specs.GraphData.{GraphValue};
 ghost use Rattle.gixp_planner.specs.Discovered.{GreetingsFollow};

@@ -124,7 +124,7 @@ span_less bytes text word (Some s) h k e =
     let p = cut_parts 32 (text_at bytes text) word (text_at bytes s) e in
     let i = p.0 in
     let all = length-text_at bytes text.at text.len h in
-    let behind = length-text_at bytes s.at s.len k in
+    let following = length-text_at bytes s.at s.len k in
     let less : length (text_at bytes s) ≡ length (text_at bytes text) - (i + 1) =
     ap length p.3 ∙ length-drop (i + 1) (text_at bytes text) in
     omega (arith, p.1)

@@ -15,7 +15,7 @@ use Rattle.gixp_records.specs.declared.refs.RefsFound.{RefsFound}
 use Rattle.gixp_records.specs.declared.refs.NextRef.{NextRef}
 use Rattle.gixp_records.specs.declared.refs.NextRef.TheVariants.{Ref, Stop as StopNext}
 use Rattle.gixp_records.specs.Span.{text_at, IsWithin}
-use Rattle.gixp_records.specs.Packets.{pieces_at, refusal_in, AreWordsWithin, IsBehind}
+use Rattle.gixp_records.specs.Packets.{pieces_at, refusal_in, AreWordsWithin, IsAfterPacket}
 use Rattle.gixp_records.specs.RecordLine.{Judges}
 
 -- the ref of a record; a record of an unknown kind has an empty name, which no server's ref has
@@ -47,9 +47,9 @@ IsRefusedAt bytes at (Line e) = (text : List ℕ) × (rest : Lines) × (lines_at
 -- the ref at an offset, or the stop, or the error
 abbrev pub IsNextRef : List ℕ → ℕ → Result NextRef RefsRefused → Type 0
 IsNextRef bytes at (Ok (Ref found next)) = (text : List ℕ) × (lines_at bytes at ≡ before (text ∷ []) (lines_at bytes next))
-    × (v2_line text ≡ Ok (ref_in bytes found)) × IsRecordWithin bytes found × IsBehind bytes at next
+    × (v2_line text ≡ Ok (ref_in bytes found)) × IsRecordWithin bytes found × IsAfterPacket bytes at next
 IsNextRef bytes at (Ok (StopNext next)) = (kind : MessageKind) × (lines_at bytes at ≡ no_lines (stop kind (pieces_at bytes next)))
-    × IsBehind bytes at next
+    × IsAfterPacket bytes at next
 IsNextRef bytes at (Err e) = IsRefusedAt bytes at e
 
 -- the lines from one offset to another are these refs
@@ -64,7 +64,7 @@ pub record AreLinesTo (bytes : List ℕ) (from next : ℕ) (values : List RefVal
 abbrev pub ReadsUpTo : List ℕ → ℕ → ℕ → List RefValue → RefsEnd → Type 0
 ReadsUpTo bytes from next values Full = AreLinesTo bytes from next values
 ReadsUpTo bytes from next values Stop = (stream_refs (drop from bytes) ≡ Ok values) × (kind : MessageKind) × (at : ℕ)
-    × AreLinesTo bytes from at values × (lines_at bytes at ≡ no_lines (stop kind (pieces_at bytes next))) × IsBehind bytes at next
+    × AreLinesTo bytes from at values × (lines_at bytes at ≡ no_lines (stop kind (pieces_at bytes next))) × IsAfterPacket bytes at next
 ReadsUpTo bytes from next values (Refused e) = AreLinesTo bytes from next values × IsRefusedAt bytes next e
 
 -- the refs from an offset on are in the first records, and the other records are unchanged

@@ -10,7 +10,7 @@ mod place;
 mod refs;
 mod span;
 mod spec_text;
-mod told;
+mod mapping_entry;
 
 pub use advertised::{
     AdvertisedEnd, AdvertisedFound, AdvertisedLineRefused, AdvertisedRefused, read_advertised,
@@ -19,8 +19,8 @@ pub use bands::{BandPiece, next_piece};
 pub use line::LineRefused;
 pub use mapped_refs::{MapEnd, MapRefused, map_records};
 pub use packets::PacketRefused;
-pub use place::{behind_header, behind_told};
+pub use place::{pack_start_v2, pack_start_v0};
 pub use refs::{RefRecord, RefsEnd, RefsFound, RefsRefused, read_refs};
 pub use span::Span;
 pub use spec_text::{SpecsRefused, prefix_text, specs_in};
-pub use told::{MappedRecord, MappingRecord};
+pub use mapping_entry::{MappedRecord, MappingRecord};

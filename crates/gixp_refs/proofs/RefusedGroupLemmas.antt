@@ -5,7 +5,7 @@ use Rattle.gixp_refs.specs.Ref.{RefValue}
 use Rattle.gixp_refs.specs.RefLine.{RefsRefusal}
 use Rattle.gixp_refs.specs.Refs.{with_ref}
 use Rattle.gixp_refs.specs.RefAdvertisement.{Symref, V1Line, nothing, peels, names, shallows, v1_line, NamedRef, single, pair, closed, in_front, group_with, group_end, groups}
-use Rattle.gixp_refs.specs.RefGroups.{Group, alone, with_peeled, lines_in, is_grouped, AreLines, AreGroupRefs, open_in, NextRefused, AreRefusedBehind}
+use Rattle.gixp_refs.specs.RefGroups.{Group, alone, with_peeled, lines_in, is_grouped, AreLines, AreGroupRefs, open_in, NextRefused, AreRefusedAfter}
 use Rattle.gixp_refs.proofs.GroupLemmas.{open_lines, open_groups, first_alone, no_peels_first, first_peeled, first_ref, open_at_end}
 
 -- the same, after a ref line that may be open
@@ -125,11 +125,11 @@ refused_pair : (t : List Symref) (last : Option NamedRef) (text : List ℕ) (tex
     → v1_line text ≡ Ok (peels left base) → pair t last left base ≡ p → with_ref p (groups texts end t None) ≡ Err e
     → (groups texts end t None ≡ Err e → Refused t None texts end e) → Refused t last (text ∷ texts) end e
 refused_pair t last text texts end e left base (Ok v) h p k f =
-    refused_peels t last text texts end e left base v h p (f (behind (groups texts end t None) k))
+    refused_peels t last text texts end e left base v h p (f (following (groups texts end t None) k))
   where
-    behind : (r : Result (List RefValue) RefsRefusal) → with_ref (Ok v) r ≡ Err e → r ≡ Err e
-    behind (Ok vs) h = cc
-    behind (Err x) h = h
+    following : (r : Result (List RefValue) RefsRefusal) → with_ref (Ok v) r ≡ Err e → r ≡ Err e
+    following (Ok vs) h = cc
+    following (Err x) h = h
 refused_pair t last text texts end e left base (Err x) h p k f =
     refused_here t last (text ∷ texts) end e (inr (left, base, h, (let y : x ≡ e = cc in p ∙ ap Err y)))
 
@@ -160,7 +160,7 @@ refused_from t last (text ∷ texts) end e h =
 
 -- if reading fails, the advertisement has groups and then an error
 pub refusal_found : (t : List Symref) (texts : List (List ℕ)) (end : Option RefsRefusal) (e : RefsRefusal)
-    → groups texts end t None ≡ Err e → AreRefusedBehind t texts end e
+    → groups texts end t None ≡ Err e → AreRefusedAfter t texts end e
 refusal_found t texts end e h =
     let x = refused_from t None texts end e h in
     record {
@@ -228,7 +228,7 @@ read_from t last (text ∷ texts) more (l ∷ ls) gs values end e h g r n =
 
 -- groups with an error after them fail with it
 pub refusal_read : (t : List Symref) (texts : List (List ℕ)) (end : Option RefsRefusal) (e : RefsRefusal)
-    → AreRefusedBehind t texts end e → groups texts end t None ≡ Err e
+    → AreRefusedAfter t texts end e → groups texts end t None ≡ Err e
 refusal_read t texts end e h =
     ap (λ x. groups x end t None) h.split
     ∙ read_from t None h.taken h.more h.are_groups.lines h.groups h.values end e h.are_groups.read h.are_groups.grouped h.refs

@@ -255,15 +255,15 @@ direct_written line text id rest name trim h split c some =
 pub peeled_written : (line text id rest name attribute object : List ℕ) → text ≡ trim_end_by is_whitespace line → is_written_id id ≡ true
     → text ≡ id ++ 32 ∷ rest → cut 32 rest ≡ (name, Some attribute) → (length name ≡ 0 → ⊥) → is_written_id object ≡ true
     → attribute ≡ codes "peeled:" ++ object → IsWrittenLine line text
-peeled_written line text id rest name attribute object trim h split c some ho tells =
+peeled_written line text id rest name attribute object trim h split c some ho target_named =
     let w = id_written id h in
     let o = id_written object ho in
-    let behind : rest ≡ name ++ 32 ∷ (codes "peeled:" ++ object) =
-    whole_from_some 32 rest name attribute c ∙ ap (λ t. name ++ 32 ∷ t) tells in
-    let all : text ≡ id ++ 32 ∷ (name ++ 32 ∷ (codes "peeled:" ++ object)) = split ∙ ap (λ t. id ++ 32 ∷ t) behind in (
+    let following : rest ≡ name ++ 32 ∷ (codes "peeled:" ++ object) =
+    whole_from_some 32 rest name attribute c ∙ ap (λ t. name ++ 32 ∷ t) target_named in
+    let all : text ≡ id ++ 32 ∷ (name ++ 32 ∷ (codes "peeled:" ++ object)) = split ∙ ap (λ t. id ++ 32 ∷ t) following in (
       peeled name w.id o.id,
       behind_id line text id rest h trim split ∙ ap (named text (Some w.id)) c
-          ∙ named_peeled text name w.id o.id attribute some (peeled_attribute text attribute object ho tells),
+          ∙ named_peeled text name w.id o.id attribute some (peeled_attribute text attribute object ho target_named),
       ap (λ t. t ++ 32 ∷ (name ++ (codes " peeled:" ++ (encode_lower o.id ++ codes "\n")))) w.writes
           ∙ ap (λ t. id ++ 32 ∷ (name ++ (codes " peeled:" ++ (t ++ codes "\n")))) o.writes
           ∙ sym (append_assoc id (32 ∷ (name ++ 32 ∷ (codes "peeled:" ++ object))) (codes "\n")

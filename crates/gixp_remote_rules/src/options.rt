@@ -27,7 +27,7 @@ impl OptionReply {
         match self {
             OptionReply::Ok => b"ok\n",
             OptionReply::Unsupported => b"unsupported\n",
-            OptionReply::Error => b"error the value can't be read\n",
+            OptionReply::Error => b"error the value is malformed\n",
         }
     }
 }

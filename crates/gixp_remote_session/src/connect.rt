@@ -27,7 +27,7 @@ use gixp_remote_rules::{
     Family, HelperOptions, Program, Settings, ShellRequest, ShellTask, SshCall, Start, UriSetting,
     Variant, probe_argv, proxy_for, server_argv, server_variables, upload_pack_argv, web_argv,
 };
-use gixp_stateless::Answers;
+use gixp_response_end::Answers;
 use gixp_url::{Address, Scheme};
 use std::alloc::AllocError;
 use std::cell::{Cell, RefCell};

@@ -84,7 +84,7 @@ pub(crate) fn read_startup(rt: &HostRuntime) -> Result<StartupInput, Error> {
         argv.next(),
         argv.next(),
     ) else {
-        return Err(Error::Other("this program is started by git-remote-gixp"));
+        return Err(Error::Other("only git-remote-gixp can start this program"));
     };
     let mut pipe = BufReader::new(alloc, File::open(rt, STARTUP)?)?;
     Ok(StartupInput {

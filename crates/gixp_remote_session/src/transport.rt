@@ -7,7 +7,7 @@ use crate::uris::{UriRecorder, Uris, record_refusal};
 use gix_protocol::client::Session;
 use gix_protocol::transport::{Connection, Discard};
 use gixp_packfile_uris::PackfileUris;
-use gixp_stateless::Answers;
+use gixp_response_end::Answers;
 use std::cell::RefCell;
 use std::fs::File;
 use std::io;

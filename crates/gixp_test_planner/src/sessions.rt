@@ -5,7 +5,7 @@ use gixp_graph::{Graph, NoObjects};
 use gixp_hash::ObjectId;
 use gixp_negotiators::HaveList;
 use gixp_planner::{PlanError, parse_haves, plan, read_bodies, read_haves};
-use gixp_wire::Body;
+use gixp_transport::Body;
 use std::alloc::{AllocError, Global};
 use std::io::ErrorKind;
 use std::test::Fail;
@@ -271,7 +271,7 @@ fn breaks_off(
 }
 
 #[test]
-fn tells_of_each_write_that_fails(rt: HostRuntime) -> Result<(), Fail> {
+fn reports_each_write_that_fails(rt: HostRuntime) -> Result<(), Fail> {
     let folder = session_folder(&rt, "write")?;
     for fails in 0..4u64 {
         let folder = folder.as_str();

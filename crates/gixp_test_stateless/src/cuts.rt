@@ -1,5 +1,5 @@
 //! Responses that arrive in pieces and are read in pieces of any size.
-use gixp_stateless::Answers;
+use gixp_response_end::Answers;
 use std::alloc::Global;
 use std::io::{self, ErrorKind, Read};
 use std::test::Fail;

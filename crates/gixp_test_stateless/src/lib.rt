@@ -1,4 +1,4 @@
-//! Tests of `gixp_stateless` and `gixp_packfile_uris` for what no clause says: the same bytes, cut in every way.
+//! Tests of `gixp_response_end` and `gixp_packfile_uris` for what no clause says: the same bytes, cut in every way.
 #![tactic(auto)]
 
 #[cfg(test)]

@@ -41,7 +41,7 @@ impl UriSink for Lines<'_> {
 
 // The bytes read until this many came, or the reader was at its end twice, or returned an error twice.
 #[derive(Drop)]
-struct Came {
+struct Received {
     passed: Vec<u8>,
     lines: Vec<u8>,
     is_refused: bool,
@@ -52,7 +52,7 @@ fn read_until(
     pieces: &mut Pieces<'_>,
     room: usize,
     count: usize,
-) -> Result<Came, Fail> {
+) -> Result<Received, Fail> {
     let mut lines = Vec::new(alloc);
     let mut passed = Vec::new(alloc);
     let mut refusals = 0u8;
@@ -79,7 +79,7 @@ fn read_until(
             }
         }
     }
-    Ok(Came {
+    Ok(Received {
         passed,
         lines,
         is_refused: refusals > 0,
@@ -100,10 +100,10 @@ fn expect<R: Abort + AllocGlobal>(rt: &R, case: Case<'_>) -> Result<(), Fail> {
                     fails,
                     failed: false,
                 };
-                let came = read_until(rt.alloc(), &mut pieces, room, 300)?;
-                assert_eq!(rt; came.passed.as_slice(), wanted);
-                assert_eq!(rt; came.lines.as_slice(), lines);
-                assert_eq!(rt; came.is_refused, is_refused);
+                let received = read_until(rt.alloc(), &mut pieces, room, 300)?;
+                assert_eq!(rt; received.passed.as_slice(), wanted);
+                assert_eq!(rt; received.lines.as_slice(), lines);
+                assert_eq!(rt; received.is_refused, is_refused);
             }
         }
     }
@@ -252,8 +252,8 @@ fn reads_no_more_of_a_section_than_comes_next(rt: HostRuntime) -> Result<(), Fai
                     fails: false,
                     failed: false,
                 };
-                let came = read_until(rt.alloc(), &mut pieces, room, passed)?;
-                assert_eq!(rt; came.passed.len(), passed);
+                let received = read_until(rt.alloc(), &mut pieces, room, passed)?;
+                assert_eq!(rt; received.passed.len(), passed);
                 assert_eq!(rt; stream.len().saturating_sub(pieces.bytes.len()), read);
             }
         }

@@ -12,7 +12,7 @@ mod status;
 #[cfg(test)]
 mod tests;
 mod watch;
-mod words;
+mod row;
 
 pub use listener::Counted;
 pub use objects::SortedObjects;
@@ -22,4 +22,4 @@ pub use refs::SortedRefs;
 pub use rows::{ObjectRow, RefRow};
 pub use status::exit_status;
 pub use watch::{Fetches, fetch_twice};
-pub use words::ReadError;
+pub use row::ReadError;

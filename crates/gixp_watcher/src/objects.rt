@@ -8,7 +8,7 @@ ghost use Rattle.gixp_watcher.specs.declared.rows.ObjectRow.{ObjectRow};
 ghost use Rattle.gixp_watcher.specs.Sorted.{Rises, IsAboveLast};
 
 use crate::rows::ObjectRow;
-use crate::words::{ReadError, object_in};
+use crate::row::{ReadError, object_in};
 use gix_protocol::ObjectId;
 use gix_protocol::fetch::negotiate::{CommitData, Find, ObjectError, ObjectKind};
 use std::alloc::Global;

@@ -170,7 +170,7 @@ fn refuses_every_beginning_and_takes_every_cut(rt: HostRuntime) -> Result<(), Fa
 }
 
 #[test]
-fn tells_of_devices_that_fail(rt: HostRuntime) -> Result<(), Fail> {
+fn reports_devices_that_fail(rt: HostRuntime) -> Result<(), Fail> {
     let a = rt.alloc();
     let bytes = b"003d0123456789012345678901234567890123456789 refs/heads/main\n0000";
     for fails in 0..13u64 {

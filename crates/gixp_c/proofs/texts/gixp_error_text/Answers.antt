@@ -12,8 +12,8 @@ no_room : (text old : List ℕ) (code : ℕ) (new : List ℕ) (now : ℕ) → Pu
 no_room text old code new now (e, inl p) h = let k = p.0 in absurd (omega (arith, h, k))
 no_room text old code new now (e, inr p) h = (p.1.1, omega (arith, e, p.1.0))
 
-pub returns-clause-told : goal.returns-clause-told
-returns-clause-told c = put_there _ _ _ _ _ c.put_text.ensures
+pub returns-clause-input_record : goal.returns-clause-input_record
+returns-clause-input_record c = put_there _ _ _ _ _ c.put_text.ensures
 
 pub returns-clause-no_room : goal.returns-clause-no_room
 returns-clause-no_room c = no_room _ _ _ _ _ c.put_text.ensures

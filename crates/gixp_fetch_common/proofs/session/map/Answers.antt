@@ -10,5 +10,5 @@ returns-in-Err-map-clause-refused g c = record {
     | inl unsent ↦ inl (unasked_then _ _ _ _ _ _ _ _ c.in-Ok.ensures.listed unsent.1)
     | inr x ↦ inr (unmapped_of x.0 _ c.in-Err-map.e x.2)
   ];
-  told = c.failure_of.ensures;
+  reported = c.failure_of.ensures;
 }

@@ -11,7 +11,7 @@ use Rattle.gixp_negotiators.proofs.skipping.reach.Goals as goal
 pub returns-clause-fits : goal.returns-clause-fits
 returns-clause-fits g c lost u ws f =
     owing_reached lost u ws c.args.graph.now.graph c.add.new.graph.graph _ _ c.args.id.now c.add.ensures.grows (c.add.ensures.sees refl)
-    (c.add.ensures.pops refl) c.add.ensures.settles_only (c.is_due.ensures.seen c.if-not-is_due.false)
+    (c.add.ensures.pops refl) c.add.ensures.marks_common_only (c.is_due.ensures.seen c.if-not-is_due.false)
     (c.is_due.ensures.open c.if-not-is_due.false) (c.add.ensures.marked (held_marked c.args.graph.now.graph c.args.id.now SEEN
     (c.is_due.ensures.seen c.if-not-is_due.false))) c.in_ok-push.ensures.items f
 
@@ -21,7 +21,7 @@ returns-then-not-is_due-clause-among g c = among_same (c.args.id.now ∷ []) c.a
 pub returns-clause-among : goal.returns-clause-among
 returns-clause-among g c =
     among_one c.args.id.now c.args.graph.now.graph c.add.new.graph.graph (c.is_due.ensures.seen c.if-not-is_due.false)
-    c.add.ensures.settles_only
+    c.add.ensures.marks_common_only
 
 pub returns-clause-common : goal.returns-clause-common
 returns-clause-common g c s = c.add.ensures.marked (held_marked c.args.graph.now.graph c.args.id.now SEEN s)
@@ -37,7 +37,7 @@ returns-clause-less g c =
 
 pub returns-clause-spreads : goal.returns-clause-spreads
 returns-clause-spreads g c =
-    kept_settled was_seen stays_seen _ _ c.args.id.now _ _ c.add.ensures.grows c.add.ensures.settles_only c.in_ok-push.ensures.items
+    kept_settled was_seen stays_seen _ _ c.args.id.now _ _ c.add.ensures.grows c.add.ensures.marks_common_only c.in_ok-push.ensures.items
 
 pub returns-clause-newly : goal.returns-clause-newly
 returns-clause-newly g c f v all =

@@ -4,14 +4,14 @@ use Rattle.gixp_graph.specs.GraphData.{GraphData}
 use Rattle.gixp_negotiators.specs.declared.queue.Waiting.{Waiting}
 use Rattle.gixp_negotiators.specs.Marks.{COMMON, SEEN, Grows, SeesNone, ListsNone, PopsNone, left}
 use Rattle.gixp_negotiators.specs.Waiting.{FitsOwing}
-use Rattle.gixp_negotiators.specs.Spread.{was_seen, BecomesCommon, IsNewlyCommon, SettlesAmong, KeepsSpread}
+use Rattle.gixp_negotiators.specs.Spread.{was_seen, BecomesCommon, IsNewlyCommon, MarksCommonAmong, KeepsSpread}
 use Rattle.gixp_negotiators.proofs.skipping.reach_all.Given as goal
 
 abbrev pub invariant-loop-id : goal.invariant-loop-id
 invariant-loop-id g l = record {
   fits : (lost u : ℕ) (ws : List Waiting) → FitsOwing lost u ws l.fn.graph.graph l.fn.due.items
       → FitsOwing lost u ws l.graph.graph l.due.items;
-  among : SettlesAmong l.ids l.fn.graph.graph l.graph.graph;
+  among : MarksCommonAmong l.ids l.fn.graph.graph l.graph.graph;
   sees : SeesNone l.fn.graph.graph l.graph.graph;
   lists : ListsNone l.fn.graph.graph l.graph.graph;
   pops : PopsNone l.fn.graph.graph l.graph.graph;

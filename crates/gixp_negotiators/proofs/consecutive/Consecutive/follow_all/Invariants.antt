@@ -1,7 +1,7 @@
 use Rattle.std.proofs.Common.{◌≡◌, ◌+◌, ◌≤◌, take, false}
 use Rattle.std.specs.Prelude.{All, IsTrue}
 use Rattle.std.specs.BinaryHeap.{heap_len, heap_items}
-use Rattle.gixp_negotiators.specs.Marks.{SEEN, Grows, SettlesNone, ListsNone, PopsNone, IsMarkedIfThere, left}
+use Rattle.gixp_negotiators.specs.Marks.{SEEN, Grows, MarksNoCommon, ListsNone, PopsNone, IsMarkedIfThere, left}
 use Rattle.gixp_negotiators.specs.Waiting.{KeepsTimed}
 use Rattle.gixp_negotiators.specs.Spread.{is_there, SeesCommon, SeesAmong, StaysSpread}
 use Rattle.gixp_negotiators.proofs.consecutive.Consecutive.follow_all.Given as goal
@@ -17,7 +17,7 @@ invariant-loop-parent g l = record {
   others : l.fn.is_common ≡ false → SeesAmong l.parents l.fn.graph.graph l.graph.graph;
   lists : ListsNone l.fn.graph.graph l.graph.graph;
   pops : PopsNone l.fn.graph.graph l.graph.graph;
-  settles : l.fn.is_common ≡ false → SettlesNone l.fn.graph.graph l.graph.graph;
+  settles : l.fn.is_common ≡ false → MarksNoCommon l.fn.graph.graph l.graph.graph;
   grows : Grows l.fn.graph.graph l.graph.graph;
   failures : l.fn.graph.failures ≤ l.graph.failures;
   unrefused : l.graph.refusals ≡ l.fn.graph.refusals;

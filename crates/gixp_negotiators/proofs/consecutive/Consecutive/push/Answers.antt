@@ -9,7 +9,7 @@ use Rattle.gixp_hash.specs.declared.object_id.ObjectId.{ObjectId}
 use Rattle.gixp_graph.specs.declared.flags.Flags.{Flags}
 use Rattle.gixp_graph.specs.GraphData.{GraphData}
 use Rattle.gixp_graph.specs.Object.{time_at}
-use Rattle.gixp_negotiators.specs.Marks.{COMMON, SEEN, Claims, SettlesNone, has_all, has_mark}
+use Rattle.gixp_negotiators.specs.Marks.{COMMON, SEEN, Claims, MarksNoCommon, has_all, has_mark}
 use Rattle.gixp_negotiators.specs.MarkLaws.{held_marked}
 use Rattle.gixp_negotiators.specs.Waiting.{waiting_at, open_one}
 use Rattle.gixp_negotiators.proofs.GrowLemmas.{has_part, from_eq}
@@ -31,7 +31,7 @@ apart_two m e f = ⊎_elim (λ e. ap (λ n. bit_and n 2) e)
 
 -- whether the commit is common afterwards
 common_after : (g h : GraphData) (id : ObjectId) (flags : Flags) (marks : ℕ) → Claims SEEN g h id flags → has_mark marks h.held id ≡ true
-    → (bit_and marks 2 ≡ 0 → SettlesNone g h) → (has_all COMMON marks ≡ false → bit_and marks 2 ≡ 0)
+    → (bit_and marks 2 ≡ 0 → MarksNoCommon g h) → (has_all COMMON marks ≡ false → bit_and marks 2 ≡ 0)
     → has_mark COMMON h.held id ≡ (has_all COMMON flags.0 || has_all COMMON marks)
 common_after g h id flags marks k marked settles apart = at (has_all COMMON flags.0) (has_all COMMON marks) refl refl
   where
@@ -63,7 +63,7 @@ returns-clause-keeps g c =
     admitted _ _ _ _ c.either_has-is_common.result two c.in_ok-admit.ensures.common c.in_ok-admit.ensures.open in
     timed_pushed _ _ _ _ _ _
     (waiting_at c.in-Some.time c.args.self.now.queue.rank c.args.id.now) c.claim.ensures.grows c.claim.ensures.sees_only
-    (c.claim.ensures.pops (apart_pop c.args.marks.0 c.requires)) c.claim.ensures.settles_only k.before k.after
+    (c.claim.ensures.pops (apart_pop c.args.marks.0 c.requires)) c.claim.ensures.marks_common_only k.before k.after
     (rw (c.admit.ensures.queue, to_z-of_z w64 c.in-Some.time fits) at c.in_ok-push.ensures.waits) is timed
 
 pub returns-clause-room : goal.returns-clause-room
@@ -86,7 +86,7 @@ pub returns-clause-spreads : goal.returns-clause-spreads
 returns-clause-spreads g c =
     let k : Claims SEEN c.args.graph.now.graph c.claim.new.graph.graph c.args.id.now c.in-Some.flags =
     rw c.in-Some.is at c.in_ok-time.ensures.claimed in
-    stays_pushed is_there stays_there c.args.id.now _ _ c.claim.ensures.grows c.claim.ensures.settles_only k.before
+    stays_pushed is_there stays_there c.args.id.now _ _ c.claim.ensures.grows c.claim.ensures.marks_common_only k.before
 
 pub returns-in_default-clause-marked : goal.returns-in_default-clause-marked
 returns-in_default-clause-marked g c s unseen = absurd (unseen_marked c.args.graph.now.graph c.claim.new.graph.graph c.args.id.now

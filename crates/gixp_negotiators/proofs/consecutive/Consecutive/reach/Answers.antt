@@ -6,11 +6,11 @@ use Rattle.gixp_negotiators.proofs.consecutive.Consecutive.reach.Goals as goal
 
 pub returns-clause-spreads : goal.returns-clause-spreads
 returns-clause-spreads g c =
-    kept_settled is_there stays_there _ _ c.args.id.now _ _ c.settle.ensures.grows c.settle.ensures.settles_only c.in_ok-push.ensures.items
+    kept_settled is_there stays_there _ _ c.args.id.now _ _ c.make_common.ensures.grows c.make_common.ensures.marks_common_only c.in_ok-push.ensures.items
 
 pub returns-then-not-branch-clause-spreads : goal.returns-then-not-branch-clause-spreads
 returns-then-not-branch-clause-spreads g c =
-    kept_grown is_there stays_there _ _ _ c.settle.ensures.grows (c.in_ok-settle.ensures.kept c.if-not-branch.true)
+    kept_grown is_there stays_there _ _ _ c.make_common.ensures.grows (c.in_ok-make_common.ensures.kept c.if-not-branch.true)
 
 pub returns-then-not-branch-clause-owes : goal.returns-then-not-branch-clause-owes
 returns-then-not-branch-clause-owes g c = owes_same (c.args.id.now ∷ []) c.args.due.now.items

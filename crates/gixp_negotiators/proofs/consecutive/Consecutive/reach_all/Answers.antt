@@ -42,7 +42,7 @@ loop-id-preserved g c = record {
   common = λ all. c.in_ok-reach.ensures.common (c.loop-id.invariant.common all);
   among =
       within_step c.args.ids.now c.loop-id.id-index _ c.args.graph.now.graph c.loop-id.graph.graph c.reach.new.graph.graph
-      c.loop-id-test.true c.loop-id.invariant.among c.reach.ensures.settles_only;
+      c.loop-id-test.true c.loop-id.invariant.among c.reach.ensures.marks_common_only;
   owes = owes_step c.args.ids.now c.loop-id.id-index _ c.args.due.now.items c.loop-id.due.items c.reach.new.due.items
       c.loop-id-test.true c.loop-id.invariant.owes c.in_ok-reach.ensures.owes;
   lists = λ q m. c.loop-id.invariant.lists q (c.in_ok-reach.ensures.lists q m);

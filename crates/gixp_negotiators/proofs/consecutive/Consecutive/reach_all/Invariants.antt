@@ -3,7 +3,7 @@ use Rattle.std.specs.Prelude.{All}
 use Rattle.std.specs.BinaryHeap.{heap_items}
 use Rattle.gixp_negotiators.specs.Marks.{COMMON, SEEN, Grows, SeesNone, ListsNone, PopsNone, has_mark, IsMarkedIfThere, left}
 use Rattle.gixp_negotiators.specs.Waiting.{KeepsTimed}
-use Rattle.gixp_negotiators.specs.Spread.{is_there, SettlesWithin, OwesAmong, KeepsSpread}
+use Rattle.gixp_negotiators.specs.Spread.{is_there, MarksCommonWithin, OwesAmong, KeepsSpread}
 use Rattle.gixp_negotiators.proofs.consecutive.Consecutive.reach_all.Given as goal
 
 abbrev pub invariant-loop-id : goal.invariant-loop-id
@@ -18,7 +18,7 @@ invariant-loop-id g l = record {
   sees : SeesNone l.fn.graph.graph l.graph.graph;
   common : All (λ q. has_mark COMMON l.fn.graph.graph.held q ≡ true) l.fn.due.items
       → All (λ q. has_mark COMMON l.graph.graph.held q ≡ true) l.due.items;
-  among : SettlesWithin l.ids l.fn.graph.graph l.graph.graph;
+  among : MarksCommonWithin l.ids l.fn.graph.graph l.graph.graph;
   owes : OwesAmong l.ids l.fn.due.items l.due.items;
   lists : ListsNone l.fn.graph.graph l.graph.graph;
   pops : PopsNone l.fn.graph.graph l.graph.graph;

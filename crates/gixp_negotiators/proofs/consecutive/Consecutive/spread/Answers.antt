@@ -6,7 +6,7 @@ use Rattle.std.proofs.lemmas.Bool.{or_right}
 use Rattle.gixp_graph.specs.Object.{Objects, commit_at}
 use Rattle.gixp_negotiators.specs.Marks.{COMMON, SEEN, IsFoundWith, has_mark}
 use Rattle.gixp_negotiators.proofs.FitLemmas.{timed_grown, timed_on}
-use Rattle.gixp_negotiators.specs.Spread.{is_there, SettlesWithin, OwesAmong}
+use Rattle.gixp_negotiators.specs.Spread.{is_there, MarksCommonWithin, OwesAmong}
 use Rattle.gixp_negotiators.proofs.SpreadLemmas.{stays_there, parents_common, common_since, from_unseen, from_pushed, from_parents}
 use Rattle.gixp_negotiators.proofs.SeeLemmas.{sees_same, sees_on, sees_one, near_unseen}
 use Rattle.gixp_negotiators.proofs.consecutive.Consecutive.spread.Goals as goal
@@ -89,7 +89,7 @@ returns-clause-among g c =
     let f : IsFoundWith c.look.new.graph.graph c.args.id.now c.in-Some.flags = rw c.in-Some.is at c.in_ok-flags.ensures.found in
     within_after (parents_in c.reach_all.new.graph.graph.held c.args.id.now) c.args.graph.now.graph c.look.new.graph.graph
     c.reach_all.new.graph.graph c.look.ensures.settles
-    (subst (λ ids. SettlesWithin ids c.look.new.graph.graph c.reach_all.new.graph.graph) (c.deref.ensures.value
+    (subst (λ ids. MarksCommonWithin ids c.look.new.graph.graph c.reach_all.new.graph.graph) (c.deref.ensures.value
     ∙ c.in_ok-parents.ensures.parents ∙ sym (c.reach_all.ensures.grows.parents c.args.id.now f.held)) c.in_ok-reach_all.ensures.among)
 
 pub returns-in_default-clause-owes : goal.returns-in_default-clause-owes

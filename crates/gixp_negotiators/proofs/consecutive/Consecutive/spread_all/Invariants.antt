@@ -4,7 +4,7 @@ use Rattle.std.specs.BinaryHeap.{heap_len, heap_items}
 use Rattle.gixp_negotiators.specs.Marks.{COMMON, SEEN, Grows, ListsNone, PopsNone, has_mark, left}
 use Rattle.gixp_negotiators.specs.Waiting.{KeepsTimed}
 use Rattle.gixp_graph.specs.Object.{commit_at}
-use Rattle.gixp_negotiators.specs.Spread.{IsFrom, SettlesFrom, is_there, SeesCommon, HasCommonParents, SpreadsFrom}
+use Rattle.gixp_negotiators.specs.Spread.{IsFrom, MarksCommonFrom, is_there, SeesCommon, HasCommonParents, SpreadsFrom}
 use Rattle.gixp_negotiators.proofs.consecutive.Consecutive.spread_all.Given as goal
 
 abbrev pub invariant-loop-next : goal.invariant-loop-next
@@ -18,7 +18,7 @@ invariant-loop-next g l = record {
       → (has_mark SEEN l.fn.graph.graph.held l.fn.id || has_mark COMMON l.fn.graph.graph.held l.fn.id) ≡ true)
       → SeesCommon l.fn.graph.graph l.graph.graph;
   common : All (λ q. has_mark COMMON l.graph.graph.held q ≡ true) l.due.items;
-  only : SettlesFrom l.fn.id l.fn.graph.graph l.graph.graph;
+  only : MarksCommonFrom l.fn.id l.fn.graph.graph l.graph.graph;
   owed : All (IsFrom l.graph.graph l.fn.id) l.due.items;
   lists : ListsNone l.fn.graph.graph l.graph.graph;
   pops : PopsNone l.fn.graph.graph l.graph.graph;

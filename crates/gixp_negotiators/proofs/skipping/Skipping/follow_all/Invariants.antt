@@ -3,7 +3,7 @@ use Rattle.std.specs.Prelude.{◌≢◌, All}
 use Rattle.gixp_negotiators.specs.declared.skipping.Legacy.TheVariants.{Common}
 use Rattle.gixp_negotiators.specs.Spread.{AllHeld}
 use Rattle.std.specs.BinaryHeap.{heap_len, heap_items}
-use Rattle.gixp_negotiators.specs.Marks.{SEEN, Grows, SettlesNone, ListsNone, PopsNone, IsMarkedIfThere, left}
+use Rattle.gixp_negotiators.specs.Marks.{SEEN, Grows, MarksNoCommon, ListsNone, PopsNone, IsMarkedIfThere, left}
 use Rattle.gixp_negotiators.specs.Passing.{Hands, AllTaken}
 use Rattle.gixp_negotiators.specs.Waiting.{KeepsCount, KeepsUnread, QueuesNew}
 use Rattle.gixp_negotiators.proofs.skipping.Skipping.follow_all.Given as goal
@@ -12,7 +12,7 @@ abbrev pub invariant-loop-parent : goal.invariant-loop-parent
 invariant-loop-parent g l = record {
   fits : KeepsCount (AllHeld l.fn.self.unread l.fn.graph.graph l.graph.graph) l.fn.self.uncommon (heap_items l.fn.self.queue.waiting)
       l.fn.graph.graph l.self.uncommon (heap_items l.self.queue.waiting) l.graph.graph;
-  settles : l.legacy ≢ Common → SettlesNone l.fn.graph.graph l.graph.graph;
+  settles : l.legacy ≢ Common → MarksNoCommon l.fn.graph.graph l.graph.graph;
   lists : ListsNone l.fn.graph.graph l.graph.graph;
   pops : PopsNone l.fn.graph.graph l.graph.graph;
   unread : KeepsUnread l.fn.self.unread l.fn.graph.graph l.self.unread l.graph.graph;

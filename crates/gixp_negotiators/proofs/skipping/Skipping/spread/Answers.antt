@@ -1,5 +1,5 @@
 use Rattle.std.proofs.Common.{◌∙◌, subst}
-use Rattle.gixp_negotiators.specs.Spread.{was_seen, SettlesAmong}
+use Rattle.gixp_negotiators.specs.Spread.{was_seen, MarksCommonAmong}
 use Rattle.gixp_negotiators.proofs.GrowLemmas.{grows_none}
 use Rattle.gixp_negotiators.proofs.SpreadLemmas.{stays_seen, parents_common, from_parents}
 use Rattle.gixp_negotiators.proofs.skipping.Skipping.spread.Goals as goal
@@ -12,5 +12,5 @@ returns-clause-spreads g c = from_parents was_seen stays_seen c.args.id.now _ _ 
 
 pub returns-clause-among : goal.returns-clause-among
 returns-clause-among g c =
-    subst (λ ids. SettlesAmong ids c.args.graph.now.graph c.reach_all.new.graph.graph)
+    subst (λ ids. MarksCommonAmong ids c.args.graph.now.graph c.reach_all.new.graph.graph)
     (c.deref.ensures.value ∙ c.in_ok-parents.ensures.parents) c.in_ok-reach_all.ensures.among
