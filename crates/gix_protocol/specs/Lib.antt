@@ -167,7 +167,7 @@ pub use Rattle.gixp_negotiators.specs.Passing as NegotiatorPassing
 pub use Rattle.gixp_negotiators.specs.Spread as NegotiatorSpread
 pub use Rattle.gixp_negotiators.specs.SpreadLaws as NegotiatorSpreadLaws
 pub use Rattle.gixp_negotiators.specs.Waiting as NegotiatorWaiting
-pub use Rattle.gixp_text.specs.Lines as TextLines
+pub use Rattle.gixp_utils.specs.Lines as TextLines
 pub use Rattle.gixp_negotiators.specs.WaitingLaws as NegotiatorWaitingLaws
 pub use Rattle.gixp_memory.specs.Text as RepositoryText
 pub use Rattle.gixp_memory.specs.Repository

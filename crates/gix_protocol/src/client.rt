@@ -2,7 +2,8 @@
 //! `Remote::connect`, `prepare_fetch` and `receive`.
 pub use gixp_client::{
     Boundary, ClientName, Conflict, Error, ErrorClass, Fetched, Filtered, FilteredNegotiation,
-    ListeningTransport, Kept, ListedRefs, Listener, LocalChange, MOST_HAVES, PackError, RemoteLines, Repository,
-    Request, ServerText, Session, SessionNegotiation, Silent, State, UriProtocols, UnshallowCheck,
-    Windowed, fetch_once, fetch_once_with, laws, local_changes, over_streams,
+    Kept, ListedRefs, Listener, ListeningTransport, LocalChange, MOST_HAVES, PackError,
+    RemoteLines, Repository, Request, ServerText, Session, SessionNegotiation, Silent, State,
+    UnshallowCheck, UriProtocols, Windowed, fetch_once, fetch_once_with, laws, local_changes,
+    over_streams,
 };

@@ -1,6 +1,6 @@
 -- The results of the exports, by the contracts of the functions that they call.
 use Rattle.std.specs.Prelude.{◌≡◌, ◌⊎◌, ◌≤◌, ◌<◌, ◌++◌, ℕ, Bool, true, false, List, [], length, drop, Ok, Err}
-use Rattle.gixp_text.specs.Lines.{text_lines}
+use Rattle.gixp_utils.specs.Lines.{text_lines}
 use Rattle.gixp_refspec.specs.Spec.{Spec}
 use Rattle.gixp_records.specs.declared.mapped_refs.MapEnd.{MapEnd}
 use Rattle.gixp_records.specs.declared.mapped_refs.MapRefused.{MapRefused}

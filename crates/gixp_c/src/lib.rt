@@ -13,6 +13,6 @@ mod texts;
 pub use advertised::gixp_advertised;
 pub use bands::{PieceRecord, gixp_piece};
 pub use map::{gixp_map, gixp_prefixes};
-pub use next::{StepRecord, SessionInputRecord, gixp_next};
+pub use next::{SessionInputRecord, StepRecord, gixp_next};
 pub use refs::{FoundRecord, gixp_refs};
 pub use texts::gixp_error_text;

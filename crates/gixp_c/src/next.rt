@@ -8,7 +8,7 @@ ghost use Rattle.gixp_c.specs.NextExport.{depth_value, ReadsInput, StepsAsReport
 
 use crate::code::{NO_ROOM, OK, SERVER, engine_code};
 use crate::texts::copy_text;
-use gixp_engine::{EngineError, LeavePack, EngineStep, SessionInput, ids_of, next_step, specs_of};
+use gixp_engine::{EngineError, EngineStep, LeavePack, SessionInput, ids_of, next_step, specs_of};
 use gixp_fetch::consume::ConsumePack;
 use gixp_graph::{NoObjects, NoRefs, Objects, Shared};
 use gixp_memory::StoredObjects;
@@ -56,7 +56,10 @@ fn shallow_of(depth: u32) -> Shallow
     }
 }
 
-fn input_of(alloc: Global, input_record: &SessionInputRecord<'_>) -> Result<SessionInput, EngineError>
+fn input_of(
+    alloc: Global,
+    input_record: &SessionInputRecord<'_>,
+) -> Result<SessionInput, EngineError>
     ensures { ReadsInput input_record.now result }
 {
     let specs = match specs_of(alloc, input_record.specs) {

@@ -128,7 +128,8 @@ fn updates_between(
 {
     let received = ids_beyond(alloc, after, before)?;
     let went = ids_beyond(alloc, before, after)?;
-    received.iter()
+    received
+        .iter()
         .map(|id| ShallowUpdate::Shallow(*id))
         .chain(went.iter().map(|id| ShallowUpdate::Unshallow(*id)))
         .collect(alloc)

@@ -6,11 +6,11 @@ ghost use Rattle.gixp_client.specs.ClientError.{message_in, place_of, kind_in, o
 ghost use Rattle.gixp_client.specs.Reasons.{reason};
 
 use crate::consumer::PackError;
+use crate::printable::Words;
 use crate::reason::{
     answer_reason, client_reason, handshake_reason, pack_reason, read_reason, refs_reason,
 };
 use crate::refusal::{answer_kind, client_kind, pack_kind, parse_kind};
-use crate::printable::Words;
 use bstr::{BStr, BString};
 use gixp_capabilities::client;
 use gixp_fetch::consume::CopyError;
@@ -200,7 +200,10 @@ impl Display for Rest<'_> {
             }
             Error::Answer(e) => write!(f, "a response can't be read: {e:?}"),
             Error::Unnegotiated { rounds } => {
-                write!(f, "the negotiation ended without a pack after {rounds} round(s)")
+                write!(
+                    f,
+                    "the negotiation ended without a pack after {rounds} round(s)"
+                )
             }
             Error::Objects(e) => write!(f, "an object of the repository can't be read: {e:?}"),
             Error::LocalRefs(e) => write!(f, "the refs of the repository can't be read: {e:?}"),
@@ -212,7 +215,10 @@ impl Display for Rest<'_> {
                     "the server takes {id} out of the shallow boundary, which doesn't have it"
                 )
             }
-            Error::Pack(PackError::Refused(why)) => write!(f, "the consumer refused the pack: {why}"),
+            Error::Pack(PackError::Refused(why)) => write!(
+                f,
+                "the consumer refused the pack: {why}"
+            ),
             Error::Pack(e) => write!(f, "the pack can't be read: {e:?}"),
             Error::Rest(e) => write!(f, "the data after the pack can't be read: {e:?}"),
             Error::Reported { message: _ } => f.write_str("the server reported an error"),

@@ -19,13 +19,13 @@ use crate::error::Error;
 use crate::fetched::Fetched;
 use crate::listen::{Kept, Listener};
 use crate::name::SentName;
+use crate::outcome::{
+    copied_updates, expect_filter, is_reported, reported, settled, store_of, untaken,
+};
 use crate::repository::Repository;
 use crate::request::Request;
 use crate::run::{Peer, SessionNegotiation, Wanted, fetch_mapped};
 use crate::session::Session;
-use crate::outcome::{
-    copied_updates, expect_filter, is_reported, reported, settled, store_of, untaken,
-};
 use crate::state::{State, state_after_fetch};
 use gixp_fetch::consume::ConsumePack;
 use gixp_fetch::mapped::NegotiatesMap;

@@ -16,7 +16,9 @@ pub(crate) fn read_reason(e: &read::Error) -> Option<&'static str>
 {
     match e {
         read::Error::Io(_) => Some("the connection can't be read"),
-        read::Error::Decode(_) => Some("protocol error: the server sent something that is not a packet line"),
+        read::Error::Decode(_) => Some(
+            "protocol error: the server sent something that is not a packet line",
+        ),
         read::Error::UnexpectedFrame => {
             Some("protocol error: the server sent an unexpected packet")
         }

@@ -9,8 +9,8 @@ ghost use Rattle.gixp_client.specs.ClientNames.{agent_of, own_features};
 ghost use Rattle.gixp_client.specs.Unshallowed.{TakesKnown};
 
 use crate::error::Error;
-use crate::name::{SentName, identified, named};
 use crate::filter::Filtered;
+use crate::name::{SentName, identified, named};
 use crate::refusal::report;
 use crate::request::Request;
 use crate::unshallow_check::{UnshallowCheck, known_alone};
@@ -196,7 +196,15 @@ where
     let windowed = Windowed::new(negotiation, most);
     let filtered = Filtered::new(windowed, request.filter.as_deref());
     let mut unshallow_check = UnshallowCheck::new(filtered, boundary);
-    let received = fetch_over(alloc, &mut unshallow_check, name, request, peer, store, pack);
+    let received = fetch_over(
+        alloc,
+        &mut unshallow_check,
+        name,
+        request,
+        peer,
+        store,
+        pack,
+    );
     let report = known_alone(received, unshallow_check.unknown(), boundary);
     (report, unshallow_check.is_negotiated())
 }

@@ -19,12 +19,12 @@ ghost use Rattle.gixp_client.specs.ListEnds.{IsUnasked, is_flush, are_whole, who
 ghost use Rattle.gixp_client.specs.SessionStates.{state_after_refusal, state_after_map};
 
 use crate::error::Error;
-use crate::listening_transport::ListeningTransport;
 use crate::list_ends::{are_whole, expect_format, is_at_flush, whole_map, whole_refs};
 use crate::listen::Listener;
+use crate::listening_transport::ListeningTransport;
 use crate::name::{ClientName, is_session_id};
-use crate::request::Request;
 use crate::outcome::can_filter;
+use crate::request::Request;
 use crate::state::{State, state_after_map, state_after_refusal};
 use gixp_capabilities::Capabilities;
 use gixp_handshake::credentials::{self, Action};

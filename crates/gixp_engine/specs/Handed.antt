@@ -3,7 +3,7 @@ use Rattle.std.specs.Prelude.{◌≡◌, ◌==◌, ℕ, ◌/◌, ◌%◌, ◌<�
 use Rattle.std.specs.Simd.{first_chunks}
 use Rattle.std.specs.declared.alloc.Global.{Global}
 use Rattle.gixp_hash.specs.declared.object_id.ObjectId.{ObjectId}
-use Rattle.gixp_text.specs.Lines.{text_lines}
+use Rattle.gixp_utils.specs.Lines.{text_lines}
 use Rattle.gixp_packetline.specs.Pieces.{stream_pieces}
 use Rattle.gixp_packetline.specs.TransportState.{Answer, body}
 use Rattle.gixp_refspec.specs.RefSpec.{owned_value_of}

@@ -20,7 +20,7 @@ use gixp_negotiate::negotiate::negotiation::Negotiation;
 use gixp_negotiators::HaveList;
 use gixp_packetline::Protocol;
 use gixp_progress::Discard;
-use gixp_records::{PacketRefused, pack_start_v2, pack_start_v0};
+use gixp_records::{PacketRefused, pack_start_v0, pack_start_v2};
 use gixp_refmap::refmap::init::Context;
 use gixp_shallow::{Shallow, ShallowMemory, ShallowStore};
 use gixp_sidebands::{Interrupt, NeverInterrupt};
@@ -73,7 +73,11 @@ fn start_of_last(ends: &[usize]) -> usize
 }
 
 // The step after a session whose requests all have a response.
-fn step_after(bytes: &[u8], ends: &[usize], pack: Option<Protocol>) -> Result<EngineStep, EngineError>
+fn step_after(
+    bytes: &[u8],
+    ends: &[usize],
+    pack: Option<Protocol>,
+) -> Result<EngineStep, EngineError>
     requires { start_of_last ends.now ≤ length bytes.now }
     ensures { (sent : List (List ℕ)) → length sent + 1 ≡ length ends.now → StepsTo bytes.now ends.now sent (Ok pack) result }
 {

@@ -3,7 +3,7 @@ ghost use Rattle.std.specs.Prelude.{◌≡◌, ⊤, false, None};
 
 use gix_protocol::transport::{NestedProgress, Progress};
 use gixp_fetch_common::sanitized;
-use gixp_text::without_line_end;
+use gixp_utils::without_line_end;
 use std::alloc::AllocError;
 use std::cell::Cell;
 

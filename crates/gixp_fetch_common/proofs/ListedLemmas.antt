@@ -20,7 +20,7 @@ use Rattle.gixp_graph.proofs.MarkLemmas.{same_id}
 use Rattle.gixp_graph.specs.Object.{Objects, Object, Commit, commit_at}
 use Rattle.gixp_graph.specs.declared.objects.ObjectKind.TheVariants as kind
 use Rattle.gixp_updates.specs.Ancestors.{IsReachedFrom}
-use Rattle.gixp_text.specs.Lines.{text_lines, line_words}
+use Rattle.gixp_utils.specs.Lines.{text_lines, line_words}
 use Rattle.gixp_memory.specs.Text.{after_lines, BeginsUnread}
 use Rattle.gixp_memory.specs.Repository.{named_id, named_ids, seconds, commit_of_words, commit_line, with_commit}
 use Rattle.gixp_fetch_common.specs.declared.listed_commits.CommitText.{CommitText}

@@ -11,7 +11,7 @@ use bstr::BString;
 use gix_protocol::client::Fetched;
 use gix_protocol::fetch::refs::update;
 use gix_protocol::transport::{ObjectId, ServerMessage};
-use gixp_text::without_line_end;
+use gixp_utils::without_line_end;
 use std::alloc::{AllocError, AllocFailed, Global};
 use std::fmt;
 use std::fmt::Display;

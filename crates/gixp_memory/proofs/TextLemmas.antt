@@ -3,7 +3,7 @@ use Rattle.std.proofs.Common.{◌≡◌, ℕ, ◌+◌, ◌<◌, ◌≤◌, List,
 use Rattle.std.specs.Prelude.{option_map, option_and_then}
 use Rattle.std.proofs.lemmas.List.{drop_more, drop_all, take_more, take_all, take-map, drop-map, map-append}
 use Rattle.gixp_hash.specs.declared.object_id.ObjectId.{ObjectId}
-use Rattle.gixp_text.specs.Lines.{text_lines}
+use Rattle.gixp_utils.specs.Lines.{text_lines}
 use Rattle.gixp_memory.specs.Text.{after_lines, BeginsUnread, ReadsSome}
 use Rattle.gixp_memory.specs.Repository.{one_digit_more, digits_more, named_id, named_ids}
 

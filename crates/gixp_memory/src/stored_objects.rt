@@ -3,7 +3,7 @@ ghost use Rattle.std.specs.Prelude.{◌≡◌, Some, None, IfOk, IfErr, IfSome, 
 ghost use Rattle.std.specs.FinMap as finite;
 ghost use Rattle.gixp_graph.specs.Object.{commit_of};
 ghost use Rattle.gixp_graph.specs.declared.objects.ObjectError.TheVariants.{Memory};
-ghost use Rattle.gixp_text.specs.Lines.{line_words};
+ghost use Rattle.gixp_utils.specs.Lines.{line_words};
 ghost use Rattle.gixp_memory.specs.Memory.{kind_answered, answer_value};
 ghost use Rattle.gixp_memory.specs.Text.{FillsByText};
 ghost use Rattle.gixp_memory.specs.Repository.{with_commit, with_new, with_kind, with_id, commit_line, kind_line, commit_of_words, kind_of_words, named_kind};
@@ -12,7 +12,7 @@ ghost use Rattle.gixp_memory.specs.Repository.{entry_value, answered_kind, answe
 use crate::texts::{TextError, named_id, named_ids, named_kind, seconds};
 use gixp_graph::{CommitData, Find, ObjectError, ObjectKind};
 use gixp_hash::ObjectId;
-use gixp_text::{line_words, text_lines, without_line_end};
+use gixp_utils::{line_words, text_lines, without_line_end};
 use std::alloc::{AllocError, Global};
 use std::collections::BTreeMap;
 use std::marker::Model;

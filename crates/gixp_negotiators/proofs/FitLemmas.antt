@@ -17,7 +17,7 @@ use Rattle.gixp_graph.specs.GraphData.{HeldCommit, Commits, GraphData, shown}
 use Rattle.gixp_graph.specs.GraphLaws.{same_from}
 use Rattle.gixp_negotiators.specs.declared.queue.Waiting.{Waiting}
 use Rattle.gixp_negotiators.specs.Marks.{COMMON, SEEN, POPPED, has_all, has_mark, Grows, AddsNone, AddsOnly, SeesNone, SeesOnly, MarksNoCommon, MarksCommonOnly, PopsNone, PopsOnly, Claims}
-use Rattle.gixp_negotiators.specs.Waiting.{waits_of, queued_one, open_one, open_in, Fits, FitsSeen, KeepsCount, KeepsQueue, KeepsTimed, AllTimed, NoneNewer, AllCommon, IsNewest, IsNewestAt, IsNewestIn, IsDated, QueuesNew}
+use Rattle.gixp_negotiators.specs.Waiting.{waits_of, queued_one, open_one, open_in, Fits, FitsSeen, KeepsCount, KeepsQueue, KeepsTimed, AllTimed, NoneNewer, AllCommon, IsNewestWaiting, IsNewestAt, IsNewestIn, IsDated, QueuesNew}
 use Rattle.gixp_negotiators.proofs.GrowLemmas.{same_id, grows_on}
 
 -- a commit that lacks a mark after a step lacked it before
@@ -467,7 +467,7 @@ itself : (a : ℤ) → a ≤ℤ a
 itself a = grind (arith, ints)
 
 pub newest_at : (g l : GraphData) (ws xs ys : List Waiting) (first : Waiting) → Grows g l → AllTimed l.objects ws
-    → IsPermutation ws (first ∷ xs) → IsNewest xs first
+    → IsPermutation ws (first ∷ xs) → IsNewestWaiting xs first
     → ((f : GraphData) (time : ℤ) → Grows f l → NoneNewer time f (first ∷ xs) → NoneNewer time f ys) → IsNewestAt g first.id ys
 newest_at g l ws xs ys first w timed p n order time is =
     let own : time_at l.objects first.id ≡ Some first.time = All-head (λ (x : Waiting). time_at l.objects x.id ≡ Some x.time) first xs
@@ -617,7 +617,7 @@ queues_taken ws xs g first p = record {
 
 -- the first commit is the newest
 pub newest_in : (us ws xs ys : List Waiting) (g l : GraphData) (first : Waiting) → Grows g l → QueuesNew us g ws
-    → IsPermutation ws (first ∷ xs) → IsNewest xs first → QueuesNew xs l ys → IsNewestIn us g first.id ys
+    → IsPermutation ws (first ∷ xs) → IsNewestWaiting xs first → QueuesNew xs l ys → IsNewestIn us g first.id ys
 newest_in us ws xs ys g l first v q p n step = (
   first,
   refl,

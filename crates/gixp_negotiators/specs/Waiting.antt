@@ -75,7 +75,7 @@ pub record KeepsTimed (u : ℕ) (ws : List Waiting) (g : GraphData) (v : ℕ) (x
   pub timed : AllTimed g.objects ws → AllTimed h.objects xs
 
 -- no queued commit is newer than the one that was taken, and none with its time was queued earlier
-pub record IsNewest (ws : List Waiting) (first : Waiting) : Type 0 where
+pub record IsNewestWaiting (ws : List Waiting) (first : Waiting) : Type 0 where
   pub newest : All (λ (w : Waiting). w.time ≤ℤ first.time) ws
   pub earliest : All (λ (w : Waiting). w.time ≡ first.time → w.rank ≤ first.rank) ws
 

@@ -8,7 +8,7 @@ ghost use Rattle.gixp_graph.specs.Negotiation.{IsMemory, IsRefusal, ErrorIsLooku
 ghost use Rattle.gixp_negotiators.specs.Marks.{COMMON, COMMON_REF, SEEN, POPPED, Grows, SeesNone, SeesOnly, MarksNoCommon, MarksCommonOnly, ListsNone, ListsOnly, PopsNone, StaysIfSeen, IsOffered, IsMarkedIfThere, IsMarkedIfNew, IsListedIfNew, has_mark, has_all, left};
 ghost use Rattle.gixp_negotiators.specs.Spread.{is_there, IsKnown, WhereOpen, WhereNew, AllCommonAmong, SeesCommon, SeesAmong, OpensParents, FindsCommon, HasCommonParents, MarksCommonFrom, MarksCommonWithin, OwesAmong};
 ghost use Rattle.gixp_negotiators.specs.Spread.{KeepsSpread, SpreadsFrom, SpreadsAllFrom, StaysSpread};
-ghost use Rattle.gixp_negotiators.specs.Waiting.{Fits, AllCommon, EndsAtOnce, IsNewest, IsNewestTimed};
+ghost use Rattle.gixp_negotiators.specs.Waiting.{Fits, AllCommon, EndsAtOnce, IsNewestWaiting, IsNewestTimed};
 ghost use Rattle.gixp_negotiators.specs.Calls.{Steps, StepsTaking};
 
 use crate::marks::{SEEN_COMMON, SEEN_REF, claim, either_has, has, look};
@@ -455,7 +455,7 @@ impl Consecutive {
         ensures open { OnSome result (0 < self.old.uncommon) }
         ensures taken { IfSome result (λ first. IsPermutation (heap_items self.old.queue.waiting)
             (first ∷ heap_items self.new.queue.waiting)) }
-        ensures newest { IfSome result (IsNewest (heap_items self.new.queue.waiting)) }
+        ensures newest { IfSome result (IsNewestWaiting (heap_items self.new.queue.waiting)) }
         ensures none { IfNone result ((self.old.uncommon ≡ 0) ⊎ (heap_items self.old.queue.waiting ≡ [])) }
         ensures stays { IfNone result (heap_items self.new.queue.waiting ≡ heap_items self.old.queue.waiting) }
         ensures uncommon { self.new.uncommon ≡ self.old.uncommon }

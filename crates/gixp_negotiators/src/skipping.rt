@@ -13,7 +13,7 @@ ghost use Rattle.gixp_negotiators.specs.declared.queue.Waiting.{Waiting};
 ghost use Rattle.gixp_graph.specs.Negotiation.{IsMemory, IsRefusal, ErrorIsLookupRefusal};
 ghost use Rattle.gixp_negotiators.specs.Marks.{COMMON, COMMON_REF, SEEN, POPPED, Grows, SeesNone, SeesOnly, MarksNoCommon, ListsNone, ListsOnly, PopsNone, StaysIfSeen, IsOffered, IsMarkedIfThere, IsListedIfNew, has_all, has_mark, left};
 ghost use Rattle.gixp_negotiators.specs.Spread.{was_seen, BecomesCommon, KeepsSpread, SpreadsFrom, StaysNewly, AllRead, AllHeld, MarksThrough, MarksCommonAmong, Spreads};
-ghost use Rattle.gixp_negotiators.specs.Waiting.{FitsOwing, AllCommon, IsNewest, IsNewestIn, QueuesNew, KeepsUnread, IsUnreadIfNew};
+ghost use Rattle.gixp_negotiators.specs.Waiting.{FitsOwing, AllCommon, IsNewestWaiting, IsNewestIn, QueuesNew, KeepsUnread, IsUnreadIfNew};
 ghost use Rattle.gixp_negotiators.specs.Calls.{FitsSkipping, CountsStill, CountsTaking, CountsAll};
 ghost use Rattle.gixp_negotiators.specs.declared.skipping.Legacy.TheVariants.{Common, Skips};
 ghost use Rattle.gixp_negotiators.specs.Distance.{distance_after, skip_of};
@@ -412,7 +412,7 @@ impl Skipping {
         ensures open { OnSome result (0 < self.old.uncommon) }
         ensures taken { IfSome result (λ first. IsPermutation (heap_items self.old.queue.waiting)
             (first ∷ heap_items self.new.queue.waiting)) }
-        ensures newest { IfSome result (IsNewest (heap_items self.new.queue.waiting)) }
+        ensures newest { IfSome result (IsNewestWaiting (heap_items self.new.queue.waiting)) }
         ensures none { IfNone result ((self.old.uncommon ≡ 0) ⊎ (heap_items self.old.queue.waiting ≡ [])) }
         ensures stays { IfNone result (heap_items self.new.queue.waiting ≡ heap_items self.old.queue.waiting) }
         ensures skips { self.new.skips ≡ self.old.skips }

@@ -40,11 +40,7 @@ fn kind_of(e: io::Error) -> ErrorKind
 }
 
 // Reads once, into the buffer from `end` on.
-fn read_after<R: Read>(
-    reader: &mut R,
-    buffer: &mut Vec<u8>,
-    end: usize,
-) -> Result<usize, ErrorKind>
+fn read_after<R: Read>(reader: &mut R, buffer: &mut Vec<u8>, end: usize) -> Result<usize, ErrorKind>
     requires { end ≤ vec_len buffer.old }
     ensures len { vec_len buffer.new ≡ vec_len buffer.old }
     ensures front { take end buffer.new.items ≡ take end buffer.old.items }

@@ -18,7 +18,7 @@ use Rattle.gixp_planner.specs.declared.error.PlanError.{PlanError}
 use Rattle.gixp_planner.specs.Refusal.{refusal_of, IsUnwritten, amount_value, failed_amount, written_amount, device_refusal, AnswersWrite}
 use Rattle.gixp_planner.specs.Written.{WritesPart, WritesBeginning, WritesPlan, WritesSome, HoldsRest, EndsInFlush, flushed, unwritten}
 use Rattle.gixp_planner.proofs.ListLemmas.{left-at}
-use Rattle.gixp_text.specs.Pieces.{joined}
+use Rattle.gixp_utils.specs.Pieces.{joined}
 use Rattle.gixp_refmap.specs.MappingNames.{name_or_dash}
 use Rattle.gixp_planner.specs.Text.{frame_content, frame_shown, request_shown, requests_after, id_shown, mapping_shown, fix_shown}
 

@@ -11,7 +11,7 @@ use Rattle.gixp_records.specs.declared.mapped_refs.MapRefused.{MapRefused}
 use Rattle.gixp_records.specs.declared.mapped_refs.MapRefused.TheVariants.{Place, Spec as RefusedSpec, Memory}
 use Rattle.gixp_records.specs.Span.{text_at, IsWithin}
 use Rattle.gixp_records.specs.SpecText.{specs_of_lines}
-use Rattle.gixp_records.specs.MappingEntry.{EntryValue, MapBuffers, WritesAll, LacksRoom}
+use Rattle.gixp_records.specs.MappingEntry.{EntryValue, MapBuffers, WritesEntries, LacksRoom}
 
 -- the names of the refs
 abbrev pub names_in : List ℕ → List RefRecord → List (List ℕ)
@@ -43,8 +43,8 @@ conflict_entries specs ms = map (conflict_entry (length specs)) (conflicts specs
 module _ (refs : ℕ) (specs : List Spec) (ms : List Mapped) (old new : MapBuffers) where
   -- the buffers have the mappings or else the conflicts, or the sizes that these need
   abbrev pub WritesMap : MapEnd → Type 0
-  WritesMap AllMapped = (conflicts specs ms ≡ []) × WritesAll (mapping_entries refs specs ms) (length (fixes specs ms)) old new
-  WritesMap Conflicts = (conflicts specs ms ≢ []) × WritesAll (conflict_entries specs ms) 0 old new
+  WritesMap AllMapped = (conflicts specs ms ≡ []) × WritesEntries (mapping_entries refs specs ms) (length (fixes specs ms)) old new
+  WritesMap Conflicts = (conflicts specs ms ≢ []) × WritesEntries (conflict_entries specs ms) 0 old new
   WritesMap NoRoom = ((conflicts specs ms ≡ []) × LacksRoom (mapping_entries refs specs ms) (length (fixes specs ms)) old new)
       ⊎ ((conflicts specs ms ≢ []) × LacksRoom (conflict_entries specs ms) 0 old new)
 

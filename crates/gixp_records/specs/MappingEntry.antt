@@ -69,7 +69,7 @@ abbrev pub HasRoom : List EntryValue → List MappingRecord → List ℕ → Typ
 HasRoom entries records names = (length entries ≤ length records) × (length (local_names entries) ≤ length names)
 
 -- all is written: the first records and the start of the names, and nothing after them
-pub record WritesAll (entries : List EntryValue) (last : ℕ) (old new : MapBuffers) : Type 0 where
+pub record WritesEntries (entries : List EntryValue) (last : ℕ) (old new : MapBuffers) : Type 0 where
   pub room : HasRoom entries old.records old.names
   pub records : new.records ≡ records_from 0 entries ++ drop (length entries) old.records
   pub names : new.names ≡ local_names entries ++ drop (length (local_names entries)) old.names
@@ -82,7 +82,7 @@ pub record LacksRoom (entries : List EntryValue) (last : ℕ) (old new : MapBuff
 
 -- the buffers, by whether they were large enough
 abbrev pub WritesBy : List EntryValue → ℕ → MapBuffers → MapBuffers → Bool → Type 0
-WritesBy entries last old new true = WritesAll entries last old new
+WritesBy entries last old new true = WritesEntries entries last old new
 WritesBy entries last old new false = LacksRoom entries last old new
 
 -- the same, or an allocation failed, and nothing is changed

@@ -12,7 +12,7 @@ mod opening;
 mod refused;
 mod symrefs;
 
-use groups::{SymrefScope, Scan, read_step};
+use groups::{Scan, SymrefScope, read_step};
 use opening::{Opened, RefsOpening, open_advertisement};
 pub use refused::{AdvertisedLineRefused, AdvertisedRefused};
 use symrefs::{SymrefSpan, read_symrefs};

@@ -74,7 +74,12 @@ fn read_first(text: &[u8]) -> Result<Option<ObjectId>, LineRefused>
 }
 
 // Adds an attribute to those read so far, by its name and its value.
-fn name_attribute(bytes: &[u8], name: &[u8], value: Span, had: LineAttributes) -> Result<LineAttributes, LineRefused>
+fn name_attribute(
+    bytes: &[u8],
+    name: &[u8],
+    value: Span,
+    had: LineAttributes,
+) -> Result<LineAttributes, LineRefused>
     requires value { IsWithin bytes.now value }
     requires had { AreAttributesWithin bytes.now had }
     ensures attributes { (line : List ℕ) → MatchResult result
@@ -101,7 +106,11 @@ fn name_attribute(bytes: &[u8], name: &[u8], value: Span, had: LineAttributes) -
 }
 
 // Adds an attribute to those read so far.
-fn read_attribute(bytes: &[u8], piece: Span, had: LineAttributes) -> Result<LineAttributes, LineRefused>
+fn read_attribute(
+    bytes: &[u8],
+    piece: Span,
+    had: LineAttributes,
+) -> Result<LineAttributes, LineRefused>
     requires piece { IsWithin bytes.now piece }
     requires had { AreAttributesWithin bytes.now had }
     ensures attributes { (line : List ℕ) → MatchResult result
@@ -176,7 +185,11 @@ fn read_named(bytes: &[u8], object: Option<ObjectId>, rest: Span) -> Result<Line
         return Err(LineRefused::Malformed);
     }
     match read_attributes(bytes, rest) {
-        Ok(attributes) => Ok(LineRef { object, name, attributes }),
+        Ok(attributes) => Ok(LineRef {
+            object,
+            name,
+            attributes,
+        }),
         Err(e) => Err(e),
     }
 }

@@ -1,6 +1,6 @@
 //! The mappings that refspecs make from refs, as records (git-fetch, "<refspec>").
 ghost use Rattle.std.specs.Prelude.{◌≡◌, ◌↔◌, ◌++◌, IsTrue, IfOk, OnOk, true, false, length, map};
-ghost use Rattle.gixp_text.specs.Lines.{text_lines};
+ghost use Rattle.gixp_utils.specs.Lines.{text_lines};
 ghost use Rattle.gixp_refspec.specs.RefSpec.{value_of};
 ghost use Rattle.gixp_matching.specs.Mappings.{mappings};
 ghost use Rattle.gixp_matching.specs.MatchGroup.{mapped_of, names};
@@ -9,10 +9,10 @@ ghost use Rattle.gixp_records.specs.Span.{IsWithin};
 ghost use Rattle.gixp_records.specs.MappingEntry.{entry_value, buffers, WritesOrFails};
 ghost use Rattle.gixp_records.specs.MapRecords.{names_in, AreNamesWithin, mapping_entry, removed_entry, conflict_entry, end_of, MapsRecords};
 
+use crate::mapping_entry::{MappedRecord, MappingEntry, MappingRecord, tell};
 use crate::refs::RefRecord;
 use crate::span::{Span, text_at};
 use crate::spec_text::{SpecsRefused, specs_in};
-use crate::mapping_entry::{MappedRecord, MappingRecord, MappingEntry, tell};
 use bstr::BStr;
 use gixp_hash::ObjectId;
 use gixp_matching::match_group::validate::{Error as Conflicting, Fix, Issue};

@@ -8,7 +8,7 @@ ghost use Rattle.gixp_records.specs.Span.{text_at, IsWithin};
 ghost use Rattle.gixp_records.specs.RecordLine.{Judges, attributes_in, AreAttributesWithin, line_ref_value, IsLineWithin};
 ghost use Rattle.gixp_records.specs.Refs.{ref_in, IsRecordWithin, IsNextRef, ReadsRecords};
 
-use crate::line::{LineRef, LineRefused, LineAttributes, is_null, read_line};
+use crate::line::{LineAttributes, LineRef, LineRefused, is_null, read_line};
 use crate::packets::{NextPacket, PacketRefused, next_packet};
 use crate::span::{Span, text_at};
 use gixp_hash::ObjectId;

@@ -3,7 +3,7 @@ ghost use Rattle.std.specs.Prelude.{◌≡◌, ◌++◌, IfOk, OnOk, map};
 ghost use Rattle.std.specs.List.{flat_map};
 ghost use Rattle.bstr.specs.BStr.{bstr_bytes};
 ghost use Rattle.bstr.specs.Owned.{bstring_bytes};
-ghost use Rattle.gixp_text.specs.Lines.{text_lines};
+ghost use Rattle.gixp_utils.specs.Lines.{text_lines};
 ghost use Rattle.gixp_refspec.specs.Matching.{prefixes_of};
 ghost use Rattle.gixp_refspec.specs.RefSpec.{value_of};
 ghost use Rattle.gixp_refspec.specs.Texts.{texts};
@@ -12,7 +12,7 @@ ghost use Rattle.gixp_records.specs.SpecText.{AddsLineSpec, ReadsSpecLines, Writ
 use bstr::{BStr, BString};
 use gixp_refspec::RefSpecRef;
 use gixp_refspec::parse::{Error, Operation, parse};
-use gixp_text::text_lines;
+use gixp_utils::text_lines;
 use std::alloc::{AllocError, AllocFailed, Global};
 
 /// The error of reading refspecs.

@@ -3,8 +3,8 @@
 //! `error` says whether it is an error of the server. The payload is a line with the name shown before, which may be empty for
 //! none, and the text.
 use crate::report::Report;
-use crate::rows::{NO_YES, Row, Setting, cut_at_byte};
 use crate::reporting::Reporting;
+use crate::rows::{NO_YES, Row, Setting, cut_at_byte};
 use gixp_progress::{Progress, RemoteProgress};
 use std::alloc::{AllocError, Global};
 

@@ -18,7 +18,7 @@ use Rattle.gixp_capabilities.specs.Capabilities.{is_text}
 use Rattle.gixp_response.specs.Answer.{AnswerValue}
 use Rattle.gixp_response.specs.Beginnings.{acknowledged, answer_with, is_same_common, with_acknowledgement}
 use Rattle.gixp_response.specs.RepeatedCommons.{flagged, named_from, AreNoted, without_repeats}
-use Rattle.gixp_repeats.specs.Repeats.{is_before, is_repeat, tested_from}
+use Rattle.gixp_utils.specs.Repeats.{is_before, is_repeat, tested_from}
 use Rattle.gixp_response.specs.declared.fetch.response.repeats.Repeats.{Repeats}
 
 not_ready : (had : List Acknowledgement) → list_any (λ x. is_same_common x Ready) had ≡ false

@@ -22,7 +22,7 @@ pub mod AnswerReading
 pub mod Features
 pub mod SectionGrammar
 pub mod BeginningGrammar
-pub use Rattle.gixp_repeats.specs.Repeats
+pub use Rattle.gixp_utils.specs.Repeats
 pub mod RepeatedCommons
 pub mod Order
 pub mod AnswerMessage

@@ -10,7 +10,7 @@ ghost use Rattle.gixp_matching.specs.Placed.{placed, placed_from};
 use crate::match_group::digest::key_digest;
 use crate::match_group::key::{AsMapping, Key};
 use crate::match_group::sorted::{are_distinct, rises};
-use gixp_repeats::first_flags;
+use gixp_utils::first_flags;
 use std::alloc::{AllocError, Global};
 
 // A source and a local name after their hash, so that mostly only hashes are compared.

@@ -191,7 +191,10 @@ fn reports_what_follows_a_consumer(rt: HostRuntime) -> Result<(), Fail> {
             ConsumerAnswer::ReadOn,
             "ReadRemainingBytes(Server { message: \"no access\" }), 0 at the boundary, locked false",
         ),
-        (ConsumerAnswer::Leave, "1 rounds, 0 at the boundary, locked false"),
+        (
+            ConsumerAnswer::Leave,
+            "1 rounds, 0 at the boundary, locked false",
+        ),
     ] {
         let (text, _, _) = taste(
             rt.alloc(),
@@ -316,7 +319,10 @@ fn fetch_and_log(alloc: Global, reported: &mut ProgressLog) -> Result<String, Al
 #[test]
 fn reports_each_round(rt: HostRuntime) -> Result<(), Fail> {
     let mut reported = ProgressLog::new(rt.alloc());
-    assert_eq!(rt; fetch_and_log(rt.alloc(), &mut reported)?.as_str(), "3 rounds");
+    assert_eq!(rt;
+        fetch_and_log(rt.alloc(), &mut reported)?.as_str(),
+        "3 rounds"
+    );
     // If a name of the handshake can't be allocated, only its step is reported. For a name of a round or of the pack
     // the result is `Memory`.
     assert_eq!(rt;

@@ -82,7 +82,11 @@ pub(crate) fn by_name(alloc: Global, mut symrefs: Vec<Symref>) -> Result<Targets
 }
 
 // Inserts a target under a name, in place of an earlier one.
-fn insert_target(targets: &mut Targets, name: BString, target: Option<BString>) -> Result<(), AllocError>
+fn insert_target(
+    targets: &mut Targets,
+    name: BString,
+    target: Option<BString>,
+) -> Result<(), AllocError>
     ensures { OnOk result (targets.new.entries ≡ insert_entry name_cmp targets.old.entries name target) }
 {
     targets.insert(name, target)?;

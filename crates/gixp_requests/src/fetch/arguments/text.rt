@@ -135,7 +135,11 @@ pub(crate) fn features_text(
     Ok(text)
 }
 
-pub(crate) fn want_line(alloc: Global, id: &ObjectId, following: &[u8]) -> Result<BString, AllocError>
+pub(crate) fn want_line(
+    alloc: Global,
+    id: &ObjectId,
+    following: &[u8],
+) -> Result<BString, AllocError>
     ensures { IfOk result (λ line. bstring_bytes line ≡ codes "want " ++ (id_text id.now ++ following.now)) }
 {
     let mut line = Vec::new(alloc);

@@ -108,7 +108,12 @@ fn ready_by(response_line: ResponseLine, received_ready: bool) -> bool
 }
 
 // Whether this line is a `NAK` that ends the response.
-fn ends_by_nak(response_line: ResponseLine, expects_pack: bool, negotiates: bool, received_ready: bool) -> bool
+fn ends_by_nak(
+    response_line: ResponseLine,
+    expects_pack: bool,
+    negotiates: bool,
+    received_ready: bool,
+) -> bool
     ensures { result ≡ ((is_nak (line_item_of (Some response_line)) && negotiates) && not (expects_pack && received_ready)) }
 {
     is_nak(response_line) && negotiates && !(expects_pack && received_ready)
@@ -143,7 +148,11 @@ fn is_nak(response_line: ResponseLine) -> bool
 }
 
 // Adds the meaning of a line, even if it names a commit again.
-fn keep(answer: &mut Response, repeats: &mut Repeats, response_line: ResponseLine) -> Result<(), AllocError>
+fn keep(
+    answer: &mut Response,
+    repeats: &mut Repeats,
+    response_line: ResponseLine,
+) -> Result<(), AllocError>
     requires { AreNoted answer.old.acknowledgements repeats.old }
     ensures ok { OnOk result (without_repeats answer.new ≡ answer_with (without_repeats answer.old) (line_item_of (Some response_line))) }
     ensures noted { OnOk result (AreNoted answer.new.acknowledgements repeats.new) }

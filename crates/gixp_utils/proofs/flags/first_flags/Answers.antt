@@ -1,8 +1,8 @@
 -- A sort moves each repeat next to the key that it repeats.
 use Rattle.std.proofs.Common.{◌∙◌, ap, true}
-use Rattle.gixp_repeats.specs.Repeats.{marked, tested_from}
-use Rattle.gixp_repeats.proofs.RepeatLemmas.{marked_after_sort}
-use Rattle.gixp_repeats.proofs.flags.first_flags.Goals as goal
+use Rattle.gixp_utils.specs.Repeats.{marked, tested_from}
+use Rattle.gixp_utils.proofs.RepeatLemmas.{marked_after_sort}
+use Rattle.gixp_utils.proofs.flags.first_flags.Goals as goal
 
 pub returns : goal.returns
 returns g c =

@@ -1,7 +1,7 @@
 //! Finds the keys of a list that repeat an earlier key, by sorting them.
 ghost use Rattle.std.specs.Prelude.{◌≡◌, ◌==◌, false, true, if◌then◌else◌, IfOk};
 ghost use Rattle.std.specs.List.{IsDistinct, slice_set};
-ghost use Rattle.gixp_repeats.specs.Repeats.{is_first, marked, tested_from};
+ghost use Rattle.gixp_utils.specs.Repeats.{is_first, marked, tested_from};
 
 use std::alloc::{AllocError, Global};
 

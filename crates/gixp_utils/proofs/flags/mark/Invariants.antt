@@ -1,7 +1,7 @@
 -- To mark the remaining rows from these flags gives the flags of all rows.
 use Rattle.std.proofs.Common.{◌≡◌, drop}
-use Rattle.gixp_repeats.specs.Repeats.{marked, marked_after}
-use Rattle.gixp_repeats.proofs.flags.mark.Given as goal
+use Rattle.gixp_utils.specs.Repeats.{marked, marked_after}
+use Rattle.gixp_utils.proofs.flags.mark.Given as goal
 
 abbrev pub invariant-rest : goal.invariant-rest
 invariant-rest g l =

@@ -1,7 +1,7 @@
 use Rattle.std.proofs.Common.{◌∙◌}
 use Rattle.std.proofs.lemmas.Result.{IfOk-weaker}
-use Rattle.gixp_repeats.proofs.RepeatLemmas.{tested_all}
-use Rattle.gixp_repeats.proofs.flags.untaken.Goals as goal
+use Rattle.gixp_utils.proofs.RepeatLemmas.{tested_all}
+use Rattle.gixp_utils.proofs.flags.untaken.Goals as goal
 
 pub returns : goal.returns
 returns g c =

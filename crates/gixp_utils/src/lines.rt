@@ -2,7 +2,7 @@
 ghost use Rattle.std.specs.Prelude.{◌≡◌, IfOk, map};
 ghost use Rattle.std.specs.Io.BufRead.{strip_last};
 ghost use Rattle.bstr.specs.BStr.{bstr_bytes};
-ghost use Rattle.gixp_text.specs.Lines.{text_pieces, text_lines, line_words};
+ghost use Rattle.gixp_utils.specs.Lines.{text_pieces, text_lines, line_words};
 
 use bstr::BStr;
 use std::alloc::{AllocError, Global};

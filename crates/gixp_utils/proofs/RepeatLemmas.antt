@@ -9,7 +9,7 @@ use Rattle.std.proofs.lemmas.Bool.{cases_Bool, and_parts, eqb-true, ltb-true, fa
 use Rattle.std.proofs.lemmas.Cmp.{nat_cmp_total, on_total, then_total}
 use Rattle.std.proofs.lemmas.List.Sorted.{list_any-IsPermutation}
 use Rattle.std.proofs.lemmas.Map.Keys.{IsDistinct-IsPermutation, sorted_from_all_adjacent}
-use Rattle.gixp_repeats.specs.Repeats.{is_before, is_repeat, marked_after, marked, tested_from}
+use Rattle.gixp_utils.specs.Repeats.{is_before, is_repeat, marked_after, marked, tested_from}
 
 -- ---- tests of the positions of a list
 

@@ -4,8 +4,8 @@ use Rattle.std.proofs.lemmas.Iterator.{YieldsList-from_map_by}
 use Rattle.std.proofs.lemmas.Iterator.Consumers.{map_from_collect}
 use Rattle.std.proofs.lemmas.Iterator.Splits.{YieldsList-from_slice_split}
 use Rattle.bstr.specs.BStr.{bstr_bytes}
-use Rattle.gixp_text.specs.Lines.{line_words}
-use Rattle.gixp_text.proofs.lines.line_words.Goals as goal
+use Rattle.gixp_utils.specs.Lines.{line_words}
+use Rattle.gixp_utils.proofs.lines.line_words.Goals as goal
 
 pub returns : goal.returns
 returns c =

@@ -4,8 +4,8 @@ use Rattle.std.proofs.lemmas.Iterator.{YieldsList-from_map_by}
 use Rattle.std.proofs.lemmas.Iterator.Consumers.{map_from_collect}
 use Rattle.std.proofs.lemmas.Iterator.Splits.{YieldsList-from_slice_split}
 use Rattle.bstr.specs.BStr.{bstr_bytes}
-use Rattle.gixp_text.specs.Lines.{text_pieces}
-use Rattle.gixp_text.proofs.lines.text_pieces.Goals as goal
+use Rattle.gixp_utils.specs.Lines.{text_pieces}
+use Rattle.gixp_utils.proofs.lines.text_pieces.Goals as goal
 
 pub returns : goal.returns
 returns c =

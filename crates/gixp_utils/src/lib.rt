@@ -1,0 +1,10 @@
+//! The lines of a text and the words of a line, as git writes them; a text made of pieces; keys that occur more than once in a list.
+#![tactic(auto)]
+
+mod flags;
+mod lines;
+mod pieces;
+
+pub use flags::{first_flags, mark};
+pub use lines::{line_words, text_lines, without_line_end};
+pub use pieces::append;
