@@ -15,6 +15,7 @@ use crate::protocol::{MessageKind, Protocol};
 use crate::read::{Error, ExtendedBufRead};
 use crate::window::Window;
 use bstr::BString;
+use gixp_utils::without_line_end;
 use std::alloc::{AllocError, Global};
 use std::io::{Cursor, ErrorKind, Read};
 
@@ -335,12 +336,7 @@ fn server_error(alloc: Global, text: &[u8]) -> Error
     requires { is_error text.now ≡ true }
     ensures { (refusal_of result ≡ server (error_message text.now)) ⊎ (result ≡ Memory) }
 {
-    let message = &text[4..];
-    let message = match message {
-        [front @ .., b'\n'] => front,
-        _ => message,
-    };
-    match message.to_vec(alloc) {
+    match without_line_end(&text[4..]).to_vec(alloc) {
         Ok(message) => Error::Server {
             message: BString::from(message),
         },

@@ -1,6 +1,7 @@
 -- What happens to a packet line of a response, by where it occurs (gitprotocol-v2, "fetch": "packfile-uris",
 -- "sideband-all"; git's "Packfile URIs").
 use Rattle.std.specs.Prelude.{ℕ, suc, ◌+◌, ◌-◌, ◌<◌, ◌==◌, nat_eq, nat_lt, not, ◌&&◌, ◌||◌, Bool, true, false, if◌then◌else◌, List, [], ◌∷◌, length, take, drop, codes, slice_range}
+use Rattle.std.specs.Io.BufRead.{strip_last}
 use Rattle.std.specs.List.{starts_with, list_all}
 use Rattle.std.specs.Str.{bytes_eq}
 use Rattle.std.specs.Char.{is_ascii_hexdigit}
@@ -13,12 +14,9 @@ use Rattle.gixp_packfile_uris.specs.declared.place.Fate.TheVariants.{Pass, Take,
 abbrev pub without_band : List ℕ → List ℕ
 without_band line = if starts_with nat_eq line (1 ∷ []) then drop 1 line else line
 
--- a line without its LF
-abbrev pub without_end : List ℕ → List ℕ
-without_end line = if bytes_eq (drop (length line - 1) line) (codes "\n") then take (length line - 1) line else line
-
+-- without its LF, too
 abbrev pub text_of : List ℕ → List ℕ
-text_of line = without_end (without_band line)
+text_of line = strip_last 10 (without_band line)
 
 -- whether a line is a message on band 2 or 3
 abbrev pub is_message : List ℕ → Bool

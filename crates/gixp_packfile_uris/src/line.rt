@@ -2,9 +2,10 @@
 ghost use Rattle.std.specs.Prelude.{◌≡◌, length};
 ghost use Rattle.std.specs.Char.{is_ascii_hexdigit};
 ghost use Rattle.std.specs.List.{list_all};
-ghost use Rattle.gixp_packfile_uris.specs.Line.{without_band, without_end, text_of, is_message, is_header, is_uri_byte, is_uri_line, start_fate, uri_fate, fate};
+ghost use Rattle.gixp_packfile_uris.specs.Line.{without_band, text_of, is_message, is_header, is_uri_byte, is_uri_line, start_fate, uri_fate, fate};
 
 use crate::place::{Fate, MOST_URIS, Place};
+use gixp_utils::without_line_end;
 
 // A line without band 1, where all lines have a band.
 fn without_band(line: &[u8]) -> &[u8]
@@ -16,20 +17,11 @@ fn without_band(line: &[u8]) -> &[u8]
     }
 }
 
-fn without_end(line: &[u8]) -> &[u8]
-    ensures { result.now ≡ without_end line.now }
-{
-    match line.strip_suffix(b"\n") {
-        Some(text) => text,
-        None => line,
-    }
-}
-
 /// The text of a line, without its band and LF.
 pub(crate) fn text_of(line: &[u8]) -> &[u8]
     ensures { result.now ≡ text_of line.now }
 {
-    without_end(without_band(line))
+    without_line_end(without_band(line))
 }
 
 fn is_message(line: &[u8]) -> bool

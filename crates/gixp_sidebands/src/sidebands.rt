@@ -14,10 +14,11 @@ mod band;
 mod front;
 mod interrupt;
 
-use band::{Band, band_of, without_line_end};
+use band::{Band, band_of};
 use front::Front;
 use gixp_packetline::read::{Error, ExtendedBufRead};
 use gixp_packetline::{MessageKind, Protocol};
+use gixp_utils::without_line_end;
 pub use interrupt::{Interrupt, InterruptFlag, NeverInterrupt};
 use std::alloc::AllocError;
 use std::io;

@@ -1,3 +1,4 @@
 pub mod Lines
 pub mod Pieces
+pub mod Printable
 pub mod Repeats
