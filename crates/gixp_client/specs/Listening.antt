@@ -1,8 +1,9 @@
 -- The messages of bands 2 and 3 that a listener keeps and shows (gitprotocol-pack, "Packfile Data").
-use Rattle.std.specs.Prelude.{◌≡◌, ◌⊎◌, ◌+◌, ◌-◌, ◌==◌, ◌&&◌, ◌||◌, nat_lt, nat_le, not, ℕ, Bool, true, false, if◌then◌else◌, List, [], ◌∷◌, ◌++◌, length, take, map, codes, Option, Some, None, unwrap_or}
+use Rattle.std.specs.Prelude.{◌≡◌, ◌⊎◌, ◌+◌, ◌-◌, ◌==◌, ◌||◌, ℕ, Bool, true, false, if◌then◌else◌, List, [], ◌∷◌, ◌++◌, length, take, map, codes, Option, Some, None, unwrap_or}
 use Rattle.std.specs.List.{slice_get}
 use Rattle.std.specs.Io.KnownBytes.{Appends}
 use Rattle.bstr.specs.Owned.{bstring_bytes}
+use Rattle.gixp_utils.specs.Printable.{visible}
 use Rattle.gixp_client.specs.declared.listen.ServerText.{ServerText}
 use Rattle.gixp_client.specs.declared.listen.Kept.{Kept}
 
@@ -59,14 +60,6 @@ ReceivesText is_error text old new =
     (KeepsText is_error text old new ⊎ LosesText old new) × (new.has_error ≡ (old.has_error || is_error))
 
 -- ---- shown messages
-
--- a terminal may interpret the byte: it is an ASCII control character other than a tab, or in UTF-8 the end of one of Latin-1
-abbrev pub is_control : ℕ → ℕ → Bool
-is_control before b = (nat_lt b 32 && not (b == 9)) || b == 127 || (before == 194 && nat_le 128 b && nat_lt b 160)
-
--- a question mark replaces such a byte
-abbrev pub visible : ℕ → ℕ → ℕ
-visible before b = if is_control before b then 63 else b
 
 -- blanks after a line, which overwrite the rest of a longer line
 abbrev pub trailing_blanks : List ℕ → List ℕ

@@ -3,9 +3,11 @@ ghost use Rattle.std.specs.Prelude.{◌≡◌, ◌||◌, ℕ, Bool, List, [], �
 ghost use Rattle.std.specs.List.{find};
 ghost use Rattle.std.specs.Option.{option_copied};
 ghost use Rattle.std.specs.Io.KnownBytes.{Appends};
-ghost use Rattle.gixp_client.specs.Listening.{without_end, is_control, visible, last_byte, remote_line, unshown, after_byte, after_text, ended, shown_of, ShowsLines, KeepsText, KeepsTexts, ReceivesText, kept_texts};
+ghost use Rattle.gixp_utils.specs.Printable.{visible};
+ghost use Rattle.gixp_client.specs.Listening.{without_end, last_byte, remote_line, unshown, after_byte, after_text, ended, shown_of, ShowsLines, KeepsText, KeepsTexts, ReceivesText, kept_texts};
 
 use bstr::BString;
+use gixp_utils::visible;
 use std::alloc::{AllocError, Global};
 use std::io;
 use std::io::Write;
@@ -157,20 +159,6 @@ pub struct RemoteLines<W: Write + Drop> {
 
 // Overwrites the rest of a longer line.
 const BLANKS: &[u8] = b"        ";
-
-// Whether a terminal may interpret the byte as a control character. Tabs don't count. `before` is the byte before it: in UTF-8 the
-// C1 control characters are 194 and a byte from 128 to 159.
-fn is_control(before: u8, byte: u8) -> bool
-    ensures { result ≡ is_control before byte }
-{
-    (byte < 32 && byte != b'\t') || byte == 127 || (before == 194 && 128 <= byte && byte < 160)
-}
-
-fn visible(before: u8, byte: u8) -> u8
-    ensures { result ≡ visible before byte }
-{
-    if is_control(before, byte) { b'?' } else { byte }
-}
 
 fn last_byte(line: &[u8]) -> u8
     ensures { result ≡ last_byte line.now }

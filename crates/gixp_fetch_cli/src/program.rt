@@ -11,16 +11,16 @@ use crate::connection::connect;
 use crate::files::{ask_objects, read_repository, write_boundary};
 use crate::missing::missing_name;
 use crate::options::{FetchArgs, OptionError, Options, Output, Server, Task};
-use crate::progress::TerminalProgress;
 use crate::report::{listing, report};
 use crate::request::request_of;
 use crate::streams::{Source, Target};
 use crate::usage::{USAGE, VERSION, print_refusal};
-use gix_protocol::client::{Fetched, Session, Silent};
+use gix_protocol::client::{Fetched, Session};
 use gix_protocol::fetch::RefMap;
 use gix_protocol::fetch::negotiate::{Find, Graph, RefStore, Shared, StoredObjects, StoredRefs};
-use gix_protocol::transport::{Connection, ObjectId, Transport};
+use gix_protocol::transport::{Connection, Discard, ObjectId, Transport};
 use gixp_fetch_common::failure::{Failure, unless_failed};
+use gixp_fetch_common::messages::MessagePrinter;
 use gixp_fetch_common::negotiate::negotiate;
 use gixp_fetch_common::receive::PackReceiver;
 use gixp_fetch_common::repository::KnownRepository;
@@ -93,18 +93,11 @@ fn write_output(rt: &HostRuntime, output: &Output<'_>, text: &[u8]) -> Result<()
     writer.write_all(text).map_err(|e| Failure::Io(e.kind()))
 }
 
-fn progress_of<'a>(
+fn printer<'a>(
     rt: &'a HostRuntime,
-    output: &Output<'_>,
     has_failed: &'a Cell<bool>,
-) -> TerminalProgress<'a>
-    ensures { result.shows_progress ≡ output.now.shows_progress }
-{
-    TerminalProgress {
-        rt,
-        shows_progress: output.shows_progress,
-        has_failed,
-    }
+) -> Result<MessagePrinter<'a>, Failure> {
+    MessagePrinter::new(rt, false, has_failed).map_err(|_| Failure::Memory)
 }
 
 // Lists the refs of the server, and ends the session unless `keeps_open`.
@@ -112,8 +105,8 @@ fn list(rt: &HostRuntime, options: &Options<'_>, keeps_open: bool) -> Result<(),
     let alloc = rt.alloc();
     let transport = open_transport(rt, &options.server)?;
     let has_failed = Cell::new(false);
-    let progress = progress_of(rt, &options.output, &has_failed);
-    let mut session = open(alloc, transport, options.server.agent, Silent, progress)?;
+    let printer = printer(rt, &has_failed)?;
+    let mut session = open(alloc, transport, options.server.agent, printer, Discard)?;
     let text = listing(alloc, refs(alloc, &mut session)?)?;
     if keeps_open {
         let _ = session.into_transport();
@@ -126,7 +119,7 @@ fn list(rt: &HostRuntime, options: &Options<'_>, keeps_open: bool) -> Result<(),
 // Fetches the mapped refs, writes the new boundary, and then keeps the pack.
 fn fetch_pack<T: Transport + Drop>(
     rt: &HostRuntime,
-    session: &mut Session<T, Silent, TerminalProgress<'_>>,
+    session: &mut Session<T, MessagePrinter<'_>, Discard>,
     repository: &mut KnownRepository,
     asked: MappedFetch<'_>,
     path: &str,
@@ -141,7 +134,7 @@ fn fetch_pack<T: Transport + Drop>(
     }
     let mut pack = PackReceiver::new(alloc, PackFile::new(rt, alloc, path)?);
     let fetched = negotiate(rt, session, repository, asked, &mut pack);
-    let fetched = unless_failed(fetched, session.progress().has_failed.get());
+    let fetched = unless_failed(fetched, session.listener().has_failed());
     let written = write_new_boundary(rt, shallow, &repository.boundary, fetched);
     keep_pack(alloc, path, written, &mut pack)
 }
@@ -196,8 +189,8 @@ fn fetch(
     let mut repository = read_repository(rt, &options.files, fetch_args.haves)?;
     let transport = open_transport(rt, &options.server)?;
     let has_failed = Cell::new(false);
-    let progress = progress_of(rt, &options.output, &has_failed);
-    let mut session = open(alloc, transport, options.server.agent, Silent, progress)?;
+    let printer = printer(rt, &has_failed)?;
+    let mut session = open(alloc, transport, options.server.agent, printer, Discard)?;
     let mut request = request_of(alloc, fetch_args, options.output.shows_progress)?;
     let map = map(alloc, &mut session, &request)?;
     ask_filter(rt, &session, &mut request, options.filter)?;

@@ -179,7 +179,7 @@ fn error_texts<E: Display + ServerMessage>(
 {
     let why = format!(in alloc; "{error}")?;
     let message = match error.server_message() {
-        Some(words) => Some(sanitized(alloc, without_line_end(words.as_bytes()), false)?),
+        Some(words) => Some(sanitized(alloc, without_line_end(words.as_bytes()))?),
         None => None,
     };
     Ok((why, message))

@@ -10,6 +10,7 @@ mod hang_up;
 mod haves;
 mod known_commits;
 pub mod listed_commits;
+pub mod messages;
 pub mod negotiate;
 mod pack_place;
 pub mod receive;

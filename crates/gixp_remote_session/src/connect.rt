@@ -6,7 +6,6 @@ ghost use Rattle.gixp_remote_rules.specs.declared.ssh.Variant.TheVariants.{Auto}
 ghost use Rattle.gixp_remote_session.specs.UserConfig.{IsProbedVariant};
 
 use crate::error::Error;
-use crate::messages::MessagePrinter;
 use crate::pipes::{FROM_SERVER, TO_SERVER};
 use crate::readiness::Readiness;
 use crate::server_config::{
@@ -21,6 +20,7 @@ use crate::web::connect_stateless;
 use bstr::BString;
 use gix_protocol::client::UriProtocols;
 use gix_protocol::transport::{Connection, Discard, Opening, Protocol};
+use gixp_fetch_common::messages::MessagePrinter;
 use gixp_fetch_common::session::open;
 use gixp_packfile_uris::PackfileUris;
 use gixp_remote_rules::{

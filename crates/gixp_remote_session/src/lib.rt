@@ -11,7 +11,6 @@ mod helper;
 mod history;
 mod job;
 mod listing;
-mod messages;
 mod migrate;
 mod pack;
 mod paths;

@@ -1,11 +1,11 @@
 //! The transport over the two pipes of a server.
 ghost use Rattle.std.specs.Io.{ReadsAtMost};
 
-use crate::messages::MessagePrinter;
 use crate::shallow_tap::ShallowTap;
 use crate::uris::{UriRecorder, Uris, record_refusal};
 use gix_protocol::client::Session;
 use gix_protocol::transport::{Connection, Discard};
+use gixp_fetch_common::messages::MessagePrinter;
 use gixp_packfile_uris::PackfileUris;
 use gixp_response_end::Answers;
 use std::cell::RefCell;

@@ -3,7 +3,7 @@ use Rattle.std.proofs.Common.{◌∷◌, [], ◌++◌, Some, ap, ◌∙◌, appe
 use Rattle.std.specs.Prelude.{codes}
 use Rattle.std.proofs.lemmas.Bool.Decides.{Decides-eqb}
 use Rattle.std.proofs.lemmas.Slice.Eq.{strip_suffix_is}
-use Rattle.gixp_remote_session.proofs.messages.without_blanks.Goals as goal
+use Rattle.gixp_fetch_common.proofs.messages.without_blanks.Goals as goal
 
 pub returns-in-Some-strip_suffix : goal.returns-in-Some-strip_suffix
 returns-in-Some-strip_suffix c =

@@ -9,7 +9,7 @@ use std::io::{BufWriter, Write};
 
 /// Standard error, as a writer of lines.
 #[derive(Drop)]
-pub(crate) struct StandardError<'a> {
+pub struct StandardError<'a> {
     rt: &'a HostRuntime,
     // Whether it is a terminal that can erase the rest of a line.
     erases: bool,
@@ -50,13 +50,18 @@ impl Write for StandardError<'_> {
 
 /// Prints the server's messages as git does, and records whether one was an error.
 #[derive(Drop)]
-pub(crate) struct MessagePrinter<'a> {
+pub struct MessagePrinter<'a> {
     lines: RemoteLines<BufWriter<StandardError<'a>>>,
     has_failed: &'a Cell<bool>,
 }
 
 impl<'a> MessagePrinter<'a> {
-    pub(crate) fn new(
+    /// Prints on standard error. `erases` says whether it is a terminal that can erase the rest of a line.
+    ///
+    /// # Errors
+    ///
+    /// An allocation failure.
+    pub fn new(
         rt: &'a HostRuntime,
         erases: bool,
         has_failed: &'a Cell<bool>,
@@ -67,6 +72,11 @@ impl<'a> MessagePrinter<'a> {
             lines: RemoteLines::new(alloc, writer),
             has_failed,
         })
+    }
+
+    /// Whether the server reported an error.
+    pub fn has_failed(&self) -> bool {
+        self.has_failed.get()
     }
 }
 
