@@ -90,7 +90,7 @@ fn step_of(
     ensures { StepsAsReported ⟦<Shared<'static, StoredObjects> as Objects>⟧.contents
         (λ w objects m h old new r. FetchesAlone
         (parties_of ⟦<Negotiation<'static, Shared<'static, StoredObjects>, NoRefs, HaveList, NoObjects, AllocError> as Negotiate>⟧.calls
-        ⟦<ShallowMemory as ShallowStore>⟧.calls ⟦<NeverInterrupt as Interrupt>⟧.says
+        ⟦<ShallowMemory as ShallowStore>⟧.calls ⟦<NeverInterrupt as Interrupt>⟧.polls
         ⟦<LeavePack as ConsumePack<Discard>>⟧.consumes true)
         (OffersAlone objects w.haves.items m w.shallow) w.boundary.items
         (engine_call h (shallow_value w.shallow)) old new r)
@@ -181,7 +181,7 @@ pub extern "C" fn gixp_next(
         (StepsAsReported ⟦<Shared<'static, StoredObjects> as Objects>⟧.contents
         (λ w objects m h old new r. FetchesAlone
         (parties_of ⟦<Negotiation<'static, Shared<'static, StoredObjects>, NoRefs, HaveList, NoObjects, AllocError> as Negotiate>⟧.calls
-        ⟦<ShallowMemory as ShallowStore>⟧.calls ⟦<NeverInterrupt as Interrupt>⟧.says
+        ⟦<ShallowMemory as ShallowStore>⟧.calls ⟦<NeverInterrupt as Interrupt>⟧.polls
         ⟦<LeavePack as ConsumePack<Discard>>⟧.consumes true)
         (OffersAlone objects w.haves.items m w.shallow) w.boundary.items
         (engine_call h (shallow_value w.shallow)) old new r)

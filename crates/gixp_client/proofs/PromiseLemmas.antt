@@ -59,7 +59,7 @@ one_run parties map_of knows promises parameters agent more request start shaken
       obtains = maps.obtains;
       version = ap (λ (x : Handshake). x.server_protocol_version) keeps;
       capabilities = ap (λ (x : Handshake). x.capabilities) keeps;
-      report = ap (λ (x : Handshake). update_items x.v1_shallow_updates) keeps;
+      reported = ap (λ (x : Handshake). update_items x.v1_shallow_updates) keeps;
       negotiates = f.negotiates;
       fetches = h.carries.fetched;
     } in record {

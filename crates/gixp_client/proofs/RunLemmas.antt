@@ -177,7 +177,7 @@ pub same_call : (shaken : Handshake) (report : Option (Vec ShallowUpdate Global)
     → session_call (record shaken { v1_shallow_updates = report }) agent more request ≡ session_call shaken agent more request
 same_call shaken report agent more request e =
     ap (λ (x : List ShallowUpdate). let call = session_call shaken agent more request in
-    record call { fetch_options = record call.fetch_options { report = x } }) e
+    record call { fetch_options = record call.fetch_options { reported = x } }) e
 
 -- a fetch with the same call, and the state after it
 pub carried_by : {N I S A C P X : Type 0} (parties : Parties (UnshallowCheck N) I A S C P X) (map_of : UnshallowCheck N → RefMap)

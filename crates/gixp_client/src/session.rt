@@ -124,7 +124,7 @@ impl<T: Transport + Drop, L: Listener + Drop, P: NestedProgress + Drop> Session<
         ensures named { IfOk result (λ s. string_bytes s.name.agent ≡ agent.now) }
         ensures nameless { IfOk result (λ s. s.name.session_id ≡ None) }
         ensures state { IfOk result (λ s. s.state ≡ State.AtStop) }
-        ensures report { IfOk result (λ s. ReportsHandshake P.report UploadPack (parameters_of extra_parameters.items) (T.reading transport) progress
+        ensures report { IfOk result (λ s. ReportsHandshake P.reported UploadPack (parameters_of extra_parameters.items) (T.reading transport) progress
             (Ok s.shaken) s.progress) }
     {
         let agent = String::from_str(alloc, agent)?;
@@ -358,7 +358,7 @@ impl<T: Transport + Drop, L: Listener + Drop, P: NestedProgress + Drop> Session<
             × (whole_map made (are_whole (is_some self.old.shaken.refs) (T.reading self.new.transport.inner).stopped) ≡ Err e)
             × (self.new.state ≡ state_after_map (is_some self.old.shaken.refs) self.old.shaken.server_protocol_version e))) }
         ensures stays { OnOk result (self.new.state ≡ self.old.state) }
-        ensures report { IfOk result (λ m. ReportsObtained P.report self.old.shaken.refs self.old.progress (Ok m) self.new.progress) }
+        ensures report { IfOk result (λ m. ReportsObtained P.reported self.old.shaken.refs self.old.progress (Ok m) self.new.progress) }
         ensures handshake { self.new.shaken ≡ record self.old.shaken { refs = self.new.shaken.refs } }
         ensures refs { option_map refs_value self.new.shaken.refs ≡ option_map refs_value self.old.shaken.refs }
         ensures name { self.new.name ≡ self.old.name }

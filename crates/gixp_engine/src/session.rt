@@ -128,7 +128,7 @@ fn fetch_over<N: Negotiate, T: Transport>(
 ) -> Result<Option<Outcome>, FetchError<N::AlternatesError, Left>>
     requires { feature_value agent ≡ engine_agent }
     ensures { CarriesAlone
-        (parties_of N.calls ⟦<ShallowMemory as ShallowStore>⟧.calls ⟦<NeverInterrupt as Interrupt>⟧.says
+        (parties_of N.calls ⟦<ShallowMemory as ShallowStore>⟧.calls ⟦<NeverInterrupt as Interrupt>⟧.polls
         ⟦<LeavePack as ConsumePack<Discard>>⟧.consumes T.is_plain)
         (engine_call handshake.old (shallow_value shallow.now)) negotiation.old (T.reading transport.old) boundary.old result
         negotiation.new (T.reading transport.new) boundary.new }
@@ -178,7 +178,7 @@ fn fetch_mapped<'a, O: Objects, T: Transport>(
 ) -> Result<Option<Outcome>, FetchError<AllocError, Left>>
     ensures { FetchesAlone
         (parties_of ⟦<Negotiation<'a, O, NoRefs, HaveList, NoObjects, AllocError> as Negotiate>⟧.calls
-        ⟦<ShallowMemory as ShallowStore>⟧.calls ⟦<NeverInterrupt as Interrupt>⟧.says
+        ⟦<ShallowMemory as ShallowStore>⟧.calls ⟦<NeverInterrupt as Interrupt>⟧.polls
         ⟦<LeavePack as ConsumePack<Discard>>⟧.consumes T.is_plain)
         (OffersAlone objects.now here.haves.items map.now shallow.now) here.boundary.items
         (engine_call handshake.old (shallow_value shallow.now)) (T.reading transport.old) (T.reading transport.new) result }
@@ -233,7 +233,7 @@ pub(crate) fn run<'a, O: Objects, T: Transport>(
     ensures { EngineSession
         (λ m h old new r. FetchesAlone
         (parties_of ⟦<Negotiation<'a, O, NoRefs, HaveList, NoObjects, AllocError> as Negotiate>⟧.calls
-        ⟦<ShallowMemory as ShallowStore>⟧.calls ⟦<NeverInterrupt as Interrupt>⟧.says
+        ⟦<ShallowMemory as ShallowStore>⟧.calls ⟦<NeverInterrupt as Interrupt>⟧.polls
         ⟦<LeavePack as ConsumePack<Discard>>⟧.consumes T.is_plain)
         (OffersAlone objects.now input.haves.items m input.shallow) input.boundary.items
         (engine_call h (shallow_value input.shallow)) old new r)

@@ -149,7 +149,7 @@ pub fn next_step(
     ensures { IsNextStep ⟦<Shared<'static, StoredObjects> as Objects>⟧.contents
         (λ objects m h old new r. FetchesAlone
         (parties_of ⟦<Negotiation<'static, Shared<'static, StoredObjects>, NoRefs, HaveList, NoObjects, AllocError> as Negotiate>⟧.calls
-        ⟦<ShallowMemory as ShallowStore>⟧.calls ⟦<NeverInterrupt as Interrupt>⟧.says
+        ⟦<ShallowMemory as ShallowStore>⟧.calls ⟦<NeverInterrupt as Interrupt>⟧.polls
         ⟦<LeavePack as ConsumePack<Discard>>⟧.consumes true)
         (OffersAlone objects input.haves.items m input.shallow) input.boundary.items
         (engine_call h (shallow_value input.shallow)) old new r)

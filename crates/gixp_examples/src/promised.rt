@@ -29,7 +29,7 @@ pub fn promised_fetch<'a, T: Transport + Drop, W: Write>(
     ensures { IfOk result (λ received. ((received.0.mappings.items ≡ []) × (received.1.outcome ≡ None) × (pack.new ≡ pack.old))
         ⊎ ((end : Reading) × IsOneRun
         (parties_of ⟦<SessionNegotiation<'a, StoredObjects, StoredRefs, AnyNegotiator> as Negotiate>⟧.calls
-        ⟦<ShallowMemory as ShallowStore>⟧.calls ⟦<NeverInterrupt as Interrupt>⟧.says ⟦<CopyPack<W> as ConsumePack<Discard>>⟧.consumes
+        ⟦<ShallowMemory as ShallowStore>⟧.calls ⟦<NeverInterrupt as Interrupt>⟧.polls ⟦<CopyPack<W> as ConsumePack<Discard>>⟧.consumes
         T.is_plain)
         ⟦<SessionNegotiation<'a, StoredObjects, StoredRefs, AnyNegotiator> as NegotiatesMap>⟧.map_of
         ⟦<SessionNegotiation<'a, StoredObjects, StoredRefs, AnyNegotiator> as NegotiatesMap>⟧.knows

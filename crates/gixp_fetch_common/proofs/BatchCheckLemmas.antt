@@ -71,8 +71,8 @@ answered_one id line old new before after read h k =
           (answer_to id line) h k;
     }
 
-pub answered_none : (objects : Objects) (listening_transport : Option (List ℕ)) → AnswersIds [] objects objects listening_transport listening_transport
-answered_none objects listening_transport = record { lines = []; read = Consumes-nil listening_transport; reported = refl }
+pub answered_none : (objects : Objects) (answers : Option (List ℕ)) → AnswersIds [] objects objects answers answers
+answered_none objects answers = record { lines = []; read = Consumes-nil answers; reported = refl }
 
 and_then_more : {K : Type 0} (f g : K → Option Objects) (mid : Objects) (to : Option Objects) (a : Option K)
     → ((k : K) → f k ≡ Some mid → g k ≡ to) → option_and_then f a ≡ Some mid → option_and_then g a ≡ to
@@ -197,38 +197,38 @@ answers_fail_at lines lines' k ids d old mid new a b c e h first count next =
 -- ---- questions and their answers
 
 -- some of the ids were asked for and answered, and the rest remains
-pub record AskedSoFar (ids left : List ObjectId) (old now : Objects) (asked asked' listening_transport listening_transport' : Option (List ℕ))
+pub record AskedSoFar (ids left : List ObjectId) (old now : Objects) (asked asked' answers answers' : Option (List ℕ))
     (lines lines' : ℕ) : Type 0 where
   pub done : List ObjectId
   pub whole : ids ≡ done ++ left
   pub asks : Appends asked asked' (questions done)
-  pub reported : AnswersIds done old now listening_transport listening_transport'
+  pub reported : AnswersIds done old now answers answers'
   pub count : lines' ≡ line_number lines (length done)
 
-pub asked_none : (ids : List ObjectId) (objects : Objects) (asked listening_transport : Option (List ℕ)) (lines : ℕ)
-    → AskedSoFar ids ids objects objects asked asked listening_transport listening_transport lines lines
-asked_none ids objects asked listening_transport lines =
-    record { done = []; whole = refl; asks = Appends-nil asked; reported = answered_none objects listening_transport; count = refl }
+pub asked_none : (ids : List ObjectId) (objects : Objects) (asked answers : Option (List ℕ)) (lines : ℕ)
+    → AskedSoFar ids ids objects objects asked asked answers answers lines lines
+asked_none ids objects asked answers lines =
+    record { done = []; whole = refl; asks = Appends-nil asked; reported = answered_none objects answers; count = refl }
 
-pub asked_more : (ids left few later : List ObjectId) (old now new : Objects) (asked asked' asked'' listening_transport listening_transport' listening_transport'' : Option (List ℕ))
-    (lines lines' lines'' : ℕ) → AskedSoFar ids left old now asked asked' listening_transport listening_transport' lines lines' → left ≡ few ++ later
-    → Appends asked' asked'' (questions few) → AnswersIds few now new listening_transport' listening_transport'' → lines'' ≡ line_number lines' (length few)
-    → AskedSoFar ids later old new asked asked'' listening_transport listening_transport'' lines lines''
-asked_more ids left few later old now new asked asked' asked'' listening_transport listening_transport' listening_transport'' lines lines' lines'' h e a t n =
+pub asked_more : (ids left few later : List ObjectId) (old now new : Objects) (asked asked' asked'' answers answers' answers'' : Option (List ℕ))
+    (lines lines' lines'' : ℕ) → AskedSoFar ids left old now asked asked' answers answers' lines lines' → left ≡ few ++ later
+    → Appends asked' asked'' (questions few) → AnswersIds few now new answers' answers'' → lines'' ≡ line_number lines' (length few)
+    → AskedSoFar ids later old new asked asked'' answers answers'' lines lines''
+asked_more ids left few later old now new asked asked' asked'' answers answers' answers'' lines lines' lines'' h e a t n =
     record {
       done = h.done ++ few;
       whole = h.whole ∙ ap (λ l. h.done ++ l) e ∙ sym (append_assoc h.done few later);
       asks = subst (Appends asked asked'') (sym (flat_map-append question h.done few)) (Appends-trans asked asked' asked'' _ _ h.asks a);
-      reported = answered_more h.done few old now new listening_transport listening_transport' listening_transport'' h.reported t;
+      reported = answered_more h.done few old now new answers answers' answers'' h.reported t;
       count = n ∙ ap (λ m. line_number m (length few)) h.count ∙ number_more lines (length h.done) (length few)
           ∙ ap (line_number lines) (sym (length-append h.done few));
     }
 
-pub some_more : (ids left few later : List ObjectId) (old now new : Objects) (asked asked' listening_transport listening_transport' : Option (List ℕ))
+pub some_more : (ids left few later : List ObjectId) (old now new : Objects) (asked asked' answers answers' : Option (List ℕ))
     (lines lines' : ℕ)
-    → AskedSoFar ids left old now asked asked' listening_transport listening_transport' lines lines' → left ≡ few ++ later → AnswersSome few now new
+    → AskedSoFar ids left old now asked asked' answers answers' lines lines' → left ≡ few ++ later → AnswersSome few now new
     → AnswersSome ids old new
-some_more ids left few later old now new asked asked' listening_transport listening_transport' lines lines' h e s =
+some_more ids left few later old now new asked asked' answers answers' lines lines' h e s =
     record {
       done = h.done ++ s.done;
       left = s.left ++ later;
@@ -238,18 +238,18 @@ some_more ids left few later old now new asked asked' listening_transport listen
       reported = told_more h.done s.done h.reported.lines s.lines old now h.reported.reported ∙ s.reported;
     }
 
-pub fails_more : (ids left few later : List ObjectId) (old now new : Objects) (asked asked' listening_transport listening_transport' listening_transport'' : Option (List ℕ))
-    (lines lines' : ℕ) (e : BatchCheckError) → AskedSoFar ids left old now asked asked' listening_transport listening_transport' lines lines' → left ≡ few ++ later
-    → CheckFails lines' few now new listening_transport' listening_transport'' e → CheckFails lines ids old new listening_transport listening_transport'' e
-fails_more ids left few later old now new asked asked' listening_transport listening_transport' listening_transport'' lines lines' (Line number) h e f =
-    later_unanswered lines lines' number ids h.done few later old now new listening_transport listening_transport' listening_transport'' h.reported h.count f
+pub fails_more : (ids left few later : List ObjectId) (old now new : Objects) (asked asked' answers answers' answers'' : Option (List ℕ))
+    (lines lines' : ℕ) (e : BatchCheckError) → AskedSoFar ids left old now asked asked' answers answers' lines lines' → left ≡ few ++ later
+    → CheckFails lines' few now new answers' answers'' e → CheckFails lines ids old new answers answers'' e
+fails_more ids left few later old now new asked asked' answers answers' answers'' lines lines' (Line number) h e f =
+    later_unanswered lines lines' number ids h.done few later old now new answers answers' answers'' h.reported h.count f
     (h.whole ∙ ap (λ l. h.done ++ l) e)
-fails_more ids left few later old now new asked asked' listening_transport listening_transport' listening_transport'' lines lines' (Ask kind) h e f = tt
-fails_more ids left few later old now new asked asked' listening_transport listening_transport' listening_transport'' lines lines' (Answer kind) h e f = tt
-fails_more ids left few later old now new asked asked' listening_transport listening_transport' listening_transport'' lines lines' Memory h e f = tt
+fails_more ids left few later old now new asked asked' answers answers' answers'' lines lines' (Ask kind) h e f = tt
+fails_more ids left few later old now new asked asked' answers answers' answers'' lines lines' (Answer kind) h e f = tt
+fails_more ids left few later old now new asked asked' answers answers' answers'' lines lines' Memory h e f = tt
 
-pub asked_all : (ids left : List ObjectId) (old now : Objects) (asked asked' listening_transport listening_transport' : Option (List ℕ)) (lines lines' : ℕ)
-    → AskedSoFar ids left old now asked asked' listening_transport listening_transport' lines lines' → left ≡ []
-    → AskedSoFar ids [] old now asked asked' listening_transport listening_transport' lines lines'
-asked_all ids left old now asked asked' listening_transport listening_transport' lines lines' h e =
-    subst (λ l. AskedSoFar ids l old now asked asked' listening_transport listening_transport' lines lines') e h
+pub asked_all : (ids left : List ObjectId) (old now : Objects) (asked asked' answers answers' : Option (List ℕ)) (lines lines' : ℕ)
+    → AskedSoFar ids left old now asked asked' answers answers' lines lines' → left ≡ []
+    → AskedSoFar ids [] old now asked asked' answers answers' lines lines'
+asked_all ids left old now asked asked' answers answers' lines lines' h e =
+    subst (λ l. AskedSoFar ids l old now asked asked' answers answers' lines lines') e h

@@ -11,14 +11,14 @@ use Rattle.gixp_fetch_common.specs.declared.copy.StreamError.{StreamError}
 use Rattle.gixp_fetch_common.specs.declared.copy.StreamError.TheVariants.{Read, Write, Pack, Memory}
 
 -- these bytes of content came next, and the rest is still to come, with the end that it had unless a failure was counted
-pub record CameNext (start : Side) (read : List ℕ) (end : Side) : Type 0 where
+pub record ReceivesNext (start : Side) (read : List ℕ) (end : Side) : Type 0 where
   pub content : Passes start end read
   pub ending : KeepsEndUncounted start.reading end.reading
   pub held : (side_reading end).held ≡ (side_reading start).held
 
 -- these bytes of content came next, and a writer got them all; no read failed
 pub record CopiedNext (old : Option (List ℕ)) (start : Side) (read : List ℕ) (new : Option (List ℕ)) (end : Side) : Type 0 where
-  pub came : CameNext start read end
+  pub received : ReceivesNext start read end
   pub failures : end.reading.failures ≡ start.reading.failures
   pub written : Appends old new read
 
@@ -49,15 +49,15 @@ pub record ShownAfter (old : Option (List ℕ)) (start end : Side) : Type 0 wher
 abbrev pub ChecksPack : Option (List ℕ) → Side → Result PackSummary StreamError → Option (List ℕ) → Side → Type 0
 ChecksPack old start (Ok summary) new end = (read : List ℕ) × CopiedAll old start read new end × (pack_of read ≡ Ok summary)
 ChecksPack old start (Err (Pack e)) new end = (read : List ℕ) × CopiedAll old start read new end × (pack_of read ≡ Err e)
-ChecksPack old start (Err (Read kind)) new end = (read : List ℕ) × CameNext start read end × RefusedAfter old start new end kind
-ChecksPack old start (Err (Write kind)) new end = (read : List ℕ) × CameNext start read end × ShownAfter old start end
-ChecksPack old start (Err Memory) new end = (read : List ℕ) × CameNext start read end
+ChecksPack old start (Err (Read kind)) new end = (read : List ℕ) × ReceivesNext start read end × RefusedAfter old start new end kind
+ChecksPack old start (Err (Write kind)) new end = (read : List ℕ) × ReceivesNext start read end × ShownAfter old start end
+ChecksPack old start (Err Memory) new end = (read : List ℕ) × ReceivesNext start read end
 
 -- in any case, some content was read
 pub copies_pack_reads : (old new : Option (List ℕ)) (start end : Side) (r : Result PackSummary StreamError)
-    → ChecksPack old start r new end → (read : List ℕ) × CameNext start read end
-copies_pack_reads old new start end (Ok summary) h = (h.0, h.1.copied.came)
-copies_pack_reads old new start end (Err (Pack e)) h = (h.0, h.1.copied.came)
+    → ChecksPack old start r new end → (read : List ℕ) × ReceivesNext start read end
+copies_pack_reads old new start end (Ok summary) h = (h.0, h.1.copied.received)
+copies_pack_reads old new start end (Err (Pack e)) h = (h.0, h.1.copied.received)
 copies_pack_reads old new start end (Err (Read kind)) h = (h.0, h.1)
 copies_pack_reads old new start end (Err (Write kind)) h = (h.0, h.1)
 copies_pack_reads old new start end (Err Memory) h = h

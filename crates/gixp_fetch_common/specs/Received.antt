@@ -11,13 +11,13 @@ use Rattle.gixp_fetch_common.specs.declared.receive.ReceiveError.{ReceiveError}
 use Rattle.gixp_fetch_common.specs.declared.receive.ReceiveError.TheVariants.{Begin, Stream}
 use Rattle.gixp_fetch_common.specs.declared.receive.Unreceived.{Unreceived}
 use Rattle.gixp_fetch_common.specs.declared.receive.Whole.{Whole}
-use Rattle.gixp_fetch_common.specs.PackCopied.{CameNext, ChecksPack, copies_pack_reads}
+use Rattle.gixp_fetch_common.specs.PackCopied.{ReceivesNext, ChecksPack, copies_pack_reads}
 
 -- what is still to come is an end of what was to come
 abbrev pub LeavesEnd : Side → Side → Type 0
 LeavesEnd start end = (read : List ℕ) × ReadsOn start end read × ((side_reading end).held ≡ (side_reading start).held)
 
-pub came_leaves : (start end : Side) → (read : List ℕ) × CameNext start read end → LeavesEnd start end
+pub came_leaves : (start end : Side) → (read : List ℕ) × ReceivesNext start read end → LeavesEnd start end
 came_leaves start end h = (h.0, record { content = h.1.content; ending = h.1.ending }, h.1.held)
 
 nothing_passes : (s : Side) → Passes s s []

@@ -248,7 +248,7 @@ where
         × (session.new ≡ session.old) × (pack.new ≡ pack.old) × IsLeftBoundary before [] [] f.boundary)
         ⊎ ((after : List Id) × FetchesInSession
         (parties_of ⟦<SessionNegotiation<'a, StoredObjects, StoredRefs, N> as Negotiate>⟧.calls
-        ⟦<ShallowMemory as ShallowStore>⟧.calls ⟦<NeverInterrupt as Interrupt>⟧.says
+        ⟦<ShallowMemory as ShallowStore>⟧.calls ⟦<NeverInterrupt as Interrupt>⟧.polls
         ⟦<PackReceiver<P> as ConsumePack<S>>⟧.consumes T.is_plain)
         ⟦<SessionNegotiation<'a, StoredObjects, StoredRefs, N> as NegotiatesMap>⟧.map_of
         ⟦<SessionNegotiation<'a, StoredObjects, StoredRefs, N> as NegotiatesMap>⟧.knows
@@ -266,7 +266,7 @@ where
         × (pack.new ≡ pack.old))
         ⊎ ((reported : Result (Option FetchOutcome) Error) × (after : List Id) × (f : FetchesInSession
         (parties_of ⟦<SessionNegotiation<'a, StoredObjects, StoredRefs, N> as Negotiate>⟧.calls
-        ⟦<ShallowMemory as ShallowStore>⟧.calls ⟦<NeverInterrupt as Interrupt>⟧.says
+        ⟦<ShallowMemory as ShallowStore>⟧.calls ⟦<NeverInterrupt as Interrupt>⟧.polls
         ⟦<PackReceiver<P> as ConsumePack<S>>⟧.consumes T.is_plain)
         ⟦<SessionNegotiation<'a, StoredObjects, StoredRefs, N> as NegotiatesMap>⟧.map_of
         ⟦<SessionNegotiation<'a, StoredObjects, StoredRefs, N> as NegotiatesMap>⟧.knows

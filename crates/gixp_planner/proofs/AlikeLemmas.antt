@@ -44,19 +44,19 @@ uncounted (Ok pack) = refl
 uncounted (Err e) = refl
 
 abbrev ok_said : Discovery → Result Discovery (List ℕ)
-ok_said said = Ok said
+ok_said advertised = Ok advertised
 
 abbrev err_said : List ℕ → Result Discovery (List ℕ)
 err_said name = Err name
 
-said-or-not : (d : Result Discovery (List ℕ)) (said : Discovery) (name : List ℕ) → d ≡ ok_said said → d ≡ err_said name → ⊥
-said-or-not d said name e f = let q : ok_said said ≡ err_said name = sym e ∙ f in cc q
+advertised-or-not : (d : Result Discovery (List ℕ)) (advertised : Discovery) (name : List ℕ) → d ≡ ok_said advertised → d ≡ err_said name → ⊥
+advertised-or-not d advertised name e f = let q : ok_said advertised ≡ err_said name = sym e ∙ f in cc q
 
 same-name : (d : Result Discovery (List ℕ)) (name other : List ℕ) → d ≡ err_said name → d ≡ err_said other → name ≡ other
 same-name d name other e f = let q : err_said name ≡ err_said other = sym e ∙ f in cc q
 
-same-said : (d : Result Discovery (List ℕ)) (said other : Discovery) → d ≡ ok_said said → d ≡ ok_said other → said ≡ other
-same-said d said other e f = let q : ok_said said ≡ ok_said other = sym e ∙ f in cc q
+same-advertised : (d : Result Discovery (List ℕ)) (advertised other : Discovery) → d ≡ ok_said advertised → d ≡ ok_said other → advertised ≡ other
+same-advertised d advertised other e f = let q : ok_said advertised ≡ ok_said other = sym e ∙ f in cc q
 
 abbrev ok_read : List Spec → Result (List Spec) SpecError
 ok_read specs = Ok specs
@@ -78,20 +78,20 @@ ends_refused e = Err e
 
 module _ (bodies : List Body) (words : List (List ℕ)) where
   -- what is asked of the refs, by what was said
-  record Planned (said : Discovery) (specs : List Spec) : Type 0 where
-    discovered : discovery [] (first_pieces bodies) ≡ Ok said
+  record Planned (advertised : Discovery) (specs : List Spec) : Type 0 where
+    discovered : discovery [] (first_pieces bodies) ≡ Ok advertised
     read : specs_of words ≡ Ok specs
 
   abbrev requests_for : Discovery → List Spec → List (List ℕ)
-  requests_for said specs = (sought said specs (second_pieces bodies)).requests
+  requests_for advertised specs = (sought advertised specs (second_pieces bodies)).requests
 
   abbrev refusal_for : Discovery → List Spec → Option (List ℕ)
-  refusal_for said specs = map_refusal said.capabilities specs (sought said specs (second_pieces bodies)).refs
+  refusal_for advertised specs = map_refusal advertised.capabilities specs (sought advertised specs (second_pieces bodies)).refs
 
-  planned-same : (said other : Discovery) (specs more : List Spec) → Planned said specs → Planned other more
-      → (requests_for said specs ≡ requests_for other more) × (refusal_for said specs ≡ refusal_for other more)
-  planned-same said other specs more p q =
-      let d : said ≡ other = same-said (discovery [] (first_pieces bodies)) said other p.discovered q.discovered in
+  planned-same : (advertised other : Discovery) (specs more : List Spec) → Planned advertised specs → Planned other more
+      → (requests_for advertised specs ≡ requests_for other more) × (refusal_for advertised specs ≡ refusal_for other more)
+  planned-same advertised other specs more p q =
+      let d : advertised ≡ other = same-advertised (discovery [] (first_pieces bodies)) advertised other p.discovered q.discovered in
       let s : specs ≡ more = same-read (specs_of words) specs more p.read q.read in
       (ap (λ x. requests_for x specs) d ∙ ap (requests_for other) s, ap (λ x. refusal_for x specs) d ∙ ap (refusal_for other) s)
 
@@ -101,7 +101,7 @@ module _ {N I A S C P : Type 0} (parties : Parties N I A S C P CopyError) (basis
     (ids : List ObjectId) (same : (m k : RefMap) (n o : N) → IsOne m n → IsOther k o → LookAlike m.mappings.items k.mappings.items
     → SameBasis (basis n) (basis o) × (haves n ≡ ids) × (haves o ≡ ids))
     (none : CountsNone parties.consumes) (follows : FollowsPack parties.consumes)
-    (never : ((i j : I) → parties.says i true j → ⊥) × (parties.plain ≡ true))
+    (never : ((i j : I) → parties.polls i true j → ⊥) × (parties.plain ≡ true))
     (bodies : List Body) (words : List (List ℕ)) where
   -- its fetch went a way
   record Fetched (IsOver : RefMap → N → Type 0) (course : Course) : Type 0 where
@@ -122,10 +122,10 @@ module _ {N I A S C P : Type 0} (parties : Parties N I A S C P CopyError) (basis
     for_memory : EndsForMemory course.ended → Went IsOver course
     at_greeting : {name : List ℕ} → discovery [] (first_pieces bodies) ≡ Err name → course.sent ≡ [] → course.mapped ≡ None
         → course.ended ≡ Err (refusal (codes "handshake") name) → Went IsOver course
-    at_map : {said : Discovery} {specs : List Spec} {name : List ℕ} → Planned bodies words said specs
-        → refusal_for bodies words said specs ≡ Some name → course.sent ≡ requests_for bodies words said specs → course.mapped ≡ None
+    at_map : {advertised : Discovery} {specs : List Spec} {name : List ℕ} → Planned bodies words advertised specs
+        → refusal_for bodies words advertised specs ≡ Some name → course.sent ≡ requests_for bodies words advertised specs → course.mapped ≡ None
         → course.ended ≡ Err (refusal (codes "refs") name) → Went IsOver course
-    to_fetch : {said : Discovery} {specs : List Spec} → Planned bodies words said specs → refusal_for bodies words said specs ≡ None
+    to_fetch : {advertised : Discovery} {specs : List Spec} → Planned bodies words advertised specs → refusal_for bodies words advertised specs ≡ None
         → Fetched IsOver course → Went IsOver course
 
   module _ (IsOver : RefMap → N → Type 0) (course : Course) (g : GoesSteadily parties IsOver IsEmpty bodies words course) where
@@ -148,7 +148,7 @@ module _ {N I A S C P : Type 0} (parties : Parties N I A S C P CopyError) (basis
         remembered q = for_memory (codes "handshake", f ∙ ap (λ x. ends_refused (refusal (codes "handshake") (handshake_name x))) q)
 
         by : (d : Result Discovery (List ℕ)) → discovery [] (first_pieces bodies) ≡ d → IsDiscovered d (Err e) → Went IsOver course
-        by (Ok said) q i = remembered i
+        by (Ok advertised) q i = remembered i
         by (Err name) q (inr i) = remembered i
         by (Err name) q (inl i) =
             at_greeting q (sym g.is_course.sent ∙ greeting-sent true (bodies_reading g.is_course.transport) g.is_course.last
@@ -165,8 +165,8 @@ module _ {N I A S C P : Type 0} (parties : Parties N I A S C P CopyError) (basis
         by : Plans bodies words g.is_course.last.held.sent (Err e) → Went IsOver course
         by p = at p.ends
           where
-            at : ((refusal_for bodies words p.said p.specs ≡ Some (map_name e))
-                × (g.is_course.last.held.sent ≡ requests_for bodies words p.said p.specs)) ⊎ (e ≡ map.Memory) → Went IsOver course
+            at : ((refusal_for bodies words p.advertised p.specs ≡ Some (map_name e))
+                × (g.is_course.last.held.sent ≡ requests_for bodies words p.advertised p.specs)) ⊎ (e ≡ map.Memory) → Went IsOver course
             at (inr q) = for_memory (codes "refs", f ∙ ap (λ x. ends_refused (refusal (codes "refs") (map_name x))) q)
             at (inl q) = at_map (record { discovered = p.discovered; read = p.read }) q.0 (sym g.is_course.sent ∙ q.1) m f
 
@@ -287,24 +287,24 @@ module _ {N I A S C P : Type 0} (parties : Parties N I A S C P CopyError) (basis
   both-went c d (at_greeting {name} p s m e) (at_greeting {name = other} q t n f) =
       inr (inr (unmapped-alike c d (s ∙ sym t) m n (e ∙ ap (λ x. ends_refused (refusal (codes "handshake") x))
       (same-name (discovery [] (first_pieces bodies)) name other p q) ∙ sym f)))
-  both-went c d (at_greeting {name} p s m e) (at_map {said} q r t n f) =
-      absurd (said-or-not (discovery [] (first_pieces bodies)) said name q.discovered p)
-  both-went c d (at_greeting {name} p s m e) (to_fetch {said} q r y) =
-      absurd (said-or-not (discovery [] (first_pieces bodies)) said name q.discovered p)
-  both-went c d (at_map {said} p r s m e) (at_greeting {name} q t n f) =
-      absurd (said-or-not (discovery [] (first_pieces bodies)) said name p.discovered q)
-  both-went c d (at_map {said} {specs} {name} p r s m e) (at_map {said = other} {specs = more} {name = named} q k t n f) =
-      let o = planned-same bodies words said other specs more p q in
+  both-went c d (at_greeting {name} p s m e) (at_map {advertised} q r t n f) =
+      absurd (advertised-or-not (discovery [] (first_pieces bodies)) advertised name q.discovered p)
+  both-went c d (at_greeting {name} p s m e) (to_fetch {advertised} q r y) =
+      absurd (advertised-or-not (discovery [] (first_pieces bodies)) advertised name q.discovered p)
+  both-went c d (at_map {advertised} p r s m e) (at_greeting {name} q t n f) =
+      absurd (advertised-or-not (discovery [] (first_pieces bodies)) advertised name p.discovered q)
+  both-went c d (at_map {advertised} {specs} {name} p r s m e) (at_map {advertised = other} {specs = more} {name = named} q k t n f) =
+      let o = planned-same bodies words advertised other specs more p q in
       inr
       (inr (unmapped-alike c d (s ∙ o.0 ∙ sym t) m n
       (e ∙ ap (λ x. ends_refused (refusal (codes "refs") x))
       (same-some (refusal_for bodies words other more) name named (sym o.1 ∙ r) k) ∙ sym f)))
-  both-went c d (at_map {said} {specs} {name} p r s m e) (to_fetch {said = other} {specs = more} q k y) =
-      absurd (some-or-none (refusal_for bodies words other more) name (sym (planned-same bodies words said other specs more p q).1 ∙ r) k)
-  both-went c d (to_fetch {said} p r x) (at_greeting {name} q t n f) =
-      absurd (said-or-not (discovery [] (first_pieces bodies)) said name p.discovered q)
-  both-went c d (to_fetch {said} {specs} p r x) (at_map {said = other} {specs = more} {name} q k t n f) =
-      absurd (some-or-none (refusal_for bodies words other more) name k (sym (planned-same bodies words said other specs more p q).1 ∙ r))
+  both-went c d (at_map {advertised} {specs} {name} p r s m e) (to_fetch {advertised = other} {specs = more} q k y) =
+      absurd (some-or-none (refusal_for bodies words other more) name (sym (planned-same bodies words advertised other specs more p q).1 ∙ r) k)
+  both-went c d (to_fetch {advertised} p r x) (at_greeting {name} q t n f) =
+      absurd (advertised-or-not (discovery [] (first_pieces bodies)) advertised name p.discovered q)
+  both-went c d (to_fetch {advertised} {specs} p r x) (at_map {advertised = other} {specs = more} {name} q k t n f) =
+      absurd (some-or-none (refusal_for bodies words other more) name k (sym (planned-same bodies words advertised other specs more p q).1 ∙ r))
   both-went c d (to_fetch p r x) (to_fetch q k y) = inr (inr (fetched-alike c d x y))
 
   pub courses-follow : CoursesFollow parties IsOne IsOther IsEmpty bodies words

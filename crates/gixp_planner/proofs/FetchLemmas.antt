@@ -185,7 +185,7 @@ module _ {N I A S C P X : Type 0} (parties : Parties N I A S C P X) (basis : N �
     (reads : (s : S) (ids : List ObjectId) (t : S) → IsEmpty s → parties.store_calls.reads s ids t → ids ≡ [])
     (none : CountsNone parties.consumes) where
   abbrev how : Protocol → Bool → Manner N I A
-  how v banded = manner_of parties.negotiation_calls parties.says v banded parties.plain
+  how v banded = manner_of parties.negotiation_calls parties.polls v banded parties.plain
 
   -- it came to a pack
   pub record Rounded (v : Protocol) (caps : List CapabilityValue) (n : N) (old new : Reading) : Type 0 where
@@ -255,12 +255,12 @@ module _ {N I A S C P X : Type 0} (parties : Parties N I A S C P X) (basis : N �
               s.negotiated.packed);
           held =
               ap (λ (r : Reading). r.held) (sym f.ends)
-              ∙ ap (λ (w : World N I S C). w.reading.held) c.stands
+              ∙ ap (λ (w : World N I S C). w.reading.held) c.position
               ∙ received_held parties.consumes f.first.consumer s.end.reading c.last.consumer c.last.reading f.progress
               s.delivered.received;
           failures =
               ap (λ (r : Reading). r.failures) (sym f.ends)
-              ∙ ap (λ (w : World N I S C). w.reading.failures) c.stands
+              ∙ ap (λ (w : World N I S C). w.reading.failures) c.position
               ∙ received-failures parties.consumes none f.first.consumer s.end.reading c.last.consumer c.last.reading f.progress
               s.delivered.received;
         }
@@ -276,7 +276,7 @@ module _ {N I A S C P X : Type 0} (parties : Parties N I A S C P X) (basis : N �
           opens = opened-first c.held s.ids c.last.store c.asked s.asked (subst IsEmpty (sym c.locks.0) f.empty) p.0 s.opened;
           last = c.last.negotiate;
           idle = s.idle;
-          rests = sym f.ends ∙ ap (λ (w : World N I S C). w.reading) c.stands ∙ s.rests.reading ∙ f.begins;
+          rests = sym f.ends ∙ ap (λ (w : World N I S C). w.reading) c.position ∙ s.rests.reading ∙ f.begins;
         }
 
     pub came : (o : Option Outcome) → FetchesMapped parties IsOver IsEmpty h old new (Ok o) → (n : N) × IsOver n

@@ -158,13 +158,13 @@ record SameAnswer (x y : SetServiceResponse) : Type 0 where
   capabilities : x.capabilities ≡ y.capabilities
   follow : x.has_refs ≡ y.has_refs
 
-record Said (c d : Reading) (x y : SetServiceResponse) : Type 0 where
+record AdvertisedSo (c d : Reading) (x y : SetServiceResponse) : Type 0 where
   alike : AreAlike c d
   same : SameAnswer x y
 
-said-alike : (a b c d : Reading) (x y : SetServiceResponse) → AreAlike a b → ReadsAdvertisement advertisement a c x
-    → ReadsAdvertisement advertisement b d y → Said c d x y
-said-alike a b c d x y s l r =
+advertised-alike : (a b c d : Reading) (x y : SetServiceResponse) → AreAlike a b → ReadsAdvertisement advertisement a c x
+    → ReadsAdvertisement advertisement b d y → AdvertisedSo c d x y
+advertised-alike a b c d x y s l r =
     let u = if-known _ a.to_come s.pieces s.first l.value in
     let w = if-known _ b.to_come s.pieces s.second r.value in
     let same : u.0 ≡ w.0 = same-ok (advertisement s.pieces) u.0 w.0 u.1 w.1 in
@@ -211,16 +211,16 @@ module _ (old mid new : Reading) (turns : List CredentialCall) (x : SetServiceRe
       subst (λ a. Got UploadPack [] a mid.held.url mid new l.later (Ok x)) answered.0 l.got in
       cc got.2
 
-  first-listening_transport : (first : Result SetServiceResponse client_error) → old.held.persists ≡ false → AreUnanswered turns
+  first-received : (first : Result SetServiceResponse client_error) → old.held.persists ≡ false → AreUnanswered turns
       → Handshakes UploadPack [] old mid first → First first UploadPack [] mid new turns (Ok x) → Hears old new x
-  first-listening_transport (Ok found) p u h f =
+  first-received (Ok found) p u h f =
       receives-by UploadPack [] old.held.persists old new x p
       (subst (λ (n : Reading). Handshakes UploadPack [] old n (Ok x)) (sym f.1)
       (subst (λ (y : SetServiceResponse). Handshakes UploadPack [] old mid (Ok y)) (sym (by_ok f.2)) h))
     where
       by_ok : {y z : SetServiceResponse} → opened_ok y ≡ opened_ok z → y ≡ z
       by_ok e = cc
-  first-listening_transport (Err e) p u h f = undenied _ e u f
+  first-received (Err e) p u h f = undenied _ e u f
 
 -- a handshake that came to its refs
 pub record Greeted (plain : Bool) (old new : Reading) (h : Handshake) : Type 0 where
@@ -246,7 +246,7 @@ module _ (plain : Bool) (old new : Reading) (h : Handshake) (turns : List Creden
   greeted-by (Err e) mid p u o g = cc g.1
   greeted-by (Ok found) mid p u (inr n) g = cc n.error
   greeted-by (Ok found) mid p u (inl o) g = kept-accepted (is_accepted old.held.accepted found.actual_protocol) mid found refl
-      (first-listening_transport old o.1 mid turns found o.0 p u o.2 o.3) g
+      (first-received old o.1 mid turns found o.0 p u o.2 o.3) g
 
 pub greeted : (plain : Bool) (old new : Reading) (h : Handshake) → old.held.persists ≡ false → GreetsWithoutAccount plain old new (Ok h)
     → Greeted plain old new h
@@ -289,14 +289,14 @@ pub greetings-alike : (plain : Bool) (a b c d : Reading) (h k : Handshake) → H
 greetings-alike plain a b c d h k s l r =
     let x = greeted plain a c h s.alone l in
     let y = greeted plain b d k (ap (λ (z : TransportState). z.persists) (sym s.held) ∙ s.alone) r in
-    let said = said-alike x.receives.mid y.receives.mid x.mid y.mid x.found y.found
+    let advertised = advertised-alike x.receives.mid y.receives.mid x.mid y.mid x.found y.found
     (answers-alike a b x.receives.mid y.receives.mid s x.receives.takes y.receives.takes) x.receives.reads y.receives.reads in
-    let refs = first-refs-alike y.found.has_refs plain x.mid y.mid c d x.found y.found h k said.alike said.same.capabilities
-    (subst (λ f. ReadsFirst f x.found plain x.mid c (Ok h)) said.same.follow x.first) y.first in
+    let refs = first-refs-alike y.found.has_refs plain x.mid y.mid c d x.found y.found h k advertised.alike advertised.same.capabilities
+    (subst (λ f. ReadsFirst f x.found plain x.mid c (Ok h)) advertised.same.follow x.first) y.first in
     record {
       alike = refs.alike;
-      version = x.version ∙ said.same.version ∙ sym y.version;
-      capabilities = x.capabilities ∙ said.same.capabilities ∙ sym y.capabilities;
+      version = x.version ∙ advertised.same.version ∙ sym y.version;
+      capabilities = x.capabilities ∙ advertised.same.capabilities ∙ sym y.capabilities;
       refs = refs.refs;
     }
 
@@ -541,7 +541,7 @@ module _ {N I A E : Type 0} (m : Manner N I A) where
 
   refused-extends : (before : At N I) (e : FetchError A E) (n : N) (new : Reading) (left : I) → before.reading.held.persists ≡ false
       → TurnFails m before e n new left → Extends before.reading new
-  refused-extends before e n new left p (inl u) = extends-none before.reading new (ap (λ (z : Reading). z.held.sent) u.stands)
+  refused-extends before e n new left p (inl u) = extends-none before.reading new (ap (λ (z : Reading). z.held.sent) u.position)
   refused-extends before e n new left p (inr b) = breaks-extend before b.asked b.done e new p b.breaks
 
 module _ {N I A S C P X : Type 0} (parties : Parties N I A S C P X) where
@@ -575,7 +575,7 @@ module _ {N I A S C P X : Type 0} (parties : Parties N I A S C P X) where
 
   released-extends : (old : Reading) (last new : World N I S C) → Releases parties last new → Extends old last.reading
       → Extends old new.reading
-  released-extends old last new r x = subst (λ (z : Reading). Extends old z) (sym (ap (λ (w : World N I S C). w.reading) r.stands)) x
+  released-extends old last new r x = subst (λ (z : Reading). Extends old z) (sym (ap (λ (w : World N I S C). w.reading) r.position)) x
 
   session-extends : (call : FetchCall) (old : World N I S C) (r : Result (Option Outcome) (FetchError A X)) (new : World N I S C)
       (progress : P) → old.reading.held.persists ≡ false → HoldsSession parties call old r new progress

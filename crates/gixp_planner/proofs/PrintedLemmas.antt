@@ -138,31 +138,31 @@ module _ {O N G : Type 0} (calls : NegotiationCalls (Negotiation O NoRefs N G Al
   }
 
   -- so a fetch over it is one over the map, and the same is printed of it afterwards
-  pub carried_over : {I S C P X : Type 0} (store_calls : StoreCalls S) (says : I → Bool → I → Type 0)
+  pub carried_over : {I S C P X : Type 0} (store_calls : StoreCalls S) (polls : I → Bool → I → Type 0)
       (consumes : C → Side → P → Result Bool X → C → Side → P → Type 0) (plain : Bool) (h : Handshake)
       (first : World (PrintingNegotiation O N G) I S C) (r : Result (Option Outcome) (FetchError AllocError X))
       (last : World (PrintingNegotiation O N G) I S C) (progress : P)
-      → Carries (parties_of (calls_over calls) store_calls says consumes plain) h first r last progress
+      → Carries (parties_of (calls_over calls) store_calls polls consumes plain) h first r last progress
       → BeginsOver map first.negotiate
-      → Carries (parties_of calls store_calls says consumes plain) h (world_of (over map) first) r (world_of (over map) last) progress
+      → Carries (parties_of calls store_calls polls consumes plain) h (world_of (over map) first) r (world_of (over map) last) progress
       × PrintsMap map last.negotiate
-  carried_over store_calls says consumes plain h first r last progress it begins =
-      let x = stands_in (calls_over calls) calls (over map) (BeginsOver map) (PrintsMap map) stands_for store_calls says consumes plain
+  carried_over store_calls polls consumes plain h first r last progress it begins =
+      let x = stands_in (calls_over calls) calls (over map) (BeginsOver map) (PrintsMap map) stands_for store_calls polls consumes plain
       (planner_call h) first begins r last progress it.fetched in
       (record { fetched = x.0 }, x.1)
 
-  pub fetched_printed : {I S C P X : Type 0} (store_calls : StoreCalls S) (says : I → Bool → I → Type 0)
+  pub fetched_printed : {I S C P X : Type 0} (store_calls : StoreCalls S) (polls : I → Bool → I → Type 0)
       (consumes : C → Side → P → Result Bool X → C → Side → P → Type 0) (plain : Bool)
       (IsOver : Negotiation O NoRefs N G AllocError → Type 0) (IsEmpty : S → Type 0) (h : Handshake) (old new : Reading)
       (first last : PrintingNegotiation O N G) (store after : S) (printed : PrintedMap)
       (r : Result (Option Outcome) (FetchError AllocError X))
-      → CarriesOn (parties_of (calls_over calls) store_calls says consumes plain) h first old store r last new after
+      → CarriesOn (parties_of (calls_over calls) store_calls polls consumes plain) h first old store r last new after
       → BeginsOver map first → IsOver (over map first) → IsEmpty store → printed ≡ last.printed
       → (printed_text printed ≡ map_shown map)
-      × FetchesMapped (parties_of calls store_calls says consumes plain) IsOver IsEmpty h old new r
-  fetched_printed store_calls says consumes plain IsOver IsEmpty h old new first last store after printed r it begins over_it empty e =
-      let x = carried_over store_calls says consumes plain h _ r _ it.progress it.carries begins in (
+      × FetchesMapped (parties_of calls store_calls polls consumes plain) IsOver IsEmpty h old new r
+  fetched_printed store_calls polls consumes plain IsOver IsEmpty h old new first last store after printed r it begins over_it empty e =
+      let x = carried_over store_calls polls consumes plain h _ r _ it.progress it.carries begins in (
         ap printed_text e ∙ x.1,
-        inl (fetches-over (parties_of calls store_calls says consumes plain) h _ r _ it.progress IsOver IsEmpty old new x.0 over_it empty
+        inl (fetches-over (parties_of calls store_calls polls consumes plain) h _ r _ it.progress IsOver IsEmpty old new x.0 over_it empty
             refl refl refl),
       )

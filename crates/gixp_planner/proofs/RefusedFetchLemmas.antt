@@ -145,9 +145,9 @@ module _ {N I A S C P : Type 0} (parties : Parties N I A S C P CopyError) (basis
     (list : OffersList parties.negotiation_calls basis haves) (IsEmpty : S → Type 0)
     (reads : (s : S) (ids : List ObjectId) (t : S) → IsEmpty s → parties.store_calls.reads s ids t → ids ≡ [])
     (none : CountsNone parties.consumes) (follows : FollowsPack parties.consumes)
-    (never : ((i j : I) → parties.says i true j → ⊥) × (parties.plain ≡ true)) where
+    (never : ((i j : I) → parties.polls i true j → ⊥) × (parties.plain ≡ true)) where
   abbrev how : Protocol → Bool → Manner N I A
-  how v banded = manner_of parties.negotiation_calls parties.says v banded parties.plain
+  how v banded = manner_of parties.negotiation_calls parties.polls v banded parties.plain
 
   -- how a fetch went that nothing disturbed
   pub data Way (v : Protocol) (caps : List CapabilityValue) (banded : Bool) (n : N) (old new : Reading)
@@ -188,7 +188,7 @@ module _ {N I A S C P : Type 0} (parties : Parties N I A S C P CopyError) (basis
     packed-way ids read action rounds updates reply end new ended g z h k =
         let p = g.packed in
         let m = how v banded in
-        let here : end.reading ≡ p.last.after.reading = ap (λ (a : At N I). a.reading) p.stands in
+        let here : end.reading ≡ p.last.after.reading = ap (λ (a : At N I). a.reading) p.position in
         let there : p.before.reading.held.persists ≡ false =
         (rounds_written m (start_of g.ready g.wanted old.reading old.interrupt) p.before p.turns p.run).persists ∙ alone in
         runs has_all g.ready g.wanted old.interrupt (began-so ids read action g.ready g.wanted g.begun)
@@ -328,7 +328,7 @@ module _ {N I A S C P : Type 0} (parties : Parties N I A S C P CopyError) (basis
         ∙ z) u c.meets)
       where
         here : c.last.reading ≡ new
-        here = ap (λ (w : World N I S C). w.reading) (sym c.stands) ∙ f.ends
+        here = ap (λ (w : World N I S C). w.reading) (sym c.position) ∙ f.ends
 
         at : (r ≡ Err fetch.Memory) ⊎ Way version caps c.banded f.first.negotiate f.first.reading c.last.reading (end_of r) → AnyWay r
         at (inl m) = inl m

@@ -41,16 +41,16 @@ stood-sent old new e = ap (λ (r : Reading). r.held.sent) e
 taken-sent : (old new : Reading) → TakesAnswer old new → SentAlike old new
 taken-sent old new t = ap (λ (x : TransportState). x.sent) t.held
 
-said-sent : (old new : Reading) (r : Result SetServiceResponse client_error) → Advertises advertisement TakesFirst old new r
+advertised-sent : (old new : Reading) (r : Result SetServiceResponse client_error) → Advertises advertisement TakesFirst old new r
     → SentAlike old new
-said-sent old new (Ok found) a = held-sent old new a.held
-said-sent old new (Err e) a = held-sent old new a.held
+advertised-sent old new (Ok found) a = held-sent old new a.held
+advertised-sent old new (Err e) a = held-sent old new a.held
 
 shaken-sent : (persists : Bool) (old new : Reading) (r : Result SetServiceResponse client_error) → persists ≡ false
     → HandshakesBy persists UploadPack [] old new r → SentAlike old new
 shaken-sent true old new r e h = cc e
 shaken-sent false old new r e (inl h) = taken-sent old new h.2
-shaken-sent false old new r e (inr h) = said-sent h.0 new r h.3 ∙ taken-sent old h.0 h.1
+shaken-sent false old new r e (inr h) = advertised-sent h.0 new r h.3 ∙ taken-sent old h.0 h.1
 
 denied-sent : (denied : Bool) (e : client_error) (mid new : Reading) (turns : List CredentialCall) (r : OpeningResult)
     → AreUnanswered turns → Denied denied e UploadPack [] mid new turns r → SentAlike mid new

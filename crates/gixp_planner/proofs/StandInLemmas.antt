@@ -85,12 +85,12 @@ rounds_told f [] = refl
 rounds_told f (t ∷ ts) = ap (λ rs. t.round ∷ rs) (rounds_told f ts)
 
 module _ {N M I A : Type 0} (calls : NegotiationCalls N A) (others : NegotiationCalls M A) (f : N → M) (Begins Stays : N → Type 0)
-    (k : ErrorIs calls others f Begins Stays) (says : I → Bool → I → Type 0) (version : Protocol) (banded plain : Bool) where
+    (k : ErrorIs calls others f Begins Stays) (polls : I → Bool → I → Type 0) (version : Protocol) (banded plain : Bool) where
   abbrev own : Manner N I A
-  own = manner_of calls says version banded plain
+  own = manner_of calls polls version banded plain
 
   abbrev other : Manner M I A
-  other = manner_of others says version banded plain
+  other = manner_of others polls version banded plain
 
   updates_told : (ts : List (Turn N I)) → updates_of other (map (turn_of f) ts) ≡ updates_of own ts
   updates_told [] = refl
@@ -135,12 +135,12 @@ module _ {N M I A : Type 0} (calls : NegotiationCalls N A) (others : Negotiation
       answer = p.answer;
       reported = p.reported ∙ ap (λ rs. rs ++ p.last.round ∷ []) (sym (rounds_told f p.turns));
       gathered = p.gathered ∙ ap (λ us. us ++ p.last.reply.shallow_updates) (sym (updates_told p.turns));
-      stands = ap (at_of f) p.stands;
+      position = ap (at_of f) p.position;
     }
 
     packed_stays : (reported : List Round) (updates : List ShallowUpdate) (reply : AnswerValue) (end : At N I)
         → Packed own start reported updates reply end → Stays start.negotiate → Stays end.negotiate
-    packed_stays reported updates reply end p s = subst (λ (a : At N I). Stays a.negotiate) (sym p.stands)
+    packed_stays reported updates reply end p s = subst (λ (a : At N I). Stays a.negotiate) (sym p.position)
         (turn_stays p.before p.last p.lasts (rounds_stay start p.turns p.before p.run s))
 
     stopped : (reported : List Round) (end : At N I) → Interrupts own start reported end → Interrupts other (at_of f start) reported (at_of f end)
@@ -148,14 +148,14 @@ module _ {N M I A : Type 0} (calls : NegotiationCalls N A) (others : Negotiation
       turns = map (turn_of f) p.turns;
       before = at_of f p.before;
       run = rounds start p.turns p.before p.run;
-      said = p.said;
+      polled = p.polled;
       reported = p.reported ∙ sym (rounds_told f p.turns);
-      stands = ap (at_of f) p.stands;
+      position = ap (at_of f) p.position;
     }
 
     stopped_stays : (reported : List Round) (end : At N I) → Interrupts own start reported end → Stays start.negotiate → Stays end.negotiate
     stopped_stays reported end p s =
-        subst (λ (a : At N I). Stays a.negotiate) (sym p.stands) (rounds_stay start p.turns p.before p.run s)
+        subst (λ (a : At N I). Stays a.negotiate) (sym p.position) (rounds_stay start p.turns p.before p.run s)
 
     without : (reported : List Round) (end : At N I) → DoneWithout own start reported end → DoneWithout other (at_of f start) reported (at_of f end)
     without reported end p = record {
@@ -167,11 +167,11 @@ module _ {N M I A : Type 0} (calls : NegotiationCalls N A) (others : Negotiation
       done = p.done;
       no_pack = p.no_pack;
       reported = p.reported ∙ ap (λ rs. rs ++ p.last.round ∷ []) (sym (rounds_told f p.turns));
-      stands = ap (at_of f) p.stands;
+      position = ap (at_of f) p.position;
     }
 
     without_stays : (reported : List Round) (end : At N I) → DoneWithout own start reported end → Stays start.negotiate → Stays end.negotiate
-    without_stays reported end p s = subst (λ (a : At N I). Stays a.negotiate) (sym p.stands)
+    without_stays reported end p s = subst (λ (a : At N I). Stays a.negotiate) (sym p.position)
         (turn_stays p.before p.last p.lasts (rounds_stay start p.turns p.before p.run s))
 
     ended : (reported : List Round) (end : At N I) → Interrupts own start reported end ⊎ DoneWithout own start reported end
@@ -217,7 +217,7 @@ module _ {N M I A : Type 0} (calls : NegotiationCalls N A) (others : Negotiation
             asked = u.asked;
             refused = r.0;
             gives = u.gives;
-            stands = u.stands;
+            position = u.position;
             unasked = u.unasked;
           });
           reported = refl;
@@ -276,7 +276,7 @@ module _ {N M I A : Type 0} (calls : NegotiationCalls N A) (others : Negotiation
             before = at_of f l.before;
             run = rounds start l.turns l.before l.run;
             asked = l.asked;
-            said = l.said;
+            polled = l.polled;
             refused = r.fails;
             reported = l.reported ∙ ap (λ rs. rs ++ reported_of own l.refused) (sym (rounds_told f l.turns))
                 ∙ ap (λ rs. map (λ t. t.round) (map (turn_of f) l.turns) ++ rs) r.reported;
@@ -286,12 +286,12 @@ module _ {N M I A : Type 0} (calls : NegotiationCalls N A) (others : Negotiation
 
 module _ {N M I A S C P X : Type 0} (calls : NegotiationCalls N A) (others : NegotiationCalls M A) (f : N → M)
     (Begins Stays : N → Type 0) (k : ErrorIs calls others f Begins Stays) (store_calls : StoreCalls S)
-    (says : I → Bool → I → Type 0) (consumes : C → Side → P → Result Bool X → C → Side → P → Type 0) (plain : Bool) where
+    (polls : I → Bool → I → Type 0) (consumes : C → Side → P → Result Bool X → C → Side → P → Type 0) (plain : Bool) where
   abbrev ours : Parties N I A S C P X
-  ours = parties_of calls store_calls says consumes plain
+  ours = parties_of calls store_calls polls consumes plain
 
   abbrev theirs : Parties M I A S C P X
-  theirs = parties_of others store_calls says consumes plain
+  theirs = parties_of others store_calls polls consumes plain
 
   made_ready : (first : N) (given : ArgumentsValue) (action : ActionValue) (ready : N) (wanted : ArgumentsValue) → Begins first
       → MakesReady calls first given action ready wanted
@@ -355,10 +355,10 @@ module _ {N M I A S C P X : Type 0} (calls : NegotiationCalls N A) (others : Neg
             ready = f h.ready;
             wanted = h.wanted;
             begun = b.0;
-            packed = packed calls others f Begins Stays k says version banded plain from reported updates reply end h.packed;
+            packed = packed calls others f Begins Stays k polls version banded plain from reported updates reply end h.packed;
             bounded = bounded calls others f Begins Stays k h.ready reported h.bounded;
           },
-          packed_stays calls others f Begins Stays k says version banded plain from reported updates reply end h.packed b.1,
+          packed_stays calls others f Begins Stays k polls version banded plain from reported updates reply end h.packed b.1,
         )
 
     rests : (new : World N I S C) → Rests ours version banded fetch_options given old new
@@ -374,7 +374,7 @@ module _ {N M I A S C P X : Type 0} (calls : NegotiationCalls N A) (others : Neg
         (unready ids asked o x.0 (rests new r), x.1)
     fails e new progress (unpacked reported u l c) =
         let b = begun u.ids new.store u.action u.ready u.wanted u.begun in
-        let x = rounds_fail calls others f Begins Stays k says version banded plain
+        let x = rounds_fail calls others f Begins Stays k polls version banded plain
         (start ours version banded fetch_options given old u.ready u.wanted) e reported new.negotiate new.reading new.interrupt u.fails in (
           unpacked reported (record {
             ids = u.ids;
@@ -407,11 +407,11 @@ module _ {N M I A S C P X : Type 0} (calls : NegotiationCalls N A) (others : Neg
             reply = h.reply;
             end = at_of f h.end;
             negotiated = x.0;
-            stands = ap f h.stands;
+            position = ap f h.position;
             answers = h.answers;
             delivered = h.delivered;
           },
-          subst Stays (sym h.stands) x.1,
+          subst Stays (sym h.position) x.1,
         )
     session_ends (Ok None) new progress h = let x = idled old.negotiate h.asked new.negotiate begins h.idle in
         (record { ids = h.ids; asked = h.asked; opened = h.opened; idle = x.0; rests = rests new h.rests }, x.1)
@@ -434,9 +434,9 @@ module _ {N M I A S C P X : Type 0} (calls : NegotiationCalls N A) (others : Neg
             locks = h.locks;
             meets = x.0;
             releases = h.releases;
-            stands = ap (world_of f) h.stands;
+            position = ap (world_of f) h.position;
           },
-          subst (λ (w : World N I S C). Stays w.negotiate) (sym h.stands) x.1,
+          subst (λ (w : World N I S C). Stays w.negotiate) (sym h.position) x.1,
         )
 
     start_fails : (e : FetchError A X) (new : World N I S C) → StartFails ours call old e new

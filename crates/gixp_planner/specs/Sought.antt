@@ -68,7 +68,7 @@ by_arrival None l version answer = by_offer (listing_refusal l) l version answer
 
 -- the refs of the handshake, or those of this answer
 abbrev pub sought : Discovery → List Spec → Pieces → Sought
-sought said specs answer = by_arrival said.refs (list_for said.capabilities specs) said.version answer
+sought advertised specs answer = by_arrival advertised.refs (list_for advertised.capabilities specs) advertised.version answer
 
 -- refspecs in conflict are an error
 abbrev pub by_conflicts : List Conflict → Option (List ℕ)
@@ -110,12 +110,12 @@ pub record MapsOver (bodies : List Body) (words : List (List ℕ)) (sent : List 
 
 -- the outcome of the ref map of these bodies and refspecs
 pub record Plans (bodies : List Body) (words : List (List ℕ)) (sent : List (List ℕ)) (r : Result RefMap MapError) : Type 0 where
-  pub said : Discovery
+  pub advertised : Discovery
   pub specs : List Spec
-  pub discovered : discovery [] (first_pieces bodies) ≡ Ok said
+  pub discovered : discovery [] (first_pieces bodies) ≡ Ok advertised
   pub read : specs_of words ≡ Ok specs
-  pub ends : IsSought (map_refusal said.capabilities specs (sought said specs (second_pieces bodies)).refs)
-      (sought said specs (second_pieces bodies)).requests sent r
+  pub ends : IsSought (map_refusal advertised.capabilities specs (sought advertised specs (second_pieces bodies)).refs)
+      (sought advertised specs (second_pieces bodies)).requests sent r
 
 -- whether there is a ref map, its error, and the requests for it follow from the bodies and the refspecs, except for allocation failures
 abbrev pub RefMapsFollow : Type 0

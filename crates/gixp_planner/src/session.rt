@@ -87,7 +87,7 @@ fn fetch_over<N: Negotiate, T: Transport>(
     requires agent { feature_value agent ≡ planner_agent }
     requires stays { shallow.now ≡ Shallow.NoChange }
     ensures { CarriesOn
-        (parties_of N.calls ⟦<ShallowMemory as ShallowStore>⟧.calls ⟦<NeverInterrupt as Interrupt>⟧.says
+        (parties_of N.calls ⟦<ShallowMemory as ShallowStore>⟧.calls ⟦<NeverInterrupt as Interrupt>⟧.polls
         ⟦<ReadToEnd as ConsumePack<Discard>>⟧.consumes T.is_plain)
         handshake.old negotiation.old (T.reading transport.old) boundary.old result negotiation.new (T.reading transport.new) boundary.new }
 {
@@ -132,7 +132,7 @@ fn fetch_mapped<'a, O: Objects, G: Objects, N: Negotiator, T: Transport>(
 )
     ensures { (printed_text result.0 ≡ map_shown map) × FetchesMapped
         (parties_of ⟦<Negotiation<'a, O, NoRefs, N, G, AllocError> as Negotiate>⟧.calls ⟦<ShallowMemory as ShallowStore>⟧.calls
-        ⟦<NeverInterrupt as Interrupt>⟧.says ⟦<ReadToEnd as ConsumePack<Discard>>⟧.consumes T.is_plain)
+        ⟦<NeverInterrupt as Interrupt>⟧.polls ⟦<ReadToEnd as ConsumePack<Discard>>⟧.consumes T.is_plain)
         (NegotiatesOver objects.now graph.old negotiator.old map)
         IsEmptyBoundary handshake.old (T.reading transport.old) (T.reading transport.new) result.1 }
 {
@@ -192,7 +192,7 @@ pub(crate) fn run<'a, O: Objects, G: Objects, N: Negotiator, T: Transport>(
     ensures { RunsPrinted
         (λ m h old new r. FetchesMapped
         (parties_of ⟦<Negotiation<'a, O, NoRefs, N, G, AllocError> as Negotiate>⟧.calls ⟦<ShallowMemory as ShallowStore>⟧.calls
-        ⟦<NeverInterrupt as Interrupt>⟧.says ⟦<ReadToEnd as ConsumePack<Discard>>⟧.consumes T.is_plain)
+        ⟦<NeverInterrupt as Interrupt>⟧.polls ⟦<ReadToEnd as ConsumePack<Discard>>⟧.consumes T.is_plain)
         (NegotiatesOver objects.now graph.old negotiator.old m)
         IsEmptyBoundary h old new r)
         context T.is_plain (T.reading transport.old) (T.reading transport.new) (mapped_text result.mapped) (ended_of result.ended) }

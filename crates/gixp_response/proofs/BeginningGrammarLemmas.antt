@@ -17,7 +17,7 @@ record Shortest (v : Protocol) (a : Expected) (before : List AnswerItem) (p : Pi
   split : p ≡ front taken rest
   stops : AreStops v taken
   ended : ends a (items_after taken before) (next_of v rest) ≡ Some pack
-  response_line : value ≡ answer_in (items_after taken before) pack
+  response : value ≡ answer_in (items_after taken before) pack
   shortest : (shorter : List Piece) (next : Piece) (more : List Piece) → taken ≡ shorter ++ next ∷ more
       → ends a (items_after shorter before) (next_of v (front (next ∷ more) rest)) ≡ None
 
@@ -39,7 +39,7 @@ here v a before p value rest pack e h =
       split = parts.1;
       stops = tt;
       ended = subst (λ x. ends a before (next_of v x) ≡ Some pack) parts.1 e;
-      response_line = sym parts.0;
+      response = sym parts.0;
       shortest = λ shorter next more k. absurd (not_empty shorter next more k);
     }
 
@@ -56,7 +56,7 @@ further v a before x p value rest e h s m = record {
   split = ap (with_piece x) h.split;
   stops = m h.taken h.stops;
   ended = ap (λ i. ends a i (next_of v rest)) (s h.taken) ∙ h.ended;
-  response_line = h.response_line ∙ ap (λ i. answer_in i h.pack) (sym (s h.taken));
+  response = h.response ∙ ap (λ i. answer_in i h.pack) (sym (s h.taken));
   shortest = none_shorter;
 }
   where
@@ -119,7 +119,7 @@ pub shortest_found : (v : Protocol) (a : Expected) (p : Pieces) (value : AnswerV
     → v1_answer v a p ≡ whole value rest → IsShortest v a p value rest
 shortest_found v a p value rest h =
     let x = found_from v a p.list p.end [] value rest h in
-    record { taken = x.taken; pack = x.pack; split = x.split; stops = x.stops; ended = x.ended; response_line = x.response_line; shortest = x.shortest }
+    record { taken = x.taken; pack = x.pack; split = x.split; stops = x.stops; ended = x.ended; response = x.response; shortest = x.shortest }
 
 -- ---- and back
 
@@ -168,4 +168,4 @@ found_shortest v a (mark kind ∷ ts) rest before pack s e f =
 pub shortest_read : (v : Protocol) (a : Expected) (p : Pieces) (value : AnswerValue) (rest : Pieces) → IsShortest v a p value rest
     → v1_answer v a p ≡ whole value rest
 shortest_read v a p value rest h =
-    ap (v1_answer v a) h.split ∙ found_shortest v a h.taken rest [] h.pack h.stops h.ended h.shortest ∙ ap (λ x. whole x rest) (sym h.response_line)
+    ap (v1_answer v a) h.split ∙ found_shortest v a h.taken rest [] h.pack h.stops h.ended h.shortest ∙ ap (λ x. whole x rest) (sym h.response)

@@ -227,7 +227,7 @@ end_answers v earlier a before old mid new h e l (inl t) = inl (record {
   taken = h.taken;
   took = took_end v mid.version h.taken old.to_come mid.to_come new.to_come h.running.version h.going.took t.next;
   following = no_pieces (io UnexpectedEof);
-  response_line = h.going.same (no_pieces (io UnexpectedEof)) ∙ at_end_is v a before [] (io UnexpectedEof) e refl;
+  response = h.going.same (no_pieces (io UnexpectedEof)) ∙ at_end_is v a before [] (io UnexpectedEof) e refl;
   at = t.stopped ∙ sym (h.last l);
   answer = known_end v mid.version (v1_answer v a) (longer_of v a before) h.taken old.to_come mid.to_come new.to_come
       (answer_in before false) (io UnexpectedEof)
@@ -371,7 +371,7 @@ amid-pack v a answer received_ready follows_stop old mid new h s o =
       taken = h.read.taken;
       took = took_same old.to_come mid.to_come new.to_come h.read.taken h.read.going.took (known_shown mid.to_come new.to_come _ s.next);
       following = begun;
-      response_line = h.read.going.same begun
+      response = h.read.going.same begun
           ∙ pack_is v a h.before (line new.line ∷ []) (io UnexpectedEof) new.line (no_pieces (io UnexpectedEof)) h.no_nak h.no_stops o refl;
       at = shown.running.stopped;
       answer = known_pack v mid.version (v1_answer v a) (longer_of v a h.before) h.read.taken old.to_come mid.to_come new.to_come

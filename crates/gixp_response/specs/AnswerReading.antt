@@ -65,7 +65,7 @@ pub record ReadsAnswer (found : Pieces → Found) (under : Protocol) (old new : 
   pub taken : List Piece
   pub took : Took taken old new
   pub following : Pieces
-  pub response_line : found (front taken following) ≡ whole value following
+  pub response : found (front taken following) ≡ whole value following
   pub at : new.stopped ≡ stop_after value.pack taken
   pub answer : IfSome old.to_come (λ p. (q : Pieces) × (new.to_come ≡ Some q) × (found p ≡ whole value q))
   pub running : value.pack ≡ true → new.stopped ≡ None

@@ -31,7 +31,7 @@ pub record IsShortest (version : Protocol) (a : Expected) (p : Pieces) (value : 
   pub split : p ≡ front taken rest
   pub stops : AreStops version taken
   pub ended : ends_after version a taken rest ≡ Some pack
-  pub response_line : value ≡ answer_in (items_after taken []) pack
+  pub response : value ≡ answer_in (items_after taken []) pack
   pub shortest : (shorter : List Piece) (next : Piece) (more : List Piece) → taken ≡ shorter ++ next ∷ more
       → ends_after version a shorter (front (next ∷ more) rest) ≡ None
 

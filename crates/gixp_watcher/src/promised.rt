@@ -30,7 +30,7 @@ pub fn promised_fetch<'a, T: Transport + Drop, W: Write>(
     ensures { IfOk result (λ received. ((received.0.mappings.items ≡ []) × (received.1.outcome ≡ None) × (pack.new ≡ pack.old))
         ⊎ ((end : Reading) × IsOneRun
         (parties_of ⟦<SessionNegotiation<'a, SortedObjects, SortedRefs, AnyNegotiator> as Negotiate>⟧.calls
-        ⟦<ShallowMemory as ShallowStore>⟧.calls ⟦<NeverInterrupt as Interrupt>⟧.says ⟦<LimitedPack<W> as ConsumePack<Discard>>⟧.consumes
+        ⟦<ShallowMemory as ShallowStore>⟧.calls ⟦<NeverInterrupt as Interrupt>⟧.polls ⟦<LimitedPack<W> as ConsumePack<Discard>>⟧.consumes
         T.is_plain)
         ⟦<SessionNegotiation<'a, SortedObjects, SortedRefs, AnyNegotiator> as NegotiatesMap>⟧.map_of
         ⟦<SessionNegotiation<'a, SortedObjects, SortedRefs, AnyNegotiator> as NegotiatesMap>⟧.knows

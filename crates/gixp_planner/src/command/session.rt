@@ -59,7 +59,7 @@ pub(crate) fn write_plan<'a, W: Write>(
         × PlannedText
         (λ m h old new r. FetchesMapped
         (parties_of ⟦<Negotiation<'a, NoObjects, NoRefs, HaveList, NoObjects, AllocError> as Negotiate>⟧.calls
-        ⟦<ShallowMemory as ShallowStore>⟧.calls ⟦<NeverInterrupt as Interrupt>⟧.says
+        ⟦<ShallowMemory as ShallowStore>⟧.calls ⟦<NeverInterrupt as Interrupt>⟧.polls
         ⟦<ReadToEnd as ConsumePack<Discard>>⟧.consumes true)
         (NegotiatesOver objects graph haves.items m)
         IsEmptyBoundary h old new r)
