@@ -1,7 +1,7 @@
 use Rattle.std.proofs.Common.{ap}
 use Rattle.gixp_graph.specs.Slots.{other_at}
 use Rattle.gixp_graph.proofs.SlotLemmas.{reached_other, apart_at}
-use Rattle.gixp_graph.proofs.numbers.Numbers.put.Goals as goal
+use Rattle.gixp_graph.proofs.numbers.Numbers.insert_number.Goals as goal
 
 pub returns-then-write-clause-kept : goal.returns-then-write-clause-kept
 returns-then-write-clause-kept c q n a h = c.write.ensures.kept q n h

@@ -2,8 +2,8 @@
 use Rattle.std.proofs.Common.{ap, refl, inl, rules}
 use Rattle.gixp_graph.proofs.shared.SharedObjects.TheImpl.Goals as goal
 
-pub commit-reports : goal.commit-reports
-commit-reports g c = record {
+pub commit-tells : goal.commit-tells
+commit-tells g c = record {
   found = c.ensures.found;
   contents = ap g.F.Find.contents c.ensures.objects;
   asked = inl refl;

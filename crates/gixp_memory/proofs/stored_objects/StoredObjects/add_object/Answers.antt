@@ -3,7 +3,7 @@ use Rattle.std.specs.Prelude.{option_map}
 use Rattle.std.specs.FinMap as finite
 use Rattle.gixp_graph.specs.Object.{Objects, commit_of}
 use Rattle.gixp_memory.proofs.StoredLemmas.{objects_put}
-use Rattle.gixp_memory.proofs.stored_objects.StoredObjects.put.Goals as goal
+use Rattle.gixp_memory.proofs.stored_objects.StoredObjects.add_object.Goals as goal
 
 pub returns-in-Ok-clause-ok : goal.returns-in-Ok-clause-ok
 returns-in-Ok-clause-ok c =
