@@ -21,7 +21,7 @@ use Rattle.gixp_fetch_cli.specs.declared.options.Output.{Output}
 use Rattle.gixp_fetch_cli.specs.declared.options.FetchArgs.{FetchArgs}
 use Rattle.gixp_fetch_cli.specs.declared.options.Task.{Task}
 use Rattle.gixp_fetch_cli.specs.declared.options.Task.TheVariants.{Help, Version, List as ListRefs, Fetch}
-use Rattle.gixp_fetch_cli.specs.declared.options.Options.{Options}
+use Rattle.gixp_fetch_cli.specs.declared.options.ProgramOptions.{ProgramOptions}
 use Rattle.gixp_fetch_cli.specs.OptionNames.{value_in, values_in}
 use Rattle.gixp_fetch_cli.specs.CommandLine.{LineParts}
 
@@ -165,7 +165,7 @@ pub record AsksServer (line : LineParts) (server : Server) : Type 0 where
   pub agent : server.agent.now ≡ unwrap_or (value line (codes "--agent")) (codes "gixp")
 
 -- all options of a command line
-pub record AsksOptions (line : LineParts) (options : Options) : Type 0 where
+pub record AsksOptions (line : LineParts) (options : ProgramOptions) : Type 0 where
   pub task : AsksTask line options.server.from.now options.server.to.now options.task
   pub server : AsksServer line options.server
   pub filter : option_map (λ w. w.now) options.filter ≡ value line (codes "--filter")

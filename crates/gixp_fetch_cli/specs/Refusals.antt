@@ -3,7 +3,7 @@ use Rattle.std.specs.Prelude.{◌≡◌, ◌&&◌, ◌||◌, ℕ, ℤ, ⊤, Bool
 use Rattle.std.specs.Str.{bytes_eq}
 use Rattle.gixp_refspec.specs.Name.{is_partial_name}
 use Rattle.gixp_fetch_common.specs.declared.haves.Haves.{Haves}
-use Rattle.gixp_fetch_cli.specs.declared.options.Options.{Options}
+use Rattle.gixp_fetch_cli.specs.declared.options.ProgramOptions.{ProgramOptions}
 use Rattle.gixp_fetch_cli.specs.declared.options.OptionError.{OptionError}
 use Rattle.gixp_fetch_cli.specs.declared.options.OptionError.TheVariants.{Line as BadLine, Value as BadValue, Conflict, Needs, Operands, Memory}
 use Rattle.gixp_fetch_cli.specs.CommandLine.{LineParts, LineFault, IsLineFault}
@@ -98,7 +98,7 @@ IsLineRefusal fault Memory = ⊤
 IsLineRefusal fault _ = ⊥
 
 -- a call that reads a command line
-abbrev pub ReadsOptions : Result LineParts LineFault → Result Options OptionError → Type 0
+abbrev pub ReadsOptions : Result LineParts LineFault → Result ProgramOptions OptionError → Type 0
 ReadsOptions (Ok line) (Ok options) = AsksOptions line options
 ReadsOptions (Ok line) (Err e) = RefusesOptions line e
 ReadsOptions (Err fault) (Ok options) = ⊥

@@ -96,7 +96,7 @@ pub enum Task<'a> {
 
 /// All options of a command line.
 #[derive(Drop)]
-pub struct Options<'a> {
+pub struct ProgramOptions<'a> {
     pub task: Task<'a>,
     pub server: Server<'a>,
     /// The filter of a fetch (git-rev-list, `--filter`), for servers that support filters.
@@ -317,18 +317,18 @@ fn task_of<'a>(
     work_of(alloc, line)
 }
 
-impl<'a> Options<'a> {
+impl<'a> ProgramOptions<'a> {
     /// The options in the words after the program's name.
     ///
     /// # Errors
     ///
     /// The first word that can't be parsed. Otherwise an option that can't have its value, two options that can't be used together,
     /// an option that needs another, or operands that fit neither usage.
-    pub fn read(alloc: Global, words: &'a [String]) -> Result<Options<'a>, OptionError<'a>>
+    pub fn read(alloc: Global, words: &'a [String]) -> Result<ProgramOptions<'a>, OptionError<'a>>
         ensures { ReadsOptions (line_of (map string_bytes words.now)) result }
     {
         match CommandLine::read(alloc, words) {
-            Ok(line) => Options::of(alloc, &line),
+            Ok(line) => ProgramOptions::of(alloc, &line),
             Err(LineError::Unknown(word)) => Err(OptionError::Line(LineError::Unknown(word))),
             Err(LineError::NoValue(name)) => Err(OptionError::Line(LineError::NoValue(name))),
             Err(LineError::Memory) => Err(OptionError::Memory),
@@ -336,7 +336,7 @@ impl<'a> Options<'a> {
     }
 
     // The options of a parsed command line.
-    fn of(alloc: Global, line: &CommandLine<'a>) -> Result<Options<'a>, OptionError<'a>>
+    fn of(alloc: Global, line: &CommandLine<'a>) -> Result<ProgramOptions<'a>, OptionError<'a>>
         ensures ok { IfOk result (λ options. AsksOptions (line_value line.now) options) }
         ensures err { IfErr result (λ e. RefusesOptions (line_value line.now) e) }
     {
@@ -350,7 +350,7 @@ impl<'a> Options<'a> {
             host: line.value("--host"),
             agent: line.value("--agent").unwrap_or("gixp"),
         };
-        Ok(Options {
+        Ok(ProgramOptions {
             task,
             server,
             filter: line.value("--filter"),

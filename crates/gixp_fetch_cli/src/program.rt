@@ -10,10 +10,10 @@ use crate::change::{Change, changes};
 use crate::connection::connect;
 use crate::files::{ask_objects, read_repository, write_boundary};
 use crate::missing::missing_name;
-use crate::options::{FetchArgs, OptionError, Options, Output, Server, Task};
+use crate::options::{FetchArgs, OptionError, Output, ProgramOptions, Server, Task};
 use crate::report::{listing, report};
 use crate::request::request_of;
-use crate::streams::{Source, Target};
+use crate::streams::{ClientStream, ServerStream};
 use crate::usage::{USAGE, VERSION, print_refusal};
 use gix_protocol::client::{Fetched, Session};
 use gix_protocol::fetch::RefMap;
@@ -45,30 +45,30 @@ fn read_words(rt: &HostRuntime) -> Result<Vec<String>, Failure> {
 }
 
 // The stream to the server. It is buffered, since each line is written in three pieces.
-type ServerInput<'a> = BufWriter<Target<File, Printer<'a, HostRuntime>>>;
+type ServerInput<'a> = BufWriter<ClientStream<File, Printer<'a, HostRuntime>>>;
 
-type ServerOutput = Source<File, StdinLock<'static>>;
+type ServerOutput = ServerStream<File, StdinLock<'static>>;
 
 fn open_target<'a>(rt: &'a HostRuntime, path: &str) -> Result<ServerInput<'a>, Failure> {
     let alloc = rt.alloc();
     let target = if path == "-" {
-        Target::Standard(io::writer(rt))
+        ClientStream::Standard(io::writer(rt))
     } else {
         let file = OpenOptions::new()
             .write(true)
             .open(rt, path)
             .map_err(|e| Failure::of_file(alloc, path, e.kind()))?;
-        Target::File(file)
+        ClientStream::File(file)
     };
     BufWriter::new(alloc, target).map_err(|_| Failure::Memory)
 }
 
 fn open_source(rt: &HostRuntime, path: &str) -> Result<ServerOutput, Failure> {
     if path == "-" {
-        return Ok(Source::Standard(rt.reader()));
+        return Ok(ServerStream::Standard(rt.reader()));
     }
     let file = File::open(rt, path).map_err(|e| Failure::of_file(rt.alloc(), path, e.kind()))?;
-    Ok(Source::File(file))
+    Ok(ServerStream::File(file))
 }
 
 // Opens the server's input first: the server may wait for that before it opens its output.
@@ -101,7 +101,7 @@ fn printer<'a>(
 }
 
 // Lists the refs of the server, and ends the session unless `keeps_open`.
-fn list(rt: &HostRuntime, options: &Options<'_>, keeps_open: bool) -> Result<(), Failure> {
+fn list(rt: &HostRuntime, options: &ProgramOptions<'_>, keeps_open: bool) -> Result<(), Failure> {
     let alloc = rt.alloc();
     let transport = open_transport(rt, &options.server)?;
     let has_failed = Cell::new(false);
@@ -182,7 +182,7 @@ fn write_new_boundary(
 
 fn fetch(
     rt: &HostRuntime,
-    options: &Options<'_>,
+    options: &ProgramOptions<'_>,
     fetch_args: &FetchArgs<'_>,
 ) -> Result<(), Failure> {
     let alloc = rt.alloc();
@@ -225,7 +225,7 @@ fn changes_in(
     alloc: Global,
     map: &RefMap,
     repository: &KnownRepository,
-    options: &Options<'_>,
+    options: &ProgramOptions<'_>,
     fetch_args: &FetchArgs<'_>,
 ) -> Result<Vec<Option<Change>>, Failure>
     ensures changes { IfOk result (λ changes. ReportsChanges (is_some options.now.files.refs && knows_commits fetch_args.now.haves)
@@ -252,7 +252,7 @@ fn changes_in(
 }
 
 // Whether the report has the changes of the local refs.
-fn reports_changes(options: &Options<'_>, fetch_args: &FetchArgs<'_>) -> bool
+fn reports_changes(options: &ProgramOptions<'_>, fetch_args: &FetchArgs<'_>) -> bool
     ensures { result ≡ (is_some options.now.files.refs && knows_commits fetch_args.now.haves) }
 {
     match (options.files.refs, fetch_args.haves) {
@@ -261,7 +261,7 @@ fn reports_changes(options: &Options<'_>, fetch_args: &FetchArgs<'_>) -> bool
     }
 }
 
-fn run_task(rt: &HostRuntime, options: &Options<'_>) -> Result<(), Failure> {
+fn run_task(rt: &HostRuntime, options: &ProgramOptions<'_>) -> Result<(), Failure> {
     match &options.task {
         Task::Help => write_output(rt, &options.output, USAGE.as_bytes()),
         Task::Version => write_output(rt, &options.output, VERSION.as_bytes()),
@@ -289,7 +289,7 @@ pub fn run(rt: &HostRuntime) -> ExitCode {
         Ok(words) => words,
         Err(e) => return status(rt, Err(e)),
     };
-    match Options::read(rt.alloc(), &words) {
+    match ProgramOptions::read(rt.alloc(), &words) {
         Ok(options) => status(rt, run_task(rt, &options)),
         Err(OptionError::Memory) => status(rt, Err(Failure::Memory)),
         Err(e) => {

@@ -2,7 +2,7 @@
 ghost use Rattle.gixp_sidebands.specs.Sidebands.{side};
 ghost use Rattle.gixp_fetch_common.specs.PackCopied.{ChecksPack};
 
-use gixp_pack::{PackCheck, PackError, PackSummary};
+use gixp_pack::{CheckError, PackCheck, PackSummary};
 use gixp_packetline::ExtendedBufRead;
 use gixp_sidebands::{BandText, Interrupt, WithSidebands};
 use std::alloc::Global;
@@ -20,7 +20,7 @@ pub enum StreamError {
     Write(ErrorKind),
     /// The bytes are no whole pack.
     #[error("the received data is not a complete pack: {0}")]
-    Pack(PackError),
+    Pack(CheckError),
     /// An allocation failed.
     #[error("out of memory")]
     Memory,

@@ -11,7 +11,7 @@ use Rattle.gixp_refs.specs.RefLine.{RefsRefusal}
 use Rattle.gixp_refs.specs.Refs.{with_ref}
 use Rattle.gixp_refs.specs.RefAdvertisement.{Symref, V1Line, peels, names, v1_line, NamedRef, pair, single, in_front, group_with, end_refusal, groups, symref_named, pair_by, not_preceded, other_base}
 use Rattle.gixp_capabilities.specs.Capabilities.{is_text}
-use Rattle.gixp_records.specs.declared.advertised.line.NamedLine.{NamedLine}
+use Rattle.gixp_records.specs.declared.advertised.ref_line.NamedLine.{NamedLine}
 use Rattle.gixp_records.specs.declared.advertised.opening.RefsOpening.{RefsOpening}
 use Rattle.gixp_records.specs.declared.advertised.refused.AdvertisedLineRefused.{AdvertisedLineRefused}
 use Rattle.gixp_records.specs.declared.advertised.refused.AdvertisedLineRefused.TheVariants.{Peeled}

@@ -12,8 +12,8 @@ use Rattle.gixp_refs.specs.RefAdvertisement.{Symref, symref_table, v1_line, end_
 use Rattle.gixp_records.specs.declared.advertised.AdvertisedEnd.{AdvertisedEnd}
 use Rattle.gixp_records.specs.declared.advertised.AdvertisedEnd.TheVariants.{Full, Stop, Refused}
 use Rattle.gixp_records.specs.declared.advertised.AdvertisedFound.{AdvertisedFound}
-use Rattle.gixp_records.specs.declared.advertised.line.AdvertisedLine.{AdvertisedLine}
-use Rattle.gixp_records.specs.declared.advertised.line.NamedLine.{NamedLine}
+use Rattle.gixp_records.specs.declared.advertised.ref_line.AdvertisedLine.{AdvertisedLine}
+use Rattle.gixp_records.specs.declared.advertised.ref_line.NamedLine.{NamedLine}
 use Rattle.gixp_records.specs.declared.advertised.groups.NextAdvertised.{NextAdvertised}
 use Rattle.gixp_records.specs.declared.advertised.groups.NextAdvertised.TheVariants.{Line, Stop as StopNext}
 use Rattle.gixp_records.specs.declared.advertised.groups.SymrefScope.{SymrefScope}

@@ -7,8 +7,8 @@ use crate::refs::RefRecord;
 use std::alloc::Global;
 
 mod groups;
-mod line;
 mod opening;
+mod ref_line;
 mod refused;
 mod symrefs;
 

@@ -10,8 +10,8 @@ ghost use Rattle.gixp_records.specs.declared.advertised.refused.AdvertisedRefuse
 ghost use Rattle.gixp_records.specs.RefsOpening.{cut_span};
 ghost use Rattle.gixp_records.specs.AdvertisedRecords.{IsNextAdvertised, IsSymrefScope, IsNextLine, IsRefusedAfter, IsStep};
 
-use crate::advertised::line::{AdvertisedLine, NamedLine, read_advertised_line, read_id};
 use crate::advertised::opening::{RefsOpening, is_stop};
+use crate::advertised::ref_line::{AdvertisedLine, NamedLine, read_advertised_line, read_id};
 use crate::advertised::refused::{AdvertisedLineRefused, AdvertisedRefused};
 use crate::advertised::symrefs::{SymrefSpan, find_symref};
 use crate::packets::{NextPacket, PacketRefused, next_packet};

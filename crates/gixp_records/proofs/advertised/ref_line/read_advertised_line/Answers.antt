@@ -4,7 +4,7 @@ use Rattle.gixp_records.specs.Span.{text_at}
 use Rattle.gixp_records.specs.V1RecordLine.{line_in}
 use Rattle.gixp_records.proofs.SpanLemmas.{length-text_at}
 use Rattle.gixp_records.proofs.AdvertisedLineLemmas.{answered_same, path_none, path_empty, path_some}
-use Rattle.gixp_records.proofs.advertised.line.read_advertised_line.Goals as goal
+use Rattle.gixp_records.proofs.advertised.ref_line.read_advertised_line.Goals as goal
 
 pub returns-then-path-eq0-clause-value : goal.returns-then-path-eq0-clause-value
 returns-then-path-eq0-clause-value c =
