@@ -34,7 +34,9 @@ SAME_TYPE = {
     "Action": "gix-credentials and gix-protocol (`fetch::negotiate`) have one each",
     "Context": "gix-protocol has two: `fetch::Context` and `fetch::refmap::init::Context`",
     "Mapping": "gix-refspec (`match_group`) and gix-protocol (`fetch::refmap`) have one each",
+    "Options": "gix-protocol (`fetch`) and gix (`refs::update`) have one each",
     "Outcome": "gix-credentials, gix-refspec (`match_group`) and gix-protocol (`fetch`) have one each",
+    "Place": "gix_protocol has no path to either",
     "State": "gix-protocol (`fetch::negotiate::one_round`) has one; a session's is `client::State`",
 }
 # files that may share a name in one crate
