@@ -85,7 +85,7 @@ COUNTED = [
     ("crates/gixp_requests/README.md", "an id from # bytes",
      of("crates/gixp_requests/src/fetch/arguments/line.rt", "let mut line = [0; #]")),
     ("crates/gixp_replay/README.md", "`x\\*65516;` is # times `x`", lambda: 65516),
-    ("crates/gixp_test_updates/README.md", "what git # does", GIT),
+    ("crates/gixp_test_fetch/README.md", "what git # does", GIT),
 ]
 # Why the numbers in these words aren't counted.
 UNCOUNTED = [

@@ -57,7 +57,7 @@ IN_PLACE = {
     "(cd crates/gixp_fetch_pack && rt run -- --help)": "(cd crates/gixp_fetch_pack && out/gixp_fetch_pack --help)",
     "gixp_fetch_pack --help": "out/gixp_fetch_pack --help",
     "rt new crates/mine start_io": "rt new crates/mine start_io; rm -r crates/mine",
-    "rt try --test": "cd crates/gixp_test_stateless; rt try --test",
+    "rt try --test": "cd crates/gixp_test_lower; rt try --test",
     "rt try -- refs FILE": "cd crates/gixp_plan; cp ../../examples/tagged.ls .; rt try -- refs tagged.ls",
     "rt fmt": "cd crates/gixp_plan; rt fmt; git diff --exit-code .",
     "rt try --data cases=data/cases -- --only requests_v2 cases":

@@ -1,5 +1,5 @@
 //! Walks to the ancestors of a commit.
-use crate::repository::{add, id, objects};
+use crate::updates::repository::{add, id, objects};
 use gixp_doubles::MemoryObjects;
 use gixp_graph::{Graph, Shared};
 use gixp_memory::StoredObjects;

@@ -1,54 +1,17 @@
 //! Responses that arrive in pieces and are read in pieces of any size.
+use crate::pieces::{PieceReader, read_until};
 use gixp_response_end::Answers;
-use std::alloc::Global;
-use std::io::{self, ErrorKind, Read};
+use std::alloc::{AllocError, Global};
 use std::test::Fail;
 
-// Returns at most `most` bytes in each read. If `fails` is true, every other read fails.
-#[derive(Drop)]
-struct Pieces<'a> {
-    bytes: &'a [u8],
-    most: usize,
-    fails: bool,
-    failed: bool,
-}
-
-impl Read for Pieces<'_> {
-    fn read(&mut self, buf: &mut [u8]) -> io::Result<usize> {
-        self.failed = self.fails && !self.failed;
-        if self.failed {
-            return Err(io::Error::from(ErrorKind::WouldBlock));
-        }
-        let count = self.most.min(self.bytes.len()).min(buf.len());
-        let (front, rest) = self.bytes.split_at(count);
-        buf[..count].copy_from_slice(front);
-        self.bytes = rest;
-        Ok(count)
-    }
-}
-
-// Reads until `count` bytes came, or the reader was at its end twice. Each read requests at most `room` bytes.
-fn read_until(
+// What the reader passes on, up to `count` bytes. Each read requests at most `room` bytes.
+fn passed_on(
     alloc: Global,
-    pieces: &mut Pieces<'_>,
+    pieces: &mut PieceReader<'_>,
     room: usize,
     count: usize,
-) -> Result<Vec<u8>, Fail> {
-    let mut answers = Answers::new(pieces);
-    let mut found = Vec::new(alloc);
-    let mut buf = [0; 16];
-    let mut ends = 0u8;
-    for _ in 0..256 {
-        if found.len() >= count || ends >= 2 {
-            break;
-        }
-        if let Ok(count) = answers.read(&mut buf[..room.min(16)]) {
-            if count == 0 {
-                ends = ends.saturating_add(1);
-            }
-            found.extend_from_slice(&buf[..count.min(16)])?;
-        }
-    }
+) -> Result<Vec<u8>, AllocError> {
+    let (found, _is_refused) = read_until(alloc, &mut Answers::new(pieces), room, count)?;
     Ok(found)
 }
 
@@ -103,13 +66,8 @@ fn passes_on_whole_answers_however_cut(rt: HostRuntime) -> Result<(), Fail> {
         for most in 1..14 {
             for room in 1..14 {
                 for fails in [false, true] {
-                    let mut pieces = Pieces {
-                        bytes: given,
-                        most,
-                        fails,
-                        failed: false,
-                    };
-                    let found = read_until(rt.alloc(), &mut pieces, room, 64)?;
+                    let mut pieces = PieceReader::new(given, most, fails);
+                    let found = passed_on(rt.alloc(), &mut pieces, room, 64)?;
                     assert_eq!(rt; found.as_slice(), wanted);
                 }
             }
@@ -126,13 +84,8 @@ fn reads_no_more_than_comes_next(rt: HostRuntime) -> Result<(), Fail> {
     for (passed, read) in cases {
         for most in 1..14 {
             for room in 1..14 {
-                let mut pieces = Pieces {
-                    bytes: stream,
-                    most,
-                    fails: false,
-                    failed: false,
-                };
-                let found = read_until(rt.alloc(), &mut pieces, room, passed)?;
+                let mut pieces = PieceReader::new(stream, most, false);
+                let found = passed_on(rt.alloc(), &mut pieces, room, passed)?;
                 assert_eq!(rt; found.len(), passed);
                 assert_eq!(rt; stream.len().saturating_sub(pieces.bytes.len()), read);
             }

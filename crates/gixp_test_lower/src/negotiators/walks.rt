@@ -1,5 +1,5 @@
 //! The haves that the negotiators offer.
-use crate::history::{add, haves, id, line};
+use crate::negotiators::history::{add, haves, id, line};
 use gixp_doubles::{Lenient, MemoryObjects};
 use gixp_graph::{Graph, Negotiator, NegotiatorError, ObjectError};
 use gixp_negotiators::{Algorithm, Consecutive, Skipping};

@@ -1,6 +1,6 @@
 //! Listed responses: test vectors, responses of real servers compared with git's output, and devices that fail or
 //! return fewer bytes than requested.
-use crate::listing::{listed, paper, recorded, unless_memory};
+use crate::planner::listing::{listed, paper, recorded, unless_memory};
 use gixp_doubles::{Device, Paper};
 use gixp_planner::listing::{ListError, list_refs};
 use std::alloc::Global;

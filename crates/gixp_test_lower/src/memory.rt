@@ -1,5 +1,5 @@
 //! Repositories that are filled from the output of git commands.
-use crate::history::{haves, id};
+use crate::negotiators::history::{haves, id};
 use bstr::BStr;
 use gixp_graph::{Find, Flags, Graph, Negotiator, ObjectKind, RefStore, Shared};
 use gixp_memory::{StoredObjects, StoredRefs, TextError};

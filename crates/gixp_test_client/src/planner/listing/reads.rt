@@ -1,5 +1,5 @@
 //! What no clause over a reader can say: the kind of a failed read, and how far a reader is read.
-use crate::listing::{paper, unless_memory};
+use crate::planner::listing::{paper, unless_memory};
 use gixp_doubles::Device;
 use gixp_planner::listing::{ListError, list_refs};
 use gixp_refs::handshake::refs::parse;

@@ -21,7 +21,7 @@ fn new_folder(rt: &HostRuntime, name: &str) -> io::Result<String> {
     let id = process::id(rt.process());
     let folder = env::temp_dir(rt)?;
     let folder = folder.to_string_lossy();
-    let path = format!(in rt.alloc(); "{folder}/gixp_test_planner.{id}.{name}")?;
+    let path = format!(in rt.alloc(); "{folder}/gixp_test_client.{id}.{name}")?;
     fs::create_dir(rt, path.as_str())?;
     Ok(path)
 }

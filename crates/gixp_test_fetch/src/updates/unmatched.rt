@@ -1,5 +1,5 @@
 //! Refspecs that matched nothing.
-use crate::repository::{map, spec};
+use crate::updates::repository::{map, spec};
 use gixp_updates::refs::unmatched::{UnmatchedSpec, unmatched};
 use std::test::Fail;
 

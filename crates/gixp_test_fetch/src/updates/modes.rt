@@ -1,5 +1,5 @@
 //! The update of one local ref.
-use crate::repository::{first_update, id, map, options, refs, text};
+use crate::updates::repository::{first_update, id, map, options, refs, text};
 use gixp_refmap::fetch::Tags;
 use gixp_updates::refs::update::Mode;
 use gixp_updates::refs::{Edit, Update};
