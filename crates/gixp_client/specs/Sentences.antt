@@ -13,7 +13,7 @@ use Rattle.gixp_client.specs.declared.error.Error.TheVariants.{UnsupportedListin
 -- the text of an error without a server message, a failed read or write, or a violation of the protocol
 abbrev pub rest_sentence : Error → Option (List ℕ)
 rest_sentence UnsupportedListing = Some (codes "the server doesn't list refs as it is asked to")
-rest_sentence (Unnegotiated rounds) = Some (codes "no pack came after " ++ decimal rounds ++ codes " round(s) of the negotiation")
+rest_sentence (Unnegotiated rounds) = Some (codes "the negotiation ended without a pack after " ++ decimal rounds ++ codes " round(s)")
 rest_sentence (MissingFeature feature) = Some (codes "the server doesn't offer " ++ string_bytes feature)
 rest_sentence ShallowServer = Some (codes "the server's repository is shallow")
 rest_sentence (UnknownUnshallow id) = Some (codes "the server takes " ++ encode_lower id.bytes

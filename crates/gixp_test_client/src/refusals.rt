@@ -84,7 +84,7 @@ const NEW: &[(&[&[&[u8]]], &str, Option<State>)] = &[
     ),
     (
         &[GREETING, REFS, UNPACKED],
-        "no pack came after 1 round(s) of the negotiation",
+        "the negotiation ended without a pack after 1 round(s)",
         Some(State::AtStop),
     ),
     (&[&[]], "the connection ended within the handshake", None),
@@ -125,7 +125,7 @@ const FORMER: &[(&[&[&[u8]]], &str, Option<State>)] = &[
     ),
     (
         &[OLD, &[b"NAK\n"]],
-        "no pack came after 1 round(s) of the negotiation",
+        "the negotiation ended without a pack after 1 round(s)",
         Some(State::Ended),
     ),
     (
