@@ -327,6 +327,8 @@ pub use Rattle.gixp_client.specs.Reasons
 pub use Rattle.gixp_client.specs.Requests
 pub use Rattle.gixp_client.specs.Sentences
 pub use Rattle.gixp_client.specs.ServerWords
+pub use Rattle.gixp_client.specs.SessionFetch
+pub use Rattle.gixp_client.specs.SessionRefs
 pub use Rattle.gixp_client.specs.SessionStates
 pub use Rattle.gixp_client.specs.Tables
 pub use Rattle.gixp_client.specs.Unshallowed

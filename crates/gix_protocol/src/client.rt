@@ -3,7 +3,7 @@
 pub use gixp_client::{
     Boundary, ClientName, Conflict, Error, ErrorClass, Fetched, Filtered, FilteredNegotiation,
     Kept, ListedRefs, Listener, ListeningTransport, LocalChange, MOST_HAVES, PackError,
-    RemoteLines, Repository, Request, ServerText, Session, SessionNegotiation, Silent, State,
-    UnshallowCheck, UriProtocols, Windowed, fetch_once, fetch_once_with, laws, local_changes,
+    RemoteLines, Repository, Request, ServerText, Session, SessionFetch, SessionNegotiation, Silent,
+    State, UnshallowCheck, UriProtocols, Windowed, fetch_once, fetch_once_with, laws, local_changes,
     over_streams,
 };

@@ -14,6 +14,8 @@ pub mod Reasons
 pub mod Sentences
 pub mod ClientMaps
 pub mod ClientPromise
+pub mod SessionRefs
+pub mod SessionFetch
 pub mod Listening
 pub mod ListeningTransport
 pub mod Boundaries
