@@ -17,7 +17,6 @@ pub mod ClientPromise
 pub mod SessionRefs
 pub mod SessionFetch
 pub mod Listening
-pub mod ListeningTransport
 pub mod Boundaries
 pub mod Changes
 pub mod Requests

@@ -22,11 +22,12 @@ ghost use Rattle.gixp_client.specs.SessionStates.{state_after_map};
 use crate::error::Error;
 use crate::list_ends::{are_whole, expect_format, is_at_flush, whole_map, whole_refs};
 use crate::listen::Listener;
-use crate::listening_transport::ListeningTransport;
+use crate::messages::Messages;
 use crate::name::{ClientName, is_session_id};
 use crate::outcome::can_filter;
 use crate::request::Request;
 use crate::state::{State, state_after_map, state_after_refusal};
+use crate::tap::Tap;
 use gixp_capabilities::Capabilities;
 use gixp_handshake::credentials::{self, Action};
 use gixp_handshake::handshake::{handshake, obtain};
@@ -53,7 +54,7 @@ use std::alloc::{AllocError, Global};
 /// After the latter two every call returns `Error::Over` and sends nothing. Dropping a session closes it.
 pub struct Session<T: Transport + Drop, L: Listener + Drop, P: NestedProgress + Drop = Discard> {
     pub(crate) alloc: Global,
-    pub(crate) transport: ListeningTransport<T, L>,
+    pub(crate) transport: Tap<T, Messages<L>>,
     pub(crate) shaken: Handshake,
     pub(crate) name: ClientName,
     pub(crate) state: State,
@@ -129,7 +130,7 @@ impl<T: Transport + Drop, L: Listener + Drop, P: NestedProgress + Drop> Session<
             (Ok s.shaken) s.progress) }
     {
         let agent = String::from_str(alloc, agent)?;
-        let mut transport = ListeningTransport::new(alloc, transport, listener);
+        let mut transport = Tap::new(transport, Messages::new(alloc, listener));
         let mut progress = progress;
         let shaken = handshake(
             alloc,
@@ -207,9 +208,9 @@ impl<T: Transport + Drop, L: Listener + Drop, P: NestedProgress + Drop> Session<
 
     /// The listener.
     pub fn listener(&self) -> &L
-        ensures { result.now ≡ self.now.transport.listener }
+        ensures { result.now ≡ self.now.transport.observer.listener }
     {
-        &self.transport.listener
+        &self.transport.observer.listener
     }
 
     /// The progress reporter.
