@@ -320,13 +320,14 @@ pub use Rattle.gixp_client.specs.ClientMaps
 pub use Rattle.gixp_client.specs.ClientNames
 pub use Rattle.gixp_client.specs.ClientPromise
 pub use Rattle.gixp_client.specs.Filters
-pub use Rattle.gixp_client.specs.ListeningTransport
 pub use Rattle.gixp_client.specs.ListEnds
 pub use Rattle.gixp_client.specs.Listening
 pub use Rattle.gixp_client.specs.Reasons
 pub use Rattle.gixp_client.specs.Requests
 pub use Rattle.gixp_client.specs.Sentences
 pub use Rattle.gixp_client.specs.ServerWords
+pub use Rattle.gixp_client.specs.SessionFetch
+pub use Rattle.gixp_client.specs.SessionRefs
 pub use Rattle.gixp_client.specs.SessionStates
 pub use Rattle.gixp_client.specs.Tables
 pub use Rattle.gixp_client.specs.Unshallowed
@@ -342,7 +343,8 @@ pub use Rattle.gixp_client.specs.declared.class.ErrorClass as ErrorClassType
 pub use Rattle.gixp_client.specs.declared.conflict.Conflict as SessionConflictType
 pub use Rattle.gixp_client.specs.declared.consumer.PackError as PackErrorType
 pub use Rattle.gixp_client.specs.declared.fetched.Fetched as FetchedType
-pub use Rattle.gixp_client.specs.declared.listening_transport.ListeningTransport as ListeningTransportType
+pub use Rattle.gixp_client.specs.declared.messages.Messages as MessagesType
+pub use Rattle.gixp_client.specs.declared.tap.Tap as TapType
 pub use Rattle.gixp_client.specs.declared.listen.Kept as KeptType
 pub use Rattle.gixp_client.specs.declared.listen.RemoteLines as RemoteLinesType
 pub use Rattle.gixp_client.specs.declared.listen.ServerText as ServerTextType

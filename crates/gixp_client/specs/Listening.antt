@@ -59,6 +59,11 @@ abbrev pub ReceivesText : Bool → List ℕ → Kept → Kept → Type 0
 ReceivesText is_error text old new =
     (KeepsText is_error text old new ⊎ LosesText old new) × (new.has_error ≡ (old.has_error || is_error))
 
+-- a message is reported and kept, or recorded as missing; a line without one changes neither the listener nor the kept messages
+abbrev pub ReceivesLine : {L : Type 0} → (L → Bool → List ℕ → L → Type 0) → Option (Bool × List ℕ) → L → Kept → L → Kept → Type 0
+ReceivesLine receives None listener kept listener' kept' = (listener' ≡ listener) × (kept' ≡ kept)
+ReceivesLine receives (Some text) listener kept listener' kept' = receives listener text.0 text.1 listener' × ReceivesText text.0 text.1 kept kept'
+
 -- ---- shown messages
 
 -- blanks after a line, which overwrite the rest of a longer line

@@ -1,18 +1,14 @@
 //! The fetches of a session.
-ghost use Rattle.std.specs.Prelude.{◌≡◌, ◌≢◌, ◌⊎◌, true, false, [], List, None, Ok, Err, IfOk, IfErr, Option, Result};
+ghost use Rattle.std.specs.Prelude.{◌≡◌, ◌≢◌, ◌⊎◌, true, false, None, Ok, Err, IfOk, IfErr, Option, Result};
 ghost use Rattle.std.specs.BTreeSet.{contains};
 ghost use Rattle.gixp_hash.specs.ObjectId.{id_cmp};
-ghost use Rattle.gixp_hash.specs.declared.object_id.ObjectId.{ObjectId as Id};
 ghost use Rattle.gixp_response.specs.Answer.{update_items};
 ghost use Rattle.gixp_fetch.specs.declared.options.Outcome.{Outcome};
 ghost use Rattle.gixp_fetch.specs.Fetch.{parties_of};
-ghost use Rattle.gixp_fetch.specs.FetchShallow.{shallow_value, is_change};
-ghost use Rattle.gixp_client.specs.Boundaries.{IsLeftBoundary, IsBoundaryAfter};
-ghost use Rattle.gixp_client.specs.ClientError.{IsUnsent};
-ghost use Rattle.gixp_client.specs.ClientCalls.{session_call, session_knowledge, FetchesMap, FetchesInSession};
-ghost use Rattle.gixp_client.specs.ClientNames.{agent_of, own_features, named_by, id_features};
+ghost use Rattle.gixp_client.specs.ClientCalls.{session_call, session_knowledge, FetchesMap};
+ghost use Rattle.gixp_client.specs.ClientNames.{agent_of, own_features};
 ghost use Rattle.gixp_client.specs.Unshallowed.{TakesKnown, KnowsAll};
-ghost use Rattle.gixp_client.specs.SessionStates.{state_after_outcome, state_after_fetch, is_reported, IsReportIn, IsRefusedFetch};
+ghost use Rattle.gixp_client.specs.SessionStates.{state_after_outcome, state_after_fetch, is_reported, IsReportIn};
 
 use crate::boundary::{Boundary, set_of};
 use crate::error::Error;
@@ -26,6 +22,7 @@ use crate::repository::Repository;
 use crate::request::Request;
 use crate::run::{Peer, SessionNegotiation, Wanted, fetch_mapped};
 use crate::session::Session;
+use crate::session_fetch::SessionFetch;
 use crate::state::{State, state_after_fetch};
 use gixp_fetch::consume::ConsumePack;
 use gixp_fetch::mapped::NegotiatesMap;
@@ -114,6 +111,8 @@ where
     /// Those of [`Error`]. The caller must then discard what the consumer received, and leave the boundary and the refs unchanged.
     /// `state` says whether another call is possible. If no round was negotiated, nothing was sent, and only the listener and the
     /// progress reporter have changed.
+    ///
+    /// [`SessionFetch`](crate::SessionFetch) has the relations of the contract.
     pub fn fetch<'a, F: Find, R: RefStore, C: ConsumePack<P>>(
         &mut self,
         map: &'a RefMap,
@@ -124,35 +123,12 @@ where
     where
         C::Error: Into<Error>,
         ensures over { self.old.state ≢ State.AtStop → (result ≡ Err Error.Over) × (self.new ≡ self.old) × (pack.new ≡ pack.old) }
-        ensures fetched { IfOk result (λ f. ((map.now.mappings.items ≡ []) × (f.outcome ≡ None) × (self.new ≡ self.old)
-            × (pack.new ≡ pack.old)
-            × IsLeftBoundary repository.entry.boundary.now [] [] f.boundary)
-            ⊎ ((after : List Id) × FetchesInSession
-            (parties_of ⟦<SessionNegotiation<'a, F, R, AnyNegotiator> as Negotiate>⟧.calls ⟦<ShallowMemory as ShallowStore>⟧.calls
-            ⟦<NeverInterrupt as Interrupt>⟧.polls C.consumes T.is_plain)
-            ⟦<SessionNegotiation<'a, F, R, AnyNegotiator> as NegotiatesMap>⟧.map_of
-            ⟦<SessionNegotiation<'a, F, R, AnyNegotiator> as NegotiatesMap>⟧.knows
-            (session_call self.old.shaken (named_by self.old.name) (id_features self.old.shaken.capabilities self.old.name.session_id)
-            request.now) map.now
-            (session_knowledge request.now (F.contents repository.entry.objects.now) (R.refs repository.entry.refs.now))
-            repository.entry.boundary.now after (T.reading self.old.transport.inner) pack.old (Ok f.outcome)
-            (T.reading self.new.transport.inner) pack.new
-            × IsBoundaryAfter (is_change (shallow_value request.now.shallow)) repository.entry.boundary.now after f.boundary)) }
+        ensures fetched { IfOk result (⟦<AnyNegotiator as SessionFetch<'a, T, L, P, F, R, C>>⟧.succeeds map.now repository.entry
+            request.now self.old self.new pack.old pack.new) }
         ensures position { IfOk result (λ f. self.new.state ≡ state_after_outcome self.old.shaken.server_protocol_version f.outcome) }
         ensures known { IfOk result (λ f. KnowsAll repository.entry.boundary.now f.outcome) }
-        ensures refused { IfErr result (λ e. (IsUnsent e × (self.new ≡ self.old) × (pack.new ≡ pack.old))
-            ⊎ ((report : Result (Option Outcome) Error) × (after : List Id) × (f : FetchesInSession
-            (parties_of ⟦<SessionNegotiation<'a, F, R, AnyNegotiator> as Negotiate>⟧.calls ⟦<ShallowMemory as ShallowStore>⟧.calls
-            ⟦<NeverInterrupt as Interrupt>⟧.polls C.consumes T.is_plain)
-            ⟦<SessionNegotiation<'a, F, R, AnyNegotiator> as NegotiatesMap>⟧.map_of
-            ⟦<SessionNegotiation<'a, F, R, AnyNegotiator> as NegotiatesMap>⟧.knows
-            (session_call self.old.shaken (named_by self.old.name) (id_features self.old.shaken.capabilities self.old.name.session_id)
-            request.now) map.now
-            (session_knowledge request.now (F.contents repository.entry.objects.now) (R.refs repository.entry.refs.now))
-            repository.entry.boundary.now after (T.reading self.old.transport.inner) pack.old report
-            (T.reading self.new.transport.inner) pack.new)
-            × IsRefusedFetch f.fetches.last.negotiated self.old.shaken.server_protocol_version report e self.new.state
-            × (f.fetches.last.negotiated ≡ false → self.new.shaken ≡ self.old.shaken))) }
+        ensures refused { IfErr result (⟦<AnyNegotiator as SessionFetch<'a, T, L, P, F, R, C>>⟧.fails map.now repository.entry
+            request.now self.old self.new pack.old pack.new) }
     {
         let mut negotiator = request.algorithm.negotiator(self.alloc);
         self.fetch_with(map, repository, request, &mut negotiator, pack)
@@ -174,33 +150,12 @@ where
     where
         C::Error: Into<Error>,
         ensures over { self.old.state ≢ State.AtStop → (result ≡ Err Error.Over) × (self.new ≡ self.old) × (pack.new ≡ pack.old) }
-        ensures fetched { IfOk result (λ f. ((map.now.mappings.items ≡ []) × (f.outcome ≡ None) × (self.new ≡ self.old)
-            × (pack.new ≡ pack.old)
-            × IsLeftBoundary repository.entry.boundary.now [] [] f.boundary)
-            ⊎ ((after : List Id) × FetchesInSession
-            (parties_of ⟦<SessionNegotiation<'a, F, R, N> as Negotiate>⟧.calls ⟦<ShallowMemory as ShallowStore>⟧.calls
-            ⟦<NeverInterrupt as Interrupt>⟧.polls C.consumes T.is_plain)
-            ⟦<SessionNegotiation<'a, F, R, N> as NegotiatesMap>⟧.map_of ⟦<SessionNegotiation<'a, F, R, N> as NegotiatesMap>⟧.knows
-            (session_call self.old.shaken (named_by self.old.name) (id_features self.old.shaken.capabilities self.old.name.session_id)
-            request.now) map.now
-            (session_knowledge request.now (F.contents repository.entry.objects.now) (R.refs repository.entry.refs.now))
-            repository.entry.boundary.now after (T.reading self.old.transport.inner) pack.old (Ok f.outcome)
-            (T.reading self.new.transport.inner) pack.new
-            × IsBoundaryAfter (is_change (shallow_value request.now.shallow)) repository.entry.boundary.now after f.boundary)) }
+        ensures fetched { IfOk result (⟦<N as SessionFetch<'a, T, L, P, F, R, C>>⟧.succeeds map.now repository.entry
+            request.now self.old self.new pack.old pack.new) }
         ensures position { IfOk result (λ f. self.new.state ≡ state_after_outcome self.old.shaken.server_protocol_version f.outcome) }
         ensures known { IfOk result (λ f. KnowsAll repository.entry.boundary.now f.outcome) }
-        ensures refused { IfErr result (λ e. (IsUnsent e × (self.new ≡ self.old) × (pack.new ≡ pack.old))
-            ⊎ ((report : Result (Option Outcome) Error) × (after : List Id) × (f : FetchesInSession
-            (parties_of ⟦<SessionNegotiation<'a, F, R, N> as Negotiate>⟧.calls ⟦<ShallowMemory as ShallowStore>⟧.calls
-            ⟦<NeverInterrupt as Interrupt>⟧.polls C.consumes T.is_plain)
-            ⟦<SessionNegotiation<'a, F, R, N> as NegotiatesMap>⟧.map_of ⟦<SessionNegotiation<'a, F, R, N> as NegotiatesMap>⟧.knows
-            (session_call self.old.shaken (named_by self.old.name) (id_features self.old.shaken.capabilities self.old.name.session_id)
-            request.now) map.now
-            (session_knowledge request.now (F.contents repository.entry.objects.now) (R.refs repository.entry.refs.now))
-            repository.entry.boundary.now after (T.reading self.old.transport.inner) pack.old report
-            (T.reading self.new.transport.inner) pack.new)
-            × IsRefusedFetch f.fetches.last.negotiated self.old.shaken.server_protocol_version report e self.new.state
-            × (f.fetches.last.negotiated ≡ false → self.new.shaken ≡ self.old.shaken))) }
+        ensures refused { IfErr result (⟦<N as SessionFetch<'a, T, L, P, F, R, C>>⟧.fails map.now repository.entry
+            request.now self.old self.new pack.old pack.new) }
     {
         self.expect_open()?;
         let alloc = self.alloc;

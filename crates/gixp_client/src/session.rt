@@ -12,20 +12,22 @@ ghost use Rattle.gixp_refmap.specs.Mapping.{unknown_format};
 ghost use Rattle.gixp_handshake.specs.HandshakeValues.{refs_value};
 ghost use Rattle.gixp_handshake.specs.ObtainProgress.{ReportsObtained};
 ghost use Rattle.gixp_handshake.specs.ShakeProgress.{ReportsHandshake};
-ghost use Rattle.gixp_client.specs.ClientCalls.{OpensSession, ListsInSession, GivesRefs, MapsInSession, ClosesSession};
+ghost use Rattle.gixp_client.specs.ClientCalls.{OpensSession, GivesRefs, MapsInSession, ClosesSession};
 ghost use Rattle.gixp_client.specs.ClientNames.{is_session_id, named_by};
 ghost use Rattle.gixp_client.specs.Filters.{offers_filter};
 ghost use Rattle.gixp_client.specs.ListEnds.{IsUnasked, is_flush, are_whole, whole_refs, whole_map};
-ghost use Rattle.gixp_client.specs.SessionStates.{state_after_refusal, state_after_map};
+ghost use Rattle.gixp_client.specs.SessionRefs.{KeepsListedRefs, ListFailsInSession};
+ghost use Rattle.gixp_client.specs.SessionStates.{state_after_map};
 
 use crate::error::Error;
 use crate::list_ends::{are_whole, expect_format, is_at_flush, whole_map, whole_refs};
 use crate::listen::Listener;
-use crate::listening_transport::ListeningTransport;
+use crate::messages::Messages;
 use crate::name::{ClientName, is_session_id};
 use crate::outcome::can_filter;
 use crate::request::Request;
 use crate::state::{State, state_after_map, state_after_refusal};
+use crate::tap::Tap;
 use gixp_capabilities::Capabilities;
 use gixp_handshake::credentials::{self, Action};
 use gixp_handshake::handshake::{handshake, obtain};
@@ -52,7 +54,7 @@ use std::alloc::{AllocError, Global};
 /// After the latter two every call returns `Error::Over` and sends nothing. Dropping a session closes it.
 pub struct Session<T: Transport + Drop, L: Listener + Drop, P: NestedProgress + Drop = Discard> {
     pub(crate) alloc: Global,
-    pub(crate) transport: ListeningTransport<T, L>,
+    pub(crate) transport: Tap<T, Messages<L>>,
     pub(crate) shaken: Handshake,
     pub(crate) name: ClientName,
     pub(crate) state: State,
@@ -128,7 +130,7 @@ impl<T: Transport + Drop, L: Listener + Drop, P: NestedProgress + Drop> Session<
             (Ok s.shaken) s.progress) }
     {
         let agent = String::from_str(alloc, agent)?;
-        let mut transport = ListeningTransport::new(alloc, transport, listener);
+        let mut transport = Tap::new(transport, Messages::new(alloc, listener));
         let mut progress = progress;
         let shaken = handshake(
             alloc,
@@ -206,9 +208,9 @@ impl<T: Transport + Drop, L: Listener + Drop, P: NestedProgress + Drop> Session<
 
     /// The listener.
     pub fn listener(&self) -> &L
-        ensures { result.now ≡ self.now.transport.listener }
+        ensures { result.now ≡ self.now.transport.observer.listener }
     {
-        &self.transport.listener
+        &self.transport.observer.listener
     }
 
     /// The progress reporter.
@@ -233,15 +235,9 @@ impl<T: Transport + Drop, L: Listener + Drop, P: NestedProgress + Drop> Session<
         ensures over { self.old.state ≢ State.AtStop → (result ≡ Err Error.Over) × (self.new ≡ self.old) }
         ensures other { unknown_format self.old.shaken.capabilities ≢ None → self.new ≡ self.old }
         ensures format { OnOk result (unknown_format self.old.shaken.capabilities ≡ None) }
-        ensures listed { OnOk result ((refs : Vec ListedRef Allocator) × ListsInSession (named_by self.old.name)
-            self.old.shaken T.is_plain (T.reading self.old.transport.inner) (T.reading self.new.transport.inner) (Ok refs)
-            × (self.new.shaken ≡ record self.old.shaken { refs = Some refs })) }
+        ensures listed { OnOk result (KeepsListedRefs T.is_plain T.reading self.old self.new) }
         ensures ended { OnOk result (is_flush (T.reading self.new.transport.inner).stopped ≡ true) }
-        ensures refused { IfErr result (λ e. ((self.new ≡ self.old) × IsUnasked self.old.shaken.capabilities e)
-            ⊎ ((listed : Result (Vec ListedRef Allocator) ListError) × ListsInSession (named_by self.old.name)
-            self.old.shaken T.is_plain (T.reading self.old.transport.inner) (T.reading self.new.transport.inner) listed
-            × (whole_refs listed (is_flush (T.reading self.new.transport.inner).stopped) ≡ Err e)
-            × (self.new.state ≡ state_after_refusal self.old.shaken.server_protocol_version e) × (self.new.shaken ≡ self.old.shaken))) }
+        ensures refused { IfErr result (ListFailsInSession T.is_plain T.reading self.old self.new) }
         ensures stays { OnOk result (self.new.state ≡ self.old.state) }
         ensures name { self.new.name ≡ self.old.name }
     {
@@ -285,15 +281,9 @@ impl<T: Transport + Drop, L: Listener + Drop, P: NestedProgress + Drop> Session<
         ensures over { self.old.shaken.refs ≡ None → self.old.state ≢ State.AtStop → (result ≡ Err Error.Over) × (self.new ≡ self.old) }
         ensures other { unknown_format self.old.shaken.capabilities ≢ None → self.new ≡ self.old }
         ensures format { self.old.shaken.refs ≡ None → OnOk result (unknown_format self.old.shaken.capabilities ≡ None) }
-        ensures listed { self.old.shaken.refs ≡ None → OnOk result ((refs : Vec ListedRef Allocator) × ListsInSession
-            (named_by self.old.name) self.old.shaken T.is_plain (T.reading self.old.transport.inner)
-            (T.reading self.new.transport.inner) (Ok refs) × (self.new.shaken ≡ record self.old.shaken { refs = Some refs })) }
+        ensures listed { self.old.shaken.refs ≡ None → OnOk result (KeepsListedRefs T.is_plain T.reading self.old self.new) }
         ensures ended { self.old.shaken.refs ≡ None → OnOk result (is_flush (T.reading self.new.transport.inner).stopped ≡ true) }
-        ensures refused { IfErr result (λ e. ((self.new ≡ self.old) × IsUnasked self.old.shaken.capabilities e)
-            ⊎ ((listed : Result (Vec ListedRef Allocator) ListError) × ListsInSession (named_by self.old.name)
-            self.old.shaken T.is_plain (T.reading self.old.transport.inner) (T.reading self.new.transport.inner) listed
-            × (whole_refs listed (is_flush (T.reading self.new.transport.inner).stopped) ≡ Err e)
-            × (self.new.state ≡ state_after_refusal self.old.shaken.server_protocol_version e) × (self.new.shaken ≡ self.old.shaken))) }
+        ensures refused { IfErr result (ListFailsInSession T.is_plain T.reading self.old self.new) }
         ensures stays { OnOk result (self.new.state ≡ self.old.state) }
         ensures name { self.new.name ≡ self.old.name }
     {

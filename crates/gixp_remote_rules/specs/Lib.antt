@@ -16,7 +16,6 @@ pub mod ShellAnswer
 pub mod Proxy
 pub mod Batch
 pub mod Questions
-pub mod ShallowLine
 pub mod Conversation
 pub mod Unpacking
 pub mod Printable

@@ -18,7 +18,6 @@ mod printable;
 mod proxy;
 mod question;
 mod quote;
-mod shallow_line;
 mod shell_io;
 mod shell_request;
 mod ssh;
@@ -51,7 +50,6 @@ pub use question::{
     Question, Within, listing_argv, pack_variables, question_argv, question_variables, within_of,
 };
 pub use quote::quoted;
-pub use shallow_line::parse_shallow_line;
 pub use shell_io::{read_answer, write_request};
 pub use shell_request::{Program, ShellRequest, ShellTask, Start, request_text};
 pub use ssh::{

@@ -2,3 +2,4 @@ mod WebLemmas
 mod ListLemmas
 mod BoundaryLemmas
 mod ListedLemmas
+mod ShallowLineLemmas

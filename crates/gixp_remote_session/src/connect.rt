@@ -12,13 +12,13 @@ use crate::server_config::{
     check_allowed, check_family, choose_opening, choose_ssh, choose_variant, variant_by_probe,
 };
 use crate::setup::{bytes_of, variable, version_word};
-use crate::shallow_tap::{ShallowTap, ShallowUpdates, clear_updates};
+use crate::shallow_observer::{ShallowObserver, ShallowUpdates, clear_updates};
 use crate::shell::{NOTHING, Shell, owned_argv};
 use crate::transport::{HelperSession, HelperTransport, ResponseReader, ServerOutput, WithoutUris};
 use crate::uris::{UriRecorder, Uris, protocols_of};
 use crate::web::connect_stateless;
 use bstr::BString;
-use gix_protocol::client::UriProtocols;
+use gix_protocol::client::{Tap, UriProtocols};
 use gix_protocol::transport::{Connection, Discard, Opening, Protocol};
 use gixp_fetch_common::messages::MessagePrinter;
 use gixp_fetch_common::session::open;
@@ -304,7 +304,11 @@ fn open_transport<'a>(
         Vec::new(alloc),
         opening_of(context)?,
     )?;
-    Ok(ShallowTap::new(connection, context.shallow_updates, context.readiness))
+    let observer = ShallowObserver {
+        shallow_updates: context.shallow_updates,
+        readiness: context.readiness,
+    };
+    Ok(Tap::new(connection, observer))
 }
 
 /// Starts the server, if the user allows its protocol. The shell kills the server that was started

@@ -21,7 +21,7 @@ use crate::pack::{
 };
 use crate::paths::RepositoryPaths;
 use crate::readiness::Readiness;
-use crate::shallow_tap::clear_updates;
+use crate::shallow_observer::clear_updates;
 use crate::shell::Shell;
 use crate::transport::HelperSession;
 use crate::unpacking::choose_limit;

@@ -9,7 +9,7 @@ use crate::readiness::Readiness;
 use crate::server_config::check_password;
 use crate::session_id::session_id;
 use crate::setup::{StartupInput, read_settings, read_startup, variable, version_of, within};
-use crate::shallow_tap::ShallowUpdates;
+use crate::shallow_observer::ShallowUpdates;
 use crate::shell::Shell;
 use crate::uris::Uris;
 use bstr::{BString, ByteSlice};

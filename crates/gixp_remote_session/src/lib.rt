@@ -20,7 +20,7 @@ mod repository;
 mod server_config;
 mod session_id;
 mod setup;
-mod shallow_tap;
+mod shallow_observer;
 mod shell;
 mod transport;
 mod unpacking;

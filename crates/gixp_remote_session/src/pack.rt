@@ -10,7 +10,7 @@ use crate::error::Error;
 use crate::paths::RepositoryPaths;
 use crate::pipes::{BOUNDARY, IDS, PACK_INPUT, PACK_OUTPUT};
 use crate::setup::{variable, within};
-use crate::shallow_tap::ShallowUpdates;
+use crate::shallow_observer::ShallowUpdates;
 use crate::shell::Shell;
 use crate::uris::{Uris, has_uris};
 use bstr::{BString, ByteSlice};

@@ -9,7 +9,7 @@ returns-in-Ok-clause-fetched g c = inr (
   in_session _ _ _ c.args.self.now.shaken c.args.request.now _ _ _ _ _ _ _ _ _ _ _ _ _ _ _ _ _ _
       c.in_ok-store.ensures (sym c.ids-after.ensures) c.in_ok-name.ensures.0 c.in_ok-name.ensures.1
       (received_of _ _ _ _ _ _ _ c.unless_reported-received.ensures.reported c.in-Ok.ensures.outcome)
-      (ap g.T.ExtendedBufRead.reading (sym (c.unless_reported-received.ensures.transport ∙ c.take_kept-messages.ensures)))
+      (ap g.T.ExtendedBufRead.reading (sym (c.unless_reported-received.ensures.transport ∙ c.take_kept-messages.ensures.inner)))
       c.in_ok-known.ensures
       c.carry_out-received.ensures.fetched.0,
   c.in-Ok.ensures.boundary,
@@ -28,7 +28,7 @@ pub returns-clause-refused : goal.returns-clause-refused
 returns-clause-refused g c =
     let s = refused_in_session _ _ _ c.args.self.now.shaken c.args.request.now _ _ _ _ _ _ _ _ _ _ _ _ _ _ _ _ _ _ _ _ _ _
     c.in_ok-store.ensures (sym c.ids-after.ensures) c.in_ok-name.ensures.0 c.in_ok-name.ensures.1
-    (ap g.T.ExtendedBufRead.reading (sym (c.unless_reported-received.ensures.transport ∙ c.take_kept-messages.ensures)))
+    (ap g.T.ExtendedBufRead.reading (sym (c.unless_reported-received.ensures.transport ∙ c.take_kept-messages.ensures.inner)))
     c.in_ok-known.ensures
     c.carry_out-received.ensures.fetched.0
     (refused_of _ _ _ _ _ _ _ _ _ c.unless_reported-received.ensures.reported c.in-Err.ensures.refused c.carry_out-received.ensures.fetched.1)
