@@ -263,11 +263,11 @@ answer_by : (persists : Bool) (service : Service) (ps : List Parameter) (old new
     → HandshakesBy persists service ps old new r → AdvertisesBy persists service ps old new r
 answer_by true service ps old new (Ok found) (inl h) = cc h.1
 answer_by true service ps old new (Err e) (inl h) = inl (subst (λ x. Greets service ps old new (Err x)) (sym (same_words h.1)) h.2)
-answer_by true service ps old new (Ok found) (inr h) = (h.0, h.1, h.2.value, h.2.polls)
+answer_by true service ps old new (Ok found) (inr h) = (h.0, h.1, h.2.value, h.2.says)
 answer_by true service ps old new (Err e) (inr h) = inr (h.0, h.1, why_refused h.2.why, h.2.caused)
 answer_by false service ps old new (Ok found) (inl h) = cc h.1
 answer_by false service ps old new (Err e) (inl h) = inl (h.0, same_words h.1, h.2, h.3)
-answer_by false service ps old new (Ok found) (inr h) = (h.0, (h.1, h.2), h.3.value, h.3.polls)
+answer_by false service ps old new (Ok found) (inr h) = (h.0, (h.1, h.2), h.3.value, h.3.says)
 answer_by false service ps old new (Err e) (inr h) = inr (h.0, (h.1, h.2), why_refused h.3.why, h.3.caused)
 
 pub words_said : WordsAreAdvertised
