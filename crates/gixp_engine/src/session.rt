@@ -4,7 +4,7 @@ ghost use Rattle.gixp_requests.specs.Feature.{feature_value};
 ghost use Rattle.gixp_handshake.specs.Taken.{without_refs};
 ghost use Rattle.gixp_fetch.specs.Fetch.{parties_of};
 ghost use Rattle.gixp_fetch.specs.FetchShallow.{shallow_value};
-ghost use Rattle.gixp_engine.specs.Alone.{engine_agent, engine_call, end_of_fetch, ends_refs, unmapped_of_cut, map_of_whole, ShakesAlone, MapsAlone, CarriesAlone, FetchesAlone, OffersAlone, EngineSession};
+ghost use Rattle.gixp_engine.specs.Alone.{engine_agent, engine_call, end_of_fetch, ends_refs, unmapped_of_cut, map_of_whole, MapsAlone, CarriesAlone, FetchesAlone, OffersAlone, EngineSession};
 
 use crate::consumer::{LeavePack, Left};
 use crate::error::EngineError;
@@ -15,8 +15,7 @@ use gixp_fetch::fetch::fetch;
 use gixp_fetch::options::{Context, Options, Outcome};
 use gixp_graph::{Graph, NoObjects, NoRefs, Objects};
 use gixp_handshake::Handshake;
-use gixp_handshake::credentials::{self, Action};
-use gixp_handshake::handshake::{self, obtain_mappings};
+use gixp_handshake::handshake::{handshake_without_account, obtain_mappings};
 use gixp_hash::ObjectId;
 use gixp_negotiate::negotiate::Negotiate;
 use gixp_negotiate::negotiate::negotiation::{NegotiateContext, Negotiation};
@@ -30,7 +29,7 @@ use gixp_requests::agent_feature;
 use gixp_requests::command::CommandTable;
 use gixp_shallow::{Shallow, ShallowMemory, ShallowStore};
 use gixp_sidebands::{Interrupt, NeverInterrupt};
-use gixp_transport::{Feature, Service, Transport};
+use gixp_transport::{Feature, Transport};
 use std::alloc::{AllocError, Global};
 
 // The feature `agent`.
@@ -38,22 +37,6 @@ fn engine_feature(alloc: Global) -> Result<Feature, AllocError>
     ensures { IfOk result (λ f. feature_value f ≡ engine_agent) }
 {
     agent_feature(alloc, "git/gixp")
-}
-
-fn greet<T: Transport>(alloc: Global, transport: &mut T) -> Result<Handshake, handshake::Error>
-    ensures { ShakesAlone T.is_plain (T.reading transport.old) (T.reading transport.new) result }
-{
-    let mut quiet = Discard;
-    handshake::handshake(
-        alloc,
-        transport,
-        Service::UploadPack,
-        |_: Action| -> Result<Option<credentials::Outcome>, credentials::Error>
-            ensures { result ≡ Ok None }
-        { Ok(None) },
-        Vec::new(alloc),
-        &mut quiet,
-    )
 }
 
 fn is_at_flush<T: ExtendedBufRead>(reader: &T) -> bool
@@ -245,7 +228,7 @@ pub(crate) fn run<'a, O: Objects, T: Transport>(
         shallow,
         boundary,
     } = input;
-    let mut handshake = match greet(alloc, transport) {
+    let mut handshake = match handshake_without_account(alloc, transport) {
         Ok(handshake) => handshake,
         Err(e) => return Err(EngineError::Handshake(e)),
     };

@@ -22,7 +22,8 @@ use Rattle.gixp_fetch.specs.Fetch.{Parties}
 use Rattle.gixp_planner.specs.Refusal.{PlanRefusal, refusal, handshake_name, map_name}
 use Rattle.gixp_planner.specs.Specs.{specs_of}
 use Rattle.gixp_planner.specs.Text.{Course, requests_shown, mapped_shown, end_shown}
-use Rattle.gixp_planner.specs.Session.{GreetsWithoutAccount, MapsRefs, FetchesMapped, Runs, ungreeted, unmapped, fetched, end_of, end_counted}
+use Rattle.gixp_handshake.specs.WithoutAccount.{GreetsWithoutAccount}
+use Rattle.gixp_planner.specs.Session.{MapsRefs, FetchesMapped, Runs, ungreeted, unmapped, fetched, end_of, end_counted}
 use Rattle.gixp_planner.specs.Mapped.{IsMapped}
 use Rattle.gixp_planner.specs.Discovered.{Discovery, discovery, IsDiscovered, first_pieces}
 use Rattle.gixp_planner.specs.Sought.{sought, map_refusal, second_pieces, Plans}

@@ -29,7 +29,7 @@ use Rattle.gixp_handshake.specs.declared.handshake.read.Handshake.{Handshake}
 use Rattle.gixp_handshake.specs.Shake.{CredentialCall, OpeningResult, Got, StopsForMemory, Denied, First, Opens, ReadsFirst, KeepsVersion, FinishesHandshake, is_accepted}
 use Rattle.gixp_handshake.specs.ShakeError.{from_client, from_parse, is_denial, is_denied}
 use Rattle.gixp_planner.specs.Refusal.{handshake_name}
-use Rattle.gixp_planner.specs.Session.{AreUnanswered, GreetsWithoutAccount}
+use Rattle.gixp_handshake.specs.WithoutAccount.{AreUnanswered, GreetsWithoutAccount}
 use Rattle.gixp_planner.specs.Discovered.{Discovery, discovered, with_refs, by_symrefs, by_refs, by_acceptance, by_advertisement, discovery, values_of, HasDiscovered, IsDiscovered, GreetingsFollow}
 use Rattle.gixp_planner.proofs.MappedLemmas.{if-known, new-held, Hears, receives-by, Greeted, greeted}
 use Rattle.gixp_planner.proofs.AnswerLemmas.{never-none}

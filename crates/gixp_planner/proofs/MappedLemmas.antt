@@ -60,7 +60,8 @@ use Rattle.gixp_handshake.specs.Taken.{without_refs}
 use Rattle.gixp_planner.specs.declared.error.PlanError.{PlanError}
 use Rattle.gixp_planner.specs.Refusal.{PlanRefusal, refusal, refusal_of}
 use Rattle.gixp_planner.specs.Text.{map_shown, mapped_shown, requests_shown, end_shown, Course}
-use Rattle.gixp_planner.specs.Session.{planner_agent, planner_call, AreUnanswered, GreetsWithoutAccount, MapsRefs, FetchesMapped, Runs, ungreeted, unmapped, fetched, end_counted}
+use Rattle.gixp_handshake.specs.WithoutAccount.{AreUnanswered, GreetsWithoutAccount}
+use Rattle.gixp_planner.specs.Session.{planner_agent, planner_call, MapsRefs, FetchesMapped, Runs, ungreeted, unmapped, fetched, end_counted}
 use Rattle.gixp_planner.specs.Discovered.{values_of}
 use Rattle.gixp_planner.specs.PlannedText.{IsCourse, Shows}
 use Rattle.gixp_planner.specs.Mapped.{IsMapped, MappingsFollow, ShowsMapped, ShowsFetch}

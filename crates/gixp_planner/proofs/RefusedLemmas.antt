@@ -22,7 +22,8 @@ use Rattle.gixp_refmap.specs.declared.refmap.map.RefMap.{RefMap}
 use Rattle.gixp_planner.specs.declared.error.PlanError.{PlanError}
 use Rattle.gixp_planner.specs.Refusal.{PlanRefusal, refusal, refusal_of}
 use Rattle.gixp_planner.specs.Text.{Course, requests_shown, mapped_shown, end_shown}
-use Rattle.gixp_planner.specs.Session.{AreUnanswered, GreetsWithoutAccount, Runs, ungreeted, unmapped, fetched, end_of, end_counted}
+use Rattle.gixp_handshake.specs.WithoutAccount.{AreUnanswered, GreetsWithoutAccount}
+use Rattle.gixp_planner.specs.Session.{Runs, ungreeted, unmapped, fetched, end_of, end_counted}
 use Rattle.gixp_planner.specs.PlannedText.{IsCourse, Shows, PlannedText, shown, refused}
 use Rattle.gixp_planner.proofs.StepLemmas.{other-step, not-unwritten, not-begun, f-not-n, l-not-n, e-not-n, t-not-n}
 use Rattle.gixp_planner.proofs.MappedLemmas.{step-before}

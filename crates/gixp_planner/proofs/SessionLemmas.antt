@@ -28,7 +28,8 @@ use Rattle.gixp_planner.specs.Refusal.{PlanRefusal}
 use Rattle.gixp_planner.specs.Written.{WritesPlan}
 use Rattle.gixp_planner.specs.Specs.{IsContext}
 use Rattle.gixp_planner.specs.Text.{course_shown, course_of, ended_of, requests_shown, mapped_shown, end_shown}
-use Rattle.gixp_planner.specs.Session.{planner_agent, AreUnanswered, GreetsWithoutAccount, MapsRefs, Carries, FetchesOver, Runs, fetched, end_of, end_counted}
+use Rattle.gixp_handshake.specs.WithoutAccount.{AreUnanswered, GreetsWithoutAccount}
+use Rattle.gixp_planner.specs.Session.{planner_agent, MapsRefs, Carries, FetchesOver, Runs, fetched, end_of, end_counted}
 use Rattle.gixp_planner.specs.PlannedText.{IsCourse, Shows, IsOutcome}
 
 -- where each call answers that there is no account, all did

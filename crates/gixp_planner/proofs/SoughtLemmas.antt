@@ -41,7 +41,8 @@ use Rattle.gixp_handshake.specs.declared.handshake.ref_map.ObtainRefMap.TheVaria
 use Rattle.gixp_handshake.specs.Obtain.{MakesMap, PreparesBy, ByList, ObtainsBy, Obtains}
 use Rattle.gixp_planner.specs.Refusal.{map_name}
 use Rattle.gixp_planner.specs.Specs.{specs_of, IsContext}
-use Rattle.gixp_planner.specs.Session.{planner_agent, GreetsWithoutAccount, MapsRefs}
+use Rattle.gixp_handshake.specs.WithoutAccount.{GreetsWithoutAccount}
+use Rattle.gixp_planner.specs.Session.{planner_agent, MapsRefs}
 use Rattle.gixp_planner.specs.Discovered.{Discovery, discovery, values_of, HasDiscovered, first_pieces}
 use Rattle.gixp_planner.specs.Sought.{Sought, at_hand, unasked, of_answer, by_size, by_offer, list_for, by_arrival, sought, by_conflicts, by_format, map_refusal, IsSought, second_pieces, Plans, RefMapsFollow}
 use Rattle.gixp_planner.proofs.MappedLemmas.{if-known, state, new-held, all_specs}

@@ -22,7 +22,7 @@ use Rattle.gixp_handshake.specs.declared.handshake.error.Error.TheVariants as ha
 use Rattle.gixp_handshake.specs.declared.handshake.read.Handshake.{Handshake}
 use Rattle.gixp_handshake.specs.Shake.{is_accepted}
 use Rattle.gixp_planner.specs.Refusal.{handshake_name}
-use Rattle.gixp_planner.specs.Session.{GreetsWithoutAccount}
+use Rattle.gixp_handshake.specs.WithoutAccount.{GreetsWithoutAccount}
 
 -- the server's version and capabilities, and its refs where they come first
 pub record Discovery : Type 0 where

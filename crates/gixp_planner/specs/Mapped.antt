@@ -13,7 +13,8 @@ use Rattle.gixp_planner.specs.declared.error.PlanError.{PlanError}
 use Rattle.gixp_planner.specs.Refusal.{PlanRefusal, refusal_of}
 use Rattle.gixp_planner.specs.Specs.{IsContext}
 use Rattle.gixp_planner.specs.Text.{requests_shown, map_shown, end_shown}
-use Rattle.gixp_planner.specs.Session.{GreetsWithoutAccount, MapsRefs}
+use Rattle.gixp_handshake.specs.WithoutAccount.{GreetsWithoutAccount}
+use Rattle.gixp_planner.specs.Session.{MapsRefs}
 
 -- a session over these bodies has the ref map of these refspecs, after these requests
 pub record IsMapped (bodies : List Body) (specs : List (List ℕ)) (sent : List (List ℕ)) (m : RefMap) : Type 0 where

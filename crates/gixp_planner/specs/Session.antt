@@ -1,12 +1,11 @@
 -- A session of a planner: a handshake without an account, the ref map of the server's refs, and a fetch of the mapped refs.
-use Rattle.std.specs.Prelude.{ℕ, ◌≡◌, ◌==◌, ◌⊎◌, ⊤, Bool, true, false, if◌then◌else◌, List, [], ◌∷◌, codes, Option, Some, None, Result, Ok, Err, IfOk, IsOk}
+use Rattle.std.specs.Prelude.{ℕ, ◌≡◌, ◌==◌, ◌⊎◌, Bool, true, false, if◌then◌else◌, List, [], ◌∷◌, codes, Option, Some, None, Result, Ok, Err, IfOk, IsOk}
 use Rattle.std.specs.declared.alloc.AllocError.{AllocError}
 use Rattle.gixp_graph.specs.GraphData.{GraphValue}
 use Rattle.gixp_graph.specs.declared.empty.NoRefs.{NoRefs}
 use Rattle.gixp_shallow.specs.declared.shallow.Shallow.TheVariants.{NoChange}
 use Rattle.gixp_shallow.specs.declared.store.memory.ShallowMemory.{ShallowMemory}
 use Rattle.gixp_negotiate.specs.declared.negotiate.negotiation.Negotiation.{Negotiation}
-use Rattle.gixp_transport.specs.declared.service.Service.TheVariants.{UploadPack}
 use Rattle.gixp_packetline.specs.Reading.{Reading}
 use Rattle.gixp_requests.specs.Feature.{FeatureValue}
 use Rattle.gixp_requests.specs.Command.{git_table}
@@ -18,7 +17,7 @@ use Rattle.gixp_refmap.specs.declared.refmap.init.Error.TheVariants as map
 use Rattle.gixp_refmap.specs.declared.refmap.map.RefMap.{RefMap}
 use Rattle.gixp_handshake.specs.declared.handshake.error.Error.{Error as HandshakeError}
 use Rattle.gixp_handshake.specs.declared.handshake.read.Handshake.{Handshake}
-use Rattle.gixp_handshake.specs.Shake.{CredentialCall, CompletesHandshake}
+use Rattle.gixp_handshake.specs.WithoutAccount.{GreetsWithoutAccount}
 use Rattle.gixp_handshake.specs.Taken.{without_refs}
 use Rattle.gixp_handshake.specs.Obtain.{IsWithoutRefs, Obtains}
 use Rattle.gixp_fetch.specs.declared.error.Error.{Error as FetchError}
@@ -33,17 +32,6 @@ use Rattle.gixp_planner.specs.Text.{mapped_shown}
 -- the agent of the planner
 abbrev pub planner_agent : FeatureValue
 planner_agent = record { name = codes "agent"; value = Some (codes "git/gixp-plan") }
-
--- the credential helper had no account
-abbrev pub AreUnanswered : List CredentialCall → Type 0
-AreUnanswered [] = ⊤
-AreUnanswered (t ∷ ts) = (t.answer ≡ Ok None) × AreUnanswered ts
-
--- a handshake without an account
-pub record GreetsWithoutAccount (plain : Bool) (old new : Reading) (r : Result Handshake HandshakeError) : Type 0 where
-  pub turns : List CredentialCall
-  pub unanswered : AreUnanswered turns
-  pub shakes : CompletesHandshake UploadPack [] plain old new turns r
 
 -- the ref map, with a request for the refspecs' prefixes
 abbrev pub MapsRefs : Context → Handshake → Bool → Reading → Reading → Result RefMap MapError → Type 0

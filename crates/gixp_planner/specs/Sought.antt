@@ -27,7 +27,8 @@ use Rattle.gixp_handshake.specs.declared.handshake.read.Handshake.{Handshake}
 use Rattle.gixp_handshake.specs.Obtain.{prefixes_if}
 use Rattle.gixp_planner.specs.Refusal.{map_name}
 use Rattle.gixp_planner.specs.Specs.{specs_of, IsContext}
-use Rattle.gixp_planner.specs.Session.{planner_agent, GreetsWithoutAccount, MapsRefs}
+use Rattle.gixp_handshake.specs.WithoutAccount.{GreetsWithoutAccount}
+use Rattle.gixp_planner.specs.Session.{planner_agent, MapsRefs}
 use Rattle.gixp_planner.specs.Discovered.{Discovery, discovery, first_pieces}
 
 -- the requests for refs, and the refs, or the name of the error
