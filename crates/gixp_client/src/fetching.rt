@@ -16,7 +16,7 @@ use crate::fetched::Fetched;
 use crate::listen::{Kept, Listener};
 use crate::name::SentName;
 use crate::outcome::{
-    copied_updates, expect_filter, is_reported, reported, settled, store_of, untaken,
+    copied_updates, expect_filter, finish_fetch, is_reported, reported, store_of, updates_left,
 };
 use crate::repository::Repository;
 use crate::request::Request;
@@ -77,7 +77,7 @@ where
             progress: &mut self.progress,
         };
         let (received, is_negotiated) = fetch_mapped(alloc, wanted, name, peer, store, pack);
-        self.shaken.v1_shallow_updates = untaken(first, is_negotiated);
+        self.shaken.v1_shallow_updates = updates_left(first, is_negotiated);
         self.state = state_after_fetch(is_negotiated, version, &received);
         received
     }
@@ -189,7 +189,7 @@ where
         let messages = self.transport.take_kept(alloc);
         let received = self.unless_reported(received, &messages, request.goes_on);
         let after = store.ids();
-        match settled(alloc, received, messages, request, before, after) {
+        match finish_fetch(alloc, received, messages, request, before, after) {
             Ok(fetched) => Ok(fetched),
             Err(why) => Err(why),
         }

@@ -43,7 +43,7 @@ pub(crate) fn copied_updates(
 }
 
 /// The shallow updates that the handshake received, unless a negotiated round consumed them.
-pub(crate) fn untaken(
+pub(crate) fn updates_left(
     updates: Option<Vec<ShallowUpdate>>,
     is_negotiated: bool,
 ) -> Option<Vec<ShallowUpdate>>
@@ -109,7 +109,7 @@ fn asks_change(shallow: &Shallow) -> bool
 }
 
 /// The result of a fetch with the shallow boundary after it.
-pub(crate) fn settled(
+pub(crate) fn finish_fetch(
     alloc: Global,
     received: Result<Option<Outcome>, Error>,
     messages: Kept,
