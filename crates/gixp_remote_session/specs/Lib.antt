@@ -13,3 +13,4 @@ pub mod ListedObjects
 pub mod Boundaries
 pub mod ServerLeft
 pub mod Readiness
+pub mod FsckList
