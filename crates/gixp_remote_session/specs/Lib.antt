@@ -14,3 +14,4 @@ pub mod Boundaries
 pub mod ServerLeft
 pub mod Readiness
 pub mod FsckList
+pub mod StartupInput

@@ -1,6 +1,6 @@
 //! The input of the helper at startup: the URL, environment variables and configuration.
-ghost use Rattle.std.specs.Prelude.{◌≡◌, ◌++◌, ◌∷◌, [], nat_eq, false, MatchResult};
-ghost use Rattle.std.specs.List.{ends_with};
+ghost use Rattle.std.specs.Prelude.{◌≡◌, Some, None, MatchResult};
+ghost use Rattle.gixp_remote_session.specs.StartupInput.{field_of};
 ghost use Rattle.bstr.specs.Owned.{bstring_bytes};
 ghost use Rattle.std.specs.Option.{option_map};
 ghost use Rattle.gixp_remote_session.specs.UserConfig.{can_erase};
@@ -94,7 +94,8 @@ fn can_erase(terminal: &[u8]) -> bool
 
 // A field without the NUL byte that must end it. If it has none, the pipe ended within the field.
 fn without_nul(field: Vec<u8>) -> Result<Vec<u8>, Error>
-    ensures { MatchResult result (λ front. field.items ≡ front.items ++ 0 ∷ []) (λ e. ends_with nat_eq field.items (0 ∷ []) ≡ false) }
+    ensures { MatchResult result (λ front. field_of field.items ≡ Some front.items)
+        (λ e. (field_of field.items ≡ None)) }
 {
     let mut field = field;
     match field.pop() {
