@@ -107,6 +107,7 @@ def command_lines(name, t):
         (["--help", "--keep-open", "a"], 0), (["-V", "--help", "a"], 0),
         (["/nowhere/a", "/nowhere/b", "c", "d"], 1), (["--refs", "/nowhere/r", "a", "b", "c", "d"], 1),
         (["--refs=/nowhere/r", "a", "b", "c", "d"], 1), (["--depth=0", "--shallow=s", "a", "b", "c", "d"], 2),
+        (["a", "-", "c", "d"], 2), (["--list", "a", "-"], 2), (["--quiet", "/nowhere/a", "-", "c", "d"], 1),
         (["--version=3", "a", "b", "c", "d"], 2), (["--quiet=yes", "a", "b", "c", "d"], 2), (["--nothing=1", "a", "b", "c", "d"], 2),
     ):
         status, out, err = t.run(t.program, *given)

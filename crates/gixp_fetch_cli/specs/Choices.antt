@@ -1,5 +1,5 @@
 -- What the options of a command line ask for.
-use Rattle.std.specs.Prelude.{◌≡◌, ◌<◌, ◌&&◌, ◌||◌, ℕ, ℤ, Bool, true, false, is_some, if◌then◌else◌, List, [], ◌∷◌, length, map, codes, Option, Some, None, unwrap_or, Ok}
+use Rattle.std.specs.Prelude.{◌≡◌, ◌<◌, ◌&&◌, ◌||◌, ℕ, ℤ, Bool, true, false, not, is_some, if◌then◌else◌, List, [], ◌∷◌, length, map, codes, Option, Some, None, unwrap_or, Ok}
 use Rattle.std.specs.Int.{w64}
 use Rattle.std.specs.Option.{option_map}
 use Rattle.std.specs.Str.{bytes_eq}
@@ -129,6 +129,10 @@ pub record AsksOutput (line : LineParts) (output : Output) : Type 0 where
   pub quiet : output.is_quiet ≡ has line (codes "--quiet")
   pub progress : output.shows_progress ≡ (if has line (codes "--quiet") then false else has line (codes "--progress"))
 
+-- the report would follow the requests on standard output, which the server reads
+abbrev pub mixes_report : LineParts → List ℕ → Bool
+mixes_report line to = bytes_eq to (codes "-") && not (has line (codes "--report")) && not (has line (codes "--quiet"))
+
 -- a fetch; a shallow server is refused, and no depth is asked for, where no boundary can be kept
 pub record AsksFetch (line : LineParts) (fetch_args : FetchArgs) : Type 0 where
   pub tags : tags_of (value line (codes "--tags")) ≡ Some fetch_args.tags
@@ -171,3 +175,4 @@ pub record AsksOptions (line : LineParts) (options : ProgramOptions) : Type 0 wh
   pub filter : option_map (λ w. w.now) options.filter ≡ value line (codes "--filter")
   pub files : AsksFiles line options.files
   pub output : AsksOutput line options.output
+  pub apart : mixes_report line options.server.to.now ≡ false

@@ -7,7 +7,7 @@ use Rattle.gixp_fetch_cli.specs.declared.options.ProgramOptions.{ProgramOptions}
 use Rattle.gixp_fetch_cli.specs.declared.options.OptionError.{OptionError}
 use Rattle.gixp_fetch_cli.specs.declared.options.OptionError.TheVariants.{Line as BadLine, Value as BadValue, Conflict, Needs, Operands, Memory}
 use Rattle.gixp_fetch_cli.specs.CommandLine.{LineParts, LineFault, IsLineFault}
-use Rattle.gixp_fetch_cli.specs.Choices.{value, has, has_conflict, has_history, version_of, tags_of, IsHaves, IsNumber, IsSeconds, AsksOptions}
+use Rattle.gixp_fetch_cli.specs.Choices.{value, has, has_conflict, has_history, version_of, tags_of, IsHaves, IsNumber, IsSeconds, mixes_report, AsksOptions}
 
 -- ---- values
 
@@ -70,6 +70,8 @@ pub data LacksOther (line : LineParts) (one other : List ℕ) : Type 0 where
   no_list : one ≡ codes "--keep-open" → other ≡ codes "--list" → has line (codes "--keep-open") ≡ true → has line (codes "--list") ≡ false
       → LacksOther line one other
   no_boundary : one ≡ codes "a depth" → other ≡ codes "--shallow" → has_history line ≡ true → has line (codes "--shallow") ≡ false
+      → LacksOther line one other
+  no_report : one ≡ codes "standard output as TO" → other ≡ codes "--report or --quiet" → (to : List ℕ) → mixes_report line to ≡ true
       → LacksOther line one other
 
 -- ---- a refusal

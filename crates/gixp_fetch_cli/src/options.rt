@@ -1,10 +1,10 @@
 //! The options of a command line.
-ghost use Rattle.std.specs.Prelude.{◌≡◌, true, if◌then◌else◌, Some, None, codes, map, string_bytes, IfOk, IfErr, IfSome, IfNone};
+ghost use Rattle.std.specs.Prelude.{◌≡◌, true, if◌then◌else◌, Some, None, codes, false, map, string_bytes, IsOk, IfOk, IfErr, IfSome, IfNone};
 ghost use Rattle.std.specs.Option.{option_map};
 ghost use Rattle.bstr.specs.Owned.{bstring_bytes};
 ghost use Rattle.gixp_fetch_cli.specs.CommandLine.{line_of, line_value, LineParts};
 ghost use Rattle.gixp_fetch_cli.specs.declared.options.OptionError.TheVariants.{Memory};
-ghost use Rattle.gixp_fetch_cli.specs.Choices.{version_of, tags_of, value, has, IsHaves};
+ghost use Rattle.gixp_fetch_cli.specs.Choices.{version_of, tags_of, value, has, IsHaves, mixes_report};
 ghost use Rattle.gixp_fetch_cli.specs.Choices.{AsksQuestions, AsksFiles, AsksOutput, AsksFetch, AsksWork, AsksTask, AsksOptions};
 ghost use Rattle.gixp_fetch_cli.specs.Refusals.{IsNoHaves, RefusesOptions, ReadsOptions};
 
@@ -300,12 +300,25 @@ fn work_of<'a>(
     }
 }
 
+// Fails if the report would follow the requests on standard output, which the server reads.
+fn expect_report_apart<'a>(line: &CommandLine<'a>, to: &str) -> Result<(), OptionError<'a>>
+    ensures ok { IsOk result → mixes_report (line_value line.now) to.now ≡ false }
+    ensures err { IfErr result (λ e. (mixes_report (line_value line.now) to.now ≡ true) × RefusesOptions (line_value line.now) e) }
+{
+    if to == "-" && !line.has("--report") && !line.has("--quiet") {
+        Err(OptionError::Needs("standard output as TO", "--report or --quiet"))
+    } else {
+        Ok(())
+    }
+}
+
 // The task, and the operands FROM and TO.
 fn task_of<'a>(
     alloc: Global,
     line: &CommandLine<'a>,
 ) -> Result<(Task<'a>, &'a str, &'a str), OptionError<'a>>
     ensures ok { IfOk result (λ found. AsksTask (line_value line.now) found.1.now found.2.now found.0) }
+    ensures apart { IfOk result (λ found. mixes_report (line_value line.now) found.2.now ≡ false) }
     ensures err { IfErr result (λ e. RefusesOptions (line_value line.now) e) }
 {
     if line.has("--help") {
@@ -314,7 +327,9 @@ fn task_of<'a>(
     if line.has("-V") {
         return Ok((Task::Version, "", ""));
     }
-    work_of(alloc, line)
+    let found = work_of(alloc, line)?;
+    expect_report_apart(line, found.2)?;
+    Ok(found)
 }
 
 impl<'a> ProgramOptions<'a> {

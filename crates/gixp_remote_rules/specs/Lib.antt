@@ -20,3 +20,6 @@ pub mod Conversation
 pub mod Unpacking
 pub mod Printable
 pub mod Uris
+pub mod CQuoting
+pub mod Environment
+pub mod GitAnswers

@@ -9,7 +9,9 @@ mod boundary;
 mod command;
 mod config;
 mod conversation;
+mod environment;
 mod fetch_reply;
+mod git_answers;
 mod index_pack;
 mod number;
 mod options;
@@ -23,6 +25,7 @@ mod shell_request;
 mod ssh;
 mod text;
 mod unpacking;
+mod unquote;
 mod uris;
 
 pub use argv::{
@@ -37,7 +40,9 @@ pub use boundary::{
 pub use command::{HelperCommand, parse_command};
 pub use config::{ConfigEntry, Settings, is_true};
 pub use conversation::{Conversation, Reaction};
+pub use environment::variable_in;
 pub use fetch_reply::{batch_reply, capabilities, reports_connectivity};
+pub use git_answers::{MessageId, exit_status, has_reported, message_id, path_answer, time_answer};
 pub use index_pack::{accepted_pack, pack_file, reported_pack};
 pub use number::number_of;
 pub use options::{Depth, Family, HelperOptions, OptionReply};

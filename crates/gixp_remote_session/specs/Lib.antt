@@ -13,3 +13,5 @@ pub mod ListedObjects
 pub mod Boundaries
 pub mod ServerLeft
 pub mod Readiness
+pub mod FsckList
+pub mod StartupInput

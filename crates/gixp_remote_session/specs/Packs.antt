@@ -10,9 +10,9 @@ use Rattle.gixp_fetch_common.specs.declared.failure.Failure.TheVariants.{PackRef
 use Rattle.gixp_remote_rules.specs.IndexPack.{id_value, accepted_pack}
 use Rattle.gixp_remote_rules.specs.Unpacking.{unpacks}
 use Rattle.gixp_remote_session.specs.declared.pack.PackState.{PackState}
-use Rattle.gixp_remote_session.specs.declared.pack.PackState.TheVariants.{Unreadable, Refused, Indexed, Unpacked, Empty}
+use Rattle.gixp_remote_session.specs.declared.pack.PackState.TheVariants.{Unreadable, Unstarted, Refused, Indexed, Unpacked, Empty}
 use Rattle.gixp_remote_session.specs.declared.error.Error.{Error}
-use Rattle.gixp_remote_session.specs.declared.error.Error.TheVariants.{Fetch, Fatal}
+use Rattle.gixp_remote_session.specs.declared.error.Error.TheVariants.{Fetch, Other, Fatal}
 use Rattle.gixp_remote_rules.specs.HelperOptions.{HelperOptionsValue}
 use Rattle.gixp_remote_rules.specs.Argv.{index_argv, object_variables}
 use Rattle.gixp_remote_session.specs.declared.pack.PackPlan.{PackPlan}
@@ -82,10 +82,13 @@ abbrev pub IsStateAfter : Bool → Bool → ℕ → List ℕ → ℕ → Option 
 IsStateAfter true has_boundary count text status state = state ≡ unpacked_state count has_boundary status
 IsStateAfter false has_boundary count text status state = AreIndexed has_boundary count (accepted_pack text status) status state
 
--- the error of a fetch: a bad pack header and a refused pack override the session's error
+-- the error of a fetch: a bad pack header, a git that isn't started and a refused pack override the
+-- session's error
 abbrev pub ErrorIsFailure : PackState → Failure → Error → Type 0
 ErrorIsFailure Unreadable e (Fatal why) = why.now ≡ codes "protocol error: bad pack header"
 ErrorIsFailure Unreadable e _ = ⊥
+ErrorIsFailure Unstarted e (Other why) = why.now ≡ codes "a program can't be started"
+ErrorIsFailure Unstarted e _ = ⊥
 ErrorIsFailure Refused e error = error ≡ Fetch PackRefused
 ErrorIsFailure state e error = error ≡ Fetch e
 

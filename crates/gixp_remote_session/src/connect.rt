@@ -1,5 +1,5 @@
 //! Starts the server, and opens a session with it.
-ghost use Rattle.std.specs.Prelude.{◌≡◌, ◌≢◌, IfOk, Ok};
+ghost use Rattle.std.specs.Prelude.{◌≡◌, ◌≢◌, ◌↔◌, IfOk, IsOk, Ok};
 ghost use Rattle.std.specs.Option.{option_map};
 ghost use Rattle.bstr.specs.Owned.{bstring_bytes};
 ghost use Rattle.gixp_remote_rules.specs.declared.ssh.Variant.TheVariants.{Auto};
@@ -62,8 +62,8 @@ pub(crate) struct ServerContext<'a> {
 // Fails if the user doesn't allow the protocol.
 fn check_policy(context: ServerContext<'_>) -> Result<(), Error> {
     let transport = context.address.scheme.name().as_bytes();
-    let list = variable(context.rt, "GIT_ALLOW_PROTOCOL");
-    let from_user = variable(context.rt, "GIT_PROTOCOL_FROM_USER");
+    let list = variable(context.rt, "GIT_ALLOW_PROTOCOL")?;
+    let from_user = variable(context.rt, "GIT_PROTOCOL_FROM_USER")?;
     check_allowed(
         context.rt.alloc(),
         transport,
@@ -74,15 +74,15 @@ fn check_policy(context: ServerContext<'_>) -> Result<(), Error> {
 }
 
 // The user's command for ssh, and whether it is a shell command.
-fn ssh_program(context: ServerContext<'_>) -> Result<(Vec<u8>, Program), AllocError> {
-    let command = variable(context.rt, "GIT_SSH_COMMAND");
-    let program = variable(context.rt, "GIT_SSH");
-    choose_ssh(
+fn ssh_program(context: ServerContext<'_>) -> Result<(Vec<u8>, Program), Error> {
+    let command = variable(context.rt, "GIT_SSH_COMMAND")?;
+    let program = variable(context.rt, "GIT_SSH")?;
+    Ok(choose_ssh(
         context.rt.alloc(),
         bytes_of(&command),
         context.settings.value(b"core.sshcommand"),
         bytes_of(&program),
-    )
+    )?)
 }
 
 fn ssh_variant(
@@ -92,7 +92,7 @@ fn ssh_variant(
     program: Program,
     call: SshCall<'_>,
 ) -> Result<Variant, Error> {
-    let named = variable(context.rt, "GIT_SSH_VARIANT");
+    let named = variable(context.rt, "GIT_SSH_VARIANT")?;
     let setting = context.settings.value(b"ssh.variant");
     let variant = choose_variant(bytes_of(&named), setting, program, command);
     unless_auto(context.rt, shell, command, program, call, variant)
@@ -181,7 +181,7 @@ fn connect_daemon(
     let alloc = context.rt.alloc();
     let port = port_of(context).unwrap_or(b"9418");
     let host = context.address.host.as_bytes();
-    let chosen = variable(context.rt, "GIT_PROXY_COMMAND");
+    let chosen = variable(context.rt, "GIT_PROXY_COMMAND")?;
     let authority = context.address.authority.as_bytes();
     match proxy_for(context.settings, bytes_of(&chosen), authority) {
         Some(command) => {
@@ -225,6 +225,7 @@ fn start_with(
     variables: &[BString],
     argv: &[BString],
 ) -> Result<(), Error> {
+    shell.has_socket = program == Program::Socket;
     let status = shell.ask(&ShellRequest::Start(Start {
         task: ShellTask::Server,
         program,
@@ -245,9 +246,9 @@ fn start_with(
 }
 
 // The opening request to a `git://` server.
-fn opening_of(context: ServerContext<'_>) -> Result<Option<Opening>, AllocError> {
-    let host = variable(context.rt, "GIT_OVERRIDE_VIRTUAL_HOST");
-    choose_opening(context.rt.alloc(), context.address, bytes_of(&host))
+fn opening_of(context: ServerContext<'_>) -> Result<Option<Opening>, Error> {
+    let host = variable(context.rt, "GIT_OVERRIDE_VIRTUAL_HOST")?;
+    Ok(choose_opening(context.rt.alloc(), context.address, bytes_of(&host))?)
 }
 
 // The output of the server.
@@ -344,6 +345,33 @@ pub(crate) fn shake_hands<'a>(
     Ok(session)
 }
 
+// Fails if the server's program exited with another status than 0.
+fn expect_success(status: u32) -> Result<(), Error>
+    ensures { IsOk result ↔ (status ≡ 0) }
+{
+    if status == 0 {
+        Ok(())
+    } else {
+        Err(Error::Status("the server's program exited with status", status))
+    }
+}
+
+/// Ends the session after a fetch, and waits until the server exits. As in git, the fetch fails if
+/// the server's program did, but what was fetched stays. A connection to a host has no status.
+pub(crate) fn end_server(
+    context: ServerContext<'_>,
+    shell: &mut Shell,
+    session: Option<HelperSession<'_>>,
+) -> Result<(), Error> {
+    if let Some(session) = session {
+        drop_session(context, session);
+    }
+    if shell.has_socket {
+        return Ok(());
+    }
+    expect_success(shell.status(ShellTask::Server)?)
+}
+
 /// Ends a session that succeeded. Waits for git's program for HTTP, which saves cookies when it
 /// exits (git-config, "http.saveCookies").
 pub(crate) fn end_session(
@@ -353,7 +381,7 @@ pub(crate) fn end_session(
 ) {
     drop_session(context, session);
     if context.address.scheme.is_web() {
-        let _ = shell.ask(&ShellRequest::Status(ShellTask::Server));
+        let _ = shell.status(ShellTask::Server);
     }
 }
 

@@ -22,7 +22,7 @@ use crate::pack::{
 use crate::paths::RepositoryPaths;
 use crate::readiness::Readiness;
 use crate::shallow_observer::clear_updates;
-use crate::shell::Shell;
+use crate::shell::{NOT_STARTED, Shell};
 use crate::transport::HelperSession;
 use crate::unpacking::choose_limit;
 use crate::uris::{clear_uris, download_all, expect_lines};
@@ -103,12 +103,14 @@ fn keep_pack<P: PackPlace>(
     Ok(boundary.with_unasked(alloc)?)
 }
 
-// The error of a fetch. A bad pack header and a refused pack override the session's error.
+// The error of a fetch. A bad pack header, a git that isn't started and a refused pack override the
+// session's error.
 fn error_of(pack: PackState, e: Failure) -> Error
     ensures { ErrorIsFailure pack e result }
 {
     match pack {
         PackState::Unreadable => Error::Fatal(BAD_HEADER),
+        PackState::Unstarted => Error::Other(NOT_STARTED),
         PackState::Refused => Error::Fetch(Failure::PackRefused),
         PackState::Unbegun
         | PackState::Begun
@@ -268,6 +270,7 @@ fn migrate_packs(
         PackState::Unbegun
         | PackState::Begun
         | PackState::Unreadable
+        | PackState::Unstarted
         | PackState::Refused
         | PackState::Empty(_) => Ok(None),
     }
@@ -329,8 +332,8 @@ pub(crate) fn fetch<'a>(
     }
     let old = paths.boundary(rt)?;
     let shallow = shallow_of(rt, shell, job.options)?;
-    let has_alternates = paths.has_alternates(rt);
-    let haves = haves_for(job, has_alternates);
+    let has_alternates = paths.has_alternates(rt)?;
+    let haves = haves_for(job, has_alternates)?;
     if commits.is_none() {
         commits = start_borrowed_questions(job, shell, has_alternates, haves)?;
     }

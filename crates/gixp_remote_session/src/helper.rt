@@ -1,5 +1,7 @@
 //! The conversation with git.
-use crate::connect::{ServerContext, drop_session, end_session, shake_hands, start_server};
+use crate::connect::{
+    ServerContext, drop_session, end_server, end_session, shake_hands, start_server,
+};
 use crate::error::{Error, print_error};
 use crate::fetching::{OpenSession, fetch};
 use crate::job::FetchJob;
@@ -79,7 +81,7 @@ impl Helper<'_> {
             self.conversation.options.family,
         )?;
         let rt = self.context.rt;
-        if variable(rt, "GIT_DIR").is_some() && variable(rt, "GIT_DEFAULT_HASH").is_none() {
+        if variable(rt, "GIT_DIR")?.is_some() && variable(rt, "GIT_DEFAULT_HASH")?.is_none() {
             self.shell.ask_paths()?;
         }
         Ok(())
@@ -125,6 +127,7 @@ impl Helper<'_> {
             ids: &ids,
         };
         let fetched = fetch(job, &mut self.shell, &mut self.open, &folder)?;
+        end_server(self.context, &mut self.shell, self.open.take())?;
         self.shell.stop_watch()?;
         let lock = match &fetched.reply.lock {
             Some(lock) => Some(lock.as_bytes()),
@@ -206,7 +209,7 @@ fn serve<R: BufRead>(
             name: &state.startup.name,
             address: &state.address,
             settings: &state.settings,
-            version: version_of(&state.rt, &state.settings),
+            version: version_of(&state.rt, &state.settings)?,
             session_id: state.session_id.as_deref(),
             erases: state.startup.erases,
             has_failed: &state.has_failed,
@@ -231,7 +234,7 @@ fn serve<R: BufRead>(
 /// question again.
 pub(crate) fn converse(rt: &HostRuntime) -> Result<(), Error> {
     let alloc = rt.alloc();
-    if within(rt) == Within::Question {
+    if within(rt)? == Within::Question {
         return Err(Error::Other(
             "nothing is fetched while git answers a question of another helper",
         ));

@@ -10,7 +10,7 @@ use crate::shell::Shell;
 use bstr::{BString, ByteSlice};
 use gix_protocol::fetch::Shallow;
 use gix_protocol::refspec::PartialName;
-use gixp_remote_rules::{Depth, HelperOptions, Question};
+use gixp_remote_rules::{Depth, HelperOptions, Question, time_answer};
 use std::alloc::Global;
 use std::num::NonZeroU32;
 
@@ -18,8 +18,7 @@ use std::num::NonZeroU32;
 fn seconds_of(rt: &HostRuntime, shell: &mut Shell, since: &[u8]) -> Result<i64, Error> {
     let alloc = rt.alloc();
     let output = shell.ask_git(rt, Question::Time(since))?;
-    let line = output.text.as_slice().trim();
-    let Some(digits) = line.strip_prefix(b"--max-age=") else {
+    let Some(digits) = time_answer(&output.text, output.status) else {
         return Err(Error::with_text(alloc, "this is not a time:", since));
     };
     match digits.to_str() {

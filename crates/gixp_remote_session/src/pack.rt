@@ -9,9 +9,9 @@ ghost use Rattle.gixp_remote_session.specs.Errors.{error_kind_of};
 use crate::error::Error;
 use crate::paths::RepositoryPaths;
 use crate::pipes::{BOUNDARY, IDS, PACK_INPUT, PACK_OUTPUT};
-use crate::setup::{variable, within};
+use crate::setup::{bytes_of, variable, within};
 use crate::shallow_observer::ShallowUpdates;
-use crate::shell::Shell;
+use crate::shell::{NOT_STARTED, Shell};
 use crate::uris::{Uris, has_uris};
 use bstr::{BString, ByteSlice};
 use gix_protocol::fetch::shallow_text;
@@ -211,12 +211,13 @@ impl PackPlan {
             options,
             rules.checks,
         )?;
-        let more = variable(rt, "GIT_ALTERNATE_OBJECT_DIRECTORIES");
-        let more = match &more {
-            Some(more) => Some(more.as_bytes()),
-            None => None,
-        };
-        let variables = object_variables(alloc, folder.as_bytes(), paths.objects.as_bytes(), more)?;
+        let more = variable(rt, "GIT_ALTERNATE_OBJECT_DIRECTORIES")?;
+        let variables = object_variables(
+            alloc,
+            folder.as_bytes(),
+            paths.objects.as_bytes(),
+            bytes_of(&more),
+        )?;
         Ok(PackPlan {
             folder,
             argv,
@@ -241,6 +242,8 @@ pub(crate) enum PackState {
     Unreadable,
     /// It is indexed.
     Indexed(IndexedPack),
+    /// git couldn't be started for it.
+    Unstarted,
     /// git exited before it had read the whole pack.
     Refused,
     /// Its objects are unpacked in the quarantine. The value says whether the server sent a
@@ -271,6 +274,7 @@ impl PackState {
             PackState::Unbegun
             | PackState::Begun
             | PackState::Unreadable
+            | PackState::Unstarted
             | PackState::Refused
             | PackState::Empty(_) => false,
         }
@@ -283,9 +287,11 @@ impl PackState {
         match self {
             PackState::Indexed(indexed) => indexed.has_boundary,
             PackState::Unpacked(has_boundary) | PackState::Empty(has_boundary) => has_boundary,
-            PackState::Unbegun | PackState::Begun | PackState::Unreadable | PackState::Refused => {
-                false
-            }
+            PackState::Unbegun
+            | PackState::Begun
+            | PackState::Unreadable
+            | PackState::Unstarted
+            | PackState::Refused => false,
         }
     }
 }
@@ -336,8 +342,12 @@ fn start_git(shell: &mut Shell, variables: &[BString], argv: &[BString]) -> Resu
         variables,
         argv,
     };
-    shell.ask(&ShellRequest::Start(start))?;
-    Ok(())
+    if shell.ask(&ShellRequest::Start(start))? == 0 {
+        Ok(())
+    } else {
+        shell.pack = PackState::Unstarted;
+        Err(Error::Other(NOT_STARTED))
+    }
 }
 
 // Whether a pack with this many objects is unpacked.
@@ -403,8 +413,8 @@ impl PackRun<'_> {
         Ok(())
     }
 
-    fn variables(&self) -> Result<Vec<BString>, AllocError> {
-        pack_variables(self.rt.alloc(), within(&self.rt), &self.plan.variables)
+    fn variables(&self) -> Result<Vec<BString>, Error> {
+        Ok(pack_variables(self.rt.alloc(), within(&self.rt)?, &self.plan.variables)?)
     }
 
     fn unpacking_argv(&self) -> Result<Vec<BString>, AllocError> {
@@ -461,7 +471,7 @@ impl PackRun<'_> {
         if let Some(mut output) = self.output.take() {
             output.read_to_end(&mut text)?;
         }
-        let status = self.shell.wait_answers()?;
+        let status = self.shell.wait_status()?;
         if lists_gitmodules(&text) {
             self.shell.lists_gitmodules = true;
         }

@@ -191,7 +191,7 @@ pub(crate) fn read_repository(
     ensures boundary { IfOk result (λ r. r.boundary ≡ boundary) }
 {
     let text = fs::read(rt, REFS)?;
-    if shell.ask(&ShellRequest::Status(ShellTask::Refs))? == 0 {
+    if shell.status(ShellTask::Refs)? == 0 {
         repository_of(rt.alloc(), &text, boundary)
     } else {
         Ok(new_repository(rt.alloc(), boundary))

@@ -1,5 +1,7 @@
 //! The shell that starts and ends programs. It answers each request with a number.
-ghost use Rattle.std.specs.Prelude.{◌≡◌, IfOk, map};
+ghost use Rattle.std.specs.Prelude.{◌≡◌, ◌↔◌, IfOk, IsOk, map};
+ghost use Rattle.std.specs.Result.{result_ok};
+ghost use Rattle.gixp_remote_rules.specs.GitAnswers.{exit_status};
 ghost use Rattle.bstr.specs.Owned.{bstring_bytes};
 
 use crate::error::Error;
@@ -7,16 +9,40 @@ use crate::pack::PackState;
 use crate::pipes::{PROGRAM_OUTPUT, WATCHER};
 use bstr::BString;
 use gixp_remote_rules::{
-    Program, Question, ShellRequest, ShellTask, Start, question_argv, question_variables,
-    read_answer, write_request,
+    Program, Question, ShellRequest, ShellTask, Start, exit_status, question_argv,
+    question_variables, read_answer, write_request,
 };
 use std::alloc::Global;
 use std::fs;
 use std::fs::{File, OpenOptions};
 use std::io::{BufReader, Write};
 
+/// The error if the shell can't start a program.
+pub(crate) const NOT_STARTED: &str = "a program can't be started";
+
 /// Standard input of a program that reads nothing.
 pub(crate) const NOTHING: &str = "/dev/null";
+
+// Fails unless the shell started a program.
+fn expect_start(answer: u32) -> Result<(), Error>
+    ensures { IsOk result ↔ (answer ≡ 0) }
+{
+    if answer == 0 {
+        Ok(())
+    } else {
+        Err(Error::Other(NOT_STARTED))
+    }
+}
+
+// The exit status in an answer of the shell.
+fn expect_status(answer: u32) -> Result<u32, Error>
+    ensures { result_ok result ≡ exit_status answer }
+{
+    match exit_status(answer) {
+        Some(status) => Ok(status),
+        None => Err(Error::Other("a program that was to be waited for was not started")),
+    }
+}
 
 /// The shell, and the pipes to it and from it.
 #[derive(Drop)]
@@ -34,6 +60,8 @@ pub(crate) struct Shell {
     pub(crate) pack: PackState,
     /// Whether git listed a `.gitmodules` file that is not in its pack.
     pub(crate) lists_gitmodules: bool,
+    /// Whether the server is at the end of a socket, so that it has no exit status.
+    pub(crate) has_socket: bool,
 }
 
 /// The output of a program, and its exit status.
@@ -58,6 +86,7 @@ impl Shell {
             asks_paths: false,
             pack: PackState::Unbegun,
             lists_gitmodules: false,
+            has_socket: false,
         })
     }
 
@@ -68,12 +97,14 @@ impl Shell {
         Ok(())
     }
 
-    /// Waits for the answers to all requests, and returns the last.
+    /// Waits for the answers to all requests, and returns the last. Only requests to start a program
+    /// are sent without a wait for the answer, so each earlier answer must be 0.
     pub(crate) fn wait_answers(&mut self) -> Result<u32, Error> {
         let count = self.unanswered;
         self.unanswered = 0;
         let mut last = 0;
         for _ in 0..count {
+            expect_start(last)?;
             last = read_answer(self.alloc, &mut self.answers)?;
         }
         Ok(last)
@@ -83,6 +114,22 @@ impl Shell {
     pub(crate) fn ask(&mut self, request: &ShellRequest<'_>) -> Result<u32, Error> {
         self.send(request)?;
         self.wait_answers()
+    }
+
+    /// Starts a program, and waits until it is started.
+    pub(crate) fn start(&mut self, start: Start<'_>) -> Result<(), Error> {
+        expect_start(self.ask(&ShellRequest::Start(start))?)
+    }
+
+    /// Waits until a program exits, and returns its exit status.
+    pub(crate) fn status(&mut self, task: ShellTask) -> Result<u32, Error> {
+        self.send(&ShellRequest::Status(task))?;
+        self.wait_status()
+    }
+
+    /// Waits for the exit status of a program, which was the last request.
+    pub(crate) fn wait_status(&mut self) -> Result<u32, Error> {
+        expect_status(self.wait_answers()?)
     }
 
     /// From now on the helper ends if git exits.
@@ -109,10 +156,10 @@ impl Shell {
         rt: &HostRuntime,
         task: ShellTask,
     ) -> Result<Output, Error> {
-        self.wait_answers()?;
         self.asks_paths = false;
+        expect_start(self.wait_answers()?)?;
         let text = fs::read(rt, PROGRAM_OUTPUT)?;
-        let status = self.ask(&ShellRequest::Status(task))?;
+        let status = self.status(task)?;
         Ok(Output { status, text })
     }
 

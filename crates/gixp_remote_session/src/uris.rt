@@ -264,6 +264,7 @@ fn own_pack(pack: PackState) -> Option<ObjectId>
         PackState::Unbegun
         | PackState::Begun
         | PackState::Unreadable
+        | PackState::Unstarted
         | PackState::Refused
         | PackState::Unpacked(_)
         | PackState::Empty(_) => None,
@@ -308,7 +309,7 @@ pub(crate) fn download_all(
     let all = named_packs(alloc, job.context.uri_setting, &lines)?;
     fs::create_dir_all(rt, format!(in alloc; "{}/pack", plan.folder)?.as_str())?;
     let argv = part_argv(alloc, plan.argv_for(pack.has_boundary()))?;
-    let variables = pack_variables(alloc, within(rt), &plan.variables)?;
+    let variables = pack_variables(alloc, within(rt)?, &plan.variables)?;
     let downloader = Downloader {
         rt,
         argv: &argv,
