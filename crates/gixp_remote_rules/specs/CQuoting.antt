@@ -26,23 +26,23 @@ abbrev pub octal_number : ℕ → ℕ → ℕ → ℕ
 octal_number a b c = 64 * (a - 48) + 8 * (b - 48) + (c - 48)
 
 -- a part of the text in quotes, and a byte of the value if it is complete
-abbrev pub Step : Type 0
-Step = Option (Part × Option ℕ)
+abbrev pub QuoteStep : Type 0
+QuoteStep = Option (Part × Option ℕ)
 
-abbrev pub step_to : Bool → Part → Option ℕ → Step
+abbrev pub step_to : Bool → Part → Option ℕ → QuoteStep
 step_to is_valid part byte = if is_valid then Some (part, byte) else None
 
 -- after a backslash: a letter, or the first of three digits
-abbrev pub escape_step : ℕ → Option ℕ → Step
+abbrev pub escape_step : ℕ → Option ℕ → QuoteStep
 escape_step c (Some byte) = Some (Plain, Some byte)
 escape_step c None = step_to (is_octal_digit c) (Digit c) None
 
 -- three digits are a byte, but no value has a NUL byte
-abbrev pub number_step : ℕ → Step
+abbrev pub number_step : ℕ → QuoteStep
 number_step n = step_to (nat_lt 0 n && nat_lt n 256) Plain (Some n)
 
 -- the next byte after a part: a quotation mark (34) closes the value, and a backslash (92) begins an escape
-abbrev pub step : Part → ℕ → Step
+abbrev pub step : Part → ℕ → QuoteStep
 step Plain b = if b == 34 then Some (Closed, None) else (if b == 92 then Some (Escape, None) else Some (Plain, Some b))
 step Escape c = escape_step c (escape_letter c)
 step (Digit a) b = step_to (is_octal_digit b) (Digits a b) None
