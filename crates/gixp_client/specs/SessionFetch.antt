@@ -22,10 +22,10 @@ use Rattle.gixp_client.specs.declared.request.Request.{Request}
 use Rattle.gixp_client.specs.declared.session.Session.{Session}
 use Rattle.gixp_client.specs.declared.unshallow_check.UnshallowCheck.{UnshallowCheck}
 
-module _ {N I A C P X T L : Type 0} (parties : Parties (UnshallowCheck N) I A ShallowMemory C P X)
+module _ {N I A C P X T L S : Type 0} (parties : Parties (UnshallowCheck N) I A ShallowMemory C P X)
     (map_of : UnshallowCheck N → RefMap) (knows : UnshallowCheck N → Knowledge) (reading : T → Reading) where
   -- a session fetches the refs of a map into a repository with these objects, refs and shallow boundary, with this result
-  abbrev pub FetchesRefs : RefMap → Request → Objects → LocalRefs → (boundary boundary' : List ObjectId) → (old new : Session T L P)
+  abbrev pub FetchesRefs : RefMap → Request → Objects → LocalRefs → (boundary boundary' : List ObjectId) → (old new : Session T L P S)
       → (consumer consumer' : C) → Result (Option Outcome) Error → Type 0
   FetchesRefs map request objects refs boundary boundary' old new consumer consumer' report =
       FetchesInSession parties map_of knows
@@ -34,7 +34,7 @@ module _ {N I A C P X T L : Type 0} (parties : Parties (UnshallowCheck N) I A Sh
       (reading new.transport.inner) consumer'
 
   -- the fetch succeeded; if the map is empty, nothing was sent
-  abbrev pub FetchSucceedsInSession : RefMap → Request → Objects → LocalRefs → List ObjectId → (old new : Session T L P) → (consumer consumer' : C)
+  abbrev pub FetchSucceedsInSession : RefMap → Request → Objects → LocalRefs → List ObjectId → (old new : Session T L P S) → (consumer consumer' : C)
       → Fetched → Type 0
   FetchSucceedsInSession map request objects refs boundary old new consumer consumer' f =
       ((map.mappings.items ≡ []) × (f.outcome ≡ None) × (new ≡ old) × (consumer' ≡ consumer) × IsLeftBoundary boundary [] [] f.boundary)
@@ -43,7 +43,7 @@ module _ {N I A C P X T L : Type 0} (parties : Parties (UnshallowCheck N) I A Sh
       × IsBoundaryAfter (is_change (shallow_value request.shallow)) boundary after f.boundary)
 
   -- the fetch failed before anything was sent, or as its state says; without a negotiated round the handshake is unchanged
-  abbrev pub FetchFailsInSession : RefMap → Request → Objects → LocalRefs → List ObjectId → (old new : Session T L P) → (consumer consumer' : C)
+  abbrev pub FetchFailsInSession : RefMap → Request → Objects → LocalRefs → List ObjectId → (old new : Session T L P S) → (consumer consumer' : C)
       → Error → Type 0
   FetchFailsInSession map request objects refs boundary old new consumer consumer' e =
       (IsUnsent e × (new ≡ old) × (consumer' ≡ consumer))

@@ -11,19 +11,19 @@ use Rattle.gixp_client.specs.SessionStates.{state_after_refusal}
 use Rattle.gixp_client.specs.declared.error.Error.{Error}
 use Rattle.gixp_client.specs.declared.session.Session.{Session}
 
-module _ {T L P : Type 0} (plain : Bool) (reading : T → Reading) where
+module _ {T L P S : Type 0} (plain : Bool) (reading : T → Reading) where
   -- the session asked for all refs, with this result
-  abbrev pub AsksForRefs : (old new : Session T L P) → Result (Vec Ref Global) ListError → Type 0
+  abbrev pub AsksForRefs : (old new : Session T L P S) → Result (Vec Ref Global) ListError → Type 0
   AsksForRefs old new listed =
       ListsInSession (named_by old.name) old.shaken plain (reading old.transport.inner) (reading new.transport.inner) listed
 
   -- the session keeps all refs that the server listed
-  abbrev pub KeepsListedRefs : (old new : Session T L P) → Type 0
+  abbrev pub KeepsListedRefs : (old new : Session T L P S) → Type 0
   KeepsListedRefs old new =
       (refs : Vec Ref Global) × AsksForRefs old new (Ok refs) × (new.shaken ≡ record old.shaken { refs = Some refs })
 
   -- there are no refs: nothing was sent, or they couldn't be read up to a flush packet
-  abbrev pub ListFailsInSession : (old new : Session T L P) → Error → Type 0
+  abbrev pub ListFailsInSession : (old new : Session T L P S) → Error → Type 0
   ListFailsInSession old new e = ((new ≡ old) × IsUnasked old.shaken.capabilities e)
       ⊎ ((listed : Result (Vec Ref Global) ListError) × AsksForRefs old new listed
       × (whole_refs listed (is_flush (reading new.transport.inner).stopped) ≡ Err e)

@@ -33,10 +33,10 @@ pub trait SessionFetch<
 > {
     /// A successful fetch: the map, the repository, the request; the session before and after it, the consumer before and after
     /// it; its result.
-    ghost succeeds: { RefMap → Repository F R → Request → Session T L P → Session T L P → C → C → Fetched → Type 0 };
+    ghost succeeds: { RefMap → Repository F R → Request → Session T L P P.SubProgress → Session T L P P.SubProgress → C → C → Fetched → Type 0 };
 
     /// A failed fetch, in the same order, with its error.
-    ghost fails: { RefMap → Repository F R → Request → Session T L P → Session T L P → C → C → Error → Type 0 };
+    ghost fails: { RefMap → Repository F R → Request → Session T L P P.SubProgress → Session T L P P.SubProgress → C → C → Error → Type 0 };
 
     /// A session with one fetch: the agent, the repository, the request; the transport; the consumer before and after it; the map
     /// and its result.
