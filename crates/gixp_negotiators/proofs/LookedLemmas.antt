@@ -101,3 +101,8 @@ looked_memory {A} {B} {g} {h} e m v = record {
   unrefused = tt;
   refused = unrefused_memory e g.refusals h.refusals m v.unrefused;
 }
+
+-- its error is returned
+pub looked_out : {A B : Type 0} {g h : GraphValue} {a : A} → (r : Result B NegotiatorError) → IsErrAnd r (λ x. x ≡ Memory)
+    → LooksUp {T = A} g h (Ok a) → LooksUp g h r
+looked_out r is v = looked_from r is (looked_memory Memory tt v)

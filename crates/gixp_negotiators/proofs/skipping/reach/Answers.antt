@@ -6,7 +6,7 @@ use Rattle.gixp_negotiators.proofs.OweLemmas.{owing_reached}
 use Rattle.gixp_negotiators.specs.Spread.{was_seen}
 use Rattle.gixp_negotiators.proofs.SpreadLemmas.{stays_seen, kept_none, kept_settled, newly_pushed}
 use Rattle.gixp_negotiators.proofs.UnreadLemmas.{among_same, among_one}
-use Rattle.gixp_negotiators.proofs.LookedLemmas.{looked_none, looked_held}
+use Rattle.gixp_negotiators.proofs.LookedLemmas.{looked_none, looked_held, looked_out}
 use Rattle.gixp_negotiators.proofs.skipping.reach.Goals as goal
 
 pub returns-clause-fits : goal.returns-clause-fits
@@ -61,3 +61,7 @@ returns-then-not-is_due-clause-looks g c = looked_none _
 
 pub returns-then-not-is_due-clause-marks : goal.returns-then-not-is_due-clause-marks
 returns-then-not-is_due-clause-marks g c = record { sees = λ q m. m; lists = λ q m. m; pops = λ q m. m }
+
+pub returns-in_err-push-clause-looks : goal.returns-in_err-push-clause-looks
+returns-in_err-push-clause-looks g c = looked_out _ c.from_residual.ensures.1
+    (looked_held c.args.graph.now c.add.new.graph c.add.ensures.grows c.add.ensures.failures c.add.ensures.refusals)

@@ -2,7 +2,7 @@ use Rattle.std.proofs.Common.{◌∷◌, []}
 use Rattle.gixp_negotiators.proofs.FromLemmas.{owes_same, owes_push}
 use Rattle.gixp_negotiators.specs.Spread.{is_there}
 use Rattle.gixp_negotiators.proofs.SpreadLemmas.{stays_there, kept_grown, kept_settled}
-use Rattle.gixp_negotiators.proofs.LookedLemmas.{looked_ok, looked_from}
+use Rattle.gixp_negotiators.proofs.LookedLemmas.{looked_ok, looked_from, looked_out}
 use Rattle.gixp_negotiators.proofs.consecutive.Consecutive.reach.Goals as goal
 
 pub returns-clause-spreads : goal.returns-clause-spreads
@@ -27,3 +27,6 @@ returns-clause-looks g c = looked_ok c.in_ok-make_common.ensures.looks
 
 pub returns-in_err-make_common-clause-looks : goal.returns-in_err-make_common-clause-looks
 returns-in_err-make_common-clause-looks g c = looked_from _ c.from_residual.ensures.1 c.in_err-make_common.ensures.looks
+
+pub returns-in_err-push-clause-looks : goal.returns-in_err-push-clause-looks
+returns-in_err-push-clause-looks g c = looked_out _ c.from_residual-in_err-push.ensures.1 c.in_ok-make_common.ensures.looks
