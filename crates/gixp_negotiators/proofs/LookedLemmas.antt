@@ -1,16 +1,17 @@
 -- Calls that look commits up, one after another.
-use Rattle.std.proofs.Common.{◌≡◌, ◌≤◌, ◌∙◌, inl, inr, ⊎_elim, ℕ, refl, sym, subst, arith, Result, Ok, Err}
+use Rattle.std.proofs.Common.{◌≡◌, ◌≤◌, ◌∙◌, ◌⊎◌, inl, inr, ⊎_elim, ℕ, refl, sym, subst, arith, Result, Ok, Err}
 use Rattle.std.specs.Result.{IsErrAnd}
 use Rattle.gixp_hash.specs.Failures.{HasRisen}
 use Rattle.gixp_graph.specs.declared.objects.ObjectError.{ObjectError}
+use Rattle.gixp_graph.specs.declared.objects.ObjectError.TheVariants as object
 use Rattle.gixp_graph.specs.declared.negotiator.NegotiatorError.{NegotiatorError}
 use Rattle.gixp_graph.specs.declared.negotiator.NegotiatorError.TheVariants.{Lookup, Memory}
 use Rattle.gixp_graph.specs.GraphData.{GraphValue}
-use Rattle.gixp_graph.specs.Refusals.{Written}
+use Rattle.gixp_graph.specs.Refusals.{Written, ErrorIsRefusal}
 use Rattle.gixp_graph.specs.Negotiation.{IsMemory, IsRefusal, ErrorIsLookupRefusal}
 use Rattle.gixp_negotiators.specs.Marks.{COMMON, SEEN, Grows}
 use Rattle.gixp_negotiators.specs.MarkLaws.{grows_left}
-use Rattle.gixp_negotiators.specs.LooksUp.{LooksUp}
+use Rattle.gixp_negotiators.specs.LooksUp.{LooksUp, LookedUp}
 use Rattle.gixp_negotiators.proofs.GrowLemmas.{grows_none, grows_on}
 
 -- a failure that was counted since one graph was counted since an earlier one
@@ -21,8 +22,7 @@ refusal_on : (a b c : ℕ) (e : NegotiatorError) → a ≤ b → IsRefusal 0 0 b
 refusal_on a b c e le r = ⊎_elim (λ m. inl m) (λ more. inr (⊎_elim (λ own. inl own) (λ graph. inr (risen_on a b c le graph)) more)) r
 
 -- marks are added to held commits
-pub looked_held : {A : Type 0} {a : A} → (g h : GraphValue) → Grows g.graph h.graph → h.failures ≡ g.failures → h.refusals ≡ g.refusals
-    → LooksUp g h (Ok a)
+pub looked_held : (g h : GraphValue) → Grows g.graph h.graph → h.failures ≡ g.failures → h.refusals ≡ g.refusals → LookedUp g h
 looked_held g h w failures refusals = record {
   grows = w;
   seen = grows_left SEEN g.graph h.graph w;
@@ -34,7 +34,7 @@ looked_held g h w failures refusals = record {
 }
 
 -- no look-up
-pub looked_none : {A : Type 0} {a : A} → (g : GraphValue) → LooksUp g g (Ok a)
+pub looked_none : (g : GraphValue) → LookedUp g g
 looked_none g = looked_held g g (grows_none g.graph) refl refl
 
 -- a call after calls that succeeded
@@ -102,7 +102,27 @@ looked_memory {A} {B} {g} {h} e m v = record {
   refused = unrefused_memory e g.refusals h.refusals m v.unrefused;
 }
 
--- its error is returned
+-- the error of the failed allocation is returned
+pub looked_failed : {A B : Type 0} {g h : GraphValue} {a : A} → (e : NegotiatorError) (r : Result B NegotiatorError)
+    → IsErrAnd r (λ x. x ≡ e) → IsMemory e → LooksUp {T = A} g h (Ok a) → LooksUp g h r
+looked_failed {A} {B} e r is m v = looked_from {A = A} r is (looked_memory e m v)
+
 pub looked_out : {A B : Type 0} {g h : GraphValue} {a : A} → (r : Result B NegotiatorError) → IsErrAnd r (λ x. x ≡ Memory)
     → LooksUp {T = A} g h (Ok a) → LooksUp g h r
-looked_out r is v = looked_from r is (looked_memory Memory tt v)
+looked_out r is v = looked_failed Memory r is tt v
+
+-- the look-up failed
+pub looked_lookup : {A : Type 0} {g h : GraphValue} → (e : ObjectError) (r : Result A NegotiatorError) → IsErrAnd r (λ x. x ≡ Lookup e)
+    → h.graph ≡ g.graph → g.failures ≤ h.failures → (e ≡ object.Memory) ⊎ HasRisen g.failures h.failures
+    → ErrorIsRefusal e g.refusals h.refusals → LooksUp g h r
+looked_lookup {A} {g} {h} e r is same failures failed refused =
+    let w : Grows g.graph h.graph = subst (Grows g.graph) (sym same) (grows_none g.graph) in
+    looked_from {A = A} {e = Lookup e} r is record {
+      grows = w;
+      seen = grows_left SEEN g.graph h.graph w;
+      common = grows_left COMMON g.graph h.graph w;
+      failures = failures;
+      failed = ⊎_elim (λ m. inl m) (λ risen. inr (inr risen)) failed;
+      unrefused = tt;
+      refused = refused;
+    }

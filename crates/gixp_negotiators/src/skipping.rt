@@ -10,7 +10,7 @@ ghost use Rattle.gixp_graph.specs.Object.{commit_at};
 ghost use Rattle.gixp_graph.specs.GraphData.{parents_in};
 ghost use Rattle.gixp_negotiators.specs.declared.queue.Waiting.{Waiting};
 ghost use Rattle.gixp_graph.specs.Negotiation.{IsMemory};
-ghost use Rattle.gixp_negotiators.specs.Marks.{COMMON, COMMON_REF, SEEN, POPPED, SeesOnly, MarksNoCommon, ListsNone, ListsOnly, PopsNone, StaysIfSeen, IsOffered, IsMarkedIfThere, IsListedIfNew, has_all, has_mark, left};
+ghost use Rattle.gixp_negotiators.specs.Marks.{COMMON, COMMON_REF, SEEN, POPPED, SeesOnly, MarksNoCommon, ListsNone, ListsOnly, PopsNone, StaysIfSeen, IsOffered, IsMarkedIfThere, IsListedIfNew, MarksOnlyAsCommon, has_all, has_mark, left};
 ghost use Rattle.gixp_negotiators.specs.Spread.{was_seen, BecomesCommon, KeepsSpread, SpreadsFrom, StaysNewly, AllRead, AllHeld, MarksThrough, MarksCommonAmong, Spreads};
 ghost use Rattle.gixp_negotiators.specs.Owed.{FitsOwing};
 ghost use Rattle.gixp_negotiators.specs.Queued.{AllCommon};

@@ -2,6 +2,7 @@ use Rattle.std.proofs.Common.{refl}
 use Rattle.gixp_negotiators.specs.MarkLaws.{grows_left}
 use Rattle.gixp_negotiators.proofs.LookLemmas.{grows_looked, held_looked, found_looked, missing_looked, none_looked, absent_looked, timed_looked}
 use Rattle.gixp_negotiators.specs.Marks.{COMMON, COMMON_REF, SEEN, POPPED, Grows}
+use Rattle.gixp_negotiators.proofs.LookedLemmas.{looked_lookup}
 use Rattle.gixp_negotiators.proofs.marks.look.Goals as goal
 
 pub returns-clause-found : goal.returns-clause-found
@@ -53,3 +54,8 @@ returns-clause-held g c = held_looked c.args.graph.now.graph c.lookup.new.self.g
 
 pub returns-clause-marks : goal.returns-clause-marks
 returns-clause-marks g c b z = none_looked b z c.args.graph.now.graph c.lookup.new.self.graph c.args.id.now c.in_ok-lookup.ensures.ok
+
+pub returns-in_err-lookup-clause-looks : goal.returns-in_err-lookup-clause-looks
+returns-in_err-lookup-clause-looks g c =
+    looked_lookup c.in_err-lookup.field-0 _ c.from_residual.ensures.1 c.in_err-lookup.ensures.err c.lookup.ensures.failures
+    c.in_err-lookup.ensures.failed c.in_err-lookup.ensures.refused

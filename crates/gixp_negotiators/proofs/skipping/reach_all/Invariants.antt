@@ -4,7 +4,7 @@ use Rattle.gixp_graph.specs.GraphData.{GraphData}
 use Rattle.gixp_negotiators.specs.declared.queue.Waiting.{Waiting}
 use Rattle.gixp_negotiators.specs.LooksUp.{LookedUp}
 use Rattle.gixp_negotiators.specs.Work.{to_mark}
-use Rattle.gixp_negotiators.specs.Marks.{Grows}
+use Rattle.gixp_negotiators.specs.Marks.{Grows, MarksOnlyAsCommon}
 use Rattle.gixp_negotiators.specs.Owed.{FitsOwing}
 use Rattle.gixp_negotiators.specs.Spread.{was_seen, BecomesCommon, IsNewlyCommon, MarksCommonAmong, KeepsSpread}
 use Rattle.gixp_negotiators.proofs.skipping.reach_all.Given as goal

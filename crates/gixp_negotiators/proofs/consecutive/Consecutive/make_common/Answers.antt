@@ -18,9 +18,9 @@ returns-clause-steps g c =
     rw c.in-Some.is at c.in_ok-flags.ensures.claimed in
     record {
       keeps = rw c.discount.ensures.queue (timed_fits _ _ _ _ _ c.claim.ensures.looks.grows
-    (settled _ _ _ _ _ c.args.id.now c.in-Some.flags k c.claim.ensures.looks.grows
-    (c.claim.ensures.sees refl) (c.claim.ensures.pops refl) c.claim.ensures.marks_common_only c.discount.ensures.waits
-    c.discount.ensures.unseen c.discount.ensures.taken));
+          (settled _ _ _ _ _ c.args.id.now c.in-Some.flags k c.claim.ensures.looks.grows
+          (c.claim.ensures.sees refl) (c.claim.ensures.pops refl) c.claim.ensures.marks_common_only c.discount.ensures.waits
+          c.discount.ensures.unseen c.discount.ensures.taken));
       lists = c.claim.ensures.lists refl;
       pops = c.claim.ensures.pops refl;
     }

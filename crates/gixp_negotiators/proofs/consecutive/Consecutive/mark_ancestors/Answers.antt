@@ -16,7 +16,8 @@ returns-in_default-clause-steps g c =
 
 pub returns-clause-steps : goal.returns-clause-steps
 returns-clause-steps g c =
-    steps_on c.look.ensures.looks.grows (steps_unmarked c.look.ensures.looks.grows c.look.ensures.sees c.look.ensures.settles c.look.ensures.lists c.look.ensures.pops) c.in_ok-spread_all.ensures.steps
+    steps_on c.look.ensures.looks.grows (steps_unmarked c.look.ensures.looks.grows c.look.ensures.sees c.look.ensures.settles
+    c.look.ensures.lists c.look.ensures.pops) c.in_ok-spread_all.ensures.steps
 
 pub returns-then-has-clause-steps : goal.returns-then-has-clause-steps
 returns-then-has-clause-steps g c =

@@ -7,7 +7,8 @@ use Rattle.gixp_negotiators.proofs.consecutive.Consecutive.reach.Goals as goal
 
 pub returns-clause-spreads : goal.returns-clause-spreads
 returns-clause-spreads g c =
-    kept_settled is_there stays_there _ _ c.args.id.now _ _ c.make_common.ensures.looks.grows c.make_common.ensures.marks_common_only c.in_ok-push.ensures.items
+    kept_settled is_there stays_there _ _ c.args.id.now _ _ c.make_common.ensures.looks.grows
+    c.make_common.ensures.marks_common_only c.in_ok-push.ensures.items
 
 pub returns-then-not-branch-clause-spreads : goal.returns-then-not-branch-clause-spreads
 returns-then-not-branch-clause-spreads g c =

@@ -9,7 +9,7 @@ use Rattle.gixp_negotiators.proofs.InTurnLemmas.{steps_unmarked, steps_on}
 use Rattle.gixp_negotiators.specs.Spread.{is_there, MarksCommonWithin, OwesAmong}
 use Rattle.gixp_negotiators.proofs.SpreadLemmas.{stays_there, parents_common, common_since, from_unseen, from_pushed, from_parents}
 use Rattle.gixp_negotiators.proofs.SeeLemmas.{sees_same, sees_on, sees_one, near_unseen}
-use Rattle.gixp_negotiators.proofs.LookedLemmas.{looked_on, looked_ok, looked_from, looked_memory}
+use Rattle.gixp_negotiators.proofs.LookedLemmas.{looked_on, looked_ok, looked_from, looked_failed}
 use Rattle.gixp_negotiators.proofs.consecutive.Consecutive.spread.Goals as goal
 
 pub returns-in_default-clause-steps : goal.returns-in_default-clause-steps
@@ -18,11 +18,13 @@ returns-in_default-clause-steps g c =
 
 pub returns-clause-steps : goal.returns-clause-steps
 returns-clause-steps g c =
-    steps_on c.look.ensures.looks.grows (steps_unmarked c.look.ensures.looks.grows c.look.ensures.sees c.look.ensures.settles c.look.ensures.lists c.look.ensures.pops) c.in_ok-reach_all.ensures.steps
+    steps_on c.look.ensures.looks.grows (steps_unmarked c.look.ensures.looks.grows c.look.ensures.sees c.look.ensures.settles
+    c.look.ensures.lists c.look.ensures.pops) c.in_ok-reach_all.ensures.steps
 
 pub returns-then-not-has-clause-steps : goal.returns-then-not-has-clause-steps
 returns-then-not-has-clause-steps g c =
-    steps_on c.look.ensures.looks.grows (steps_unmarked c.look.ensures.looks.grows c.look.ensures.sees c.look.ensures.settles c.look.ensures.lists c.look.ensures.pops)
+    steps_on c.look.ensures.looks.grows (steps_unmarked c.look.ensures.looks.grows c.look.ensures.sees c.look.ensures.settles
+    c.look.ensures.lists c.look.ensures.pops)
     record { keeps = c.in_ok-push.ensures.keeps; lists = c.in_ok-push.ensures.lists refl; pops = c.in_ok-push.ensures.pops }
 
 pub returns-in_default-clause-spreads : goal.returns-in_default-clause-spreads
@@ -114,5 +116,5 @@ returns-in_err-push-clause-looks g c = looked_from _ c.from_residual-in_err-push
     (looked_on _ c.in_ok-flags.ensures.looks c.in_err-push.ensures.looks)
 
 pub returns-in_err-parents-clause-looks : goal.returns-in_err-parents-clause-looks
-returns-in_err-parents-clause-looks g c = looked_from _ c.from_residual-in_err-parents.ensures.1
-    (looked_memory _ c.in_err-parents.ensures.failed c.in_ok-flags.ensures.looks)
+returns-in_err-parents-clause-looks g c = looked_failed _ _ c.from_residual-in_err-parents.ensures.1 c.in_err-parents.ensures.failed
+    c.in_ok-flags.ensures.looks

@@ -7,7 +7,7 @@ use Rattle.gixp_negotiators.proofs.FitLemmas.{timed_on, timed_taken, fits_taken,
 use Rattle.gixp_negotiators.specs.Spread.{is_there}
 use Rattle.gixp_negotiators.proofs.SpreadLemmas.{stays_there, stays_grown, stays_on}
 use Rattle.gixp_negotiators.proofs.SeeLemmas.{sees_same, sees_on, opens_taken, shared_common}
-use Rattle.gixp_negotiators.proofs.LookedLemmas.{looked_on, looked_ok, looked_from, looked_memory}
+use Rattle.gixp_negotiators.proofs.LookedLemmas.{looked_on, looked_ok, looked_from, looked_failed}
 use Rattle.gixp_negotiators.proofs.consecutive.Consecutive.take.Goals as goal
 
 pub returns-in_default-clause-keeps : goal.returns-in_default-clause-keeps
@@ -87,5 +87,5 @@ pub returns-in_err-flags-clause-looks : goal.returns-in_err-flags-clause-looks
 returns-in_err-flags-clause-looks g c = looked_from _ c.from_residual.ensures.1 c.in_err-flags.ensures.looks
 
 pub returns-in_err-parents-clause-looks : goal.returns-in_err-parents-clause-looks
-returns-in_err-parents-clause-looks g c = looked_from _ c.from_residual-in_err-parents.ensures.1
-    (looked_memory _ c.in_err-parents.ensures.failed c.in_ok-flags.ensures.looks)
+returns-in_err-parents-clause-looks g c = looked_failed _ _ c.from_residual-in_err-parents.ensures.1 c.in_err-parents.ensures.failed
+    c.in_ok-flags.ensures.looks

@@ -3,7 +3,7 @@ use Rattle.std.specs.Prelude.{All}
 use Rattle.std.specs.BinaryHeap.{heap_items}
 use Rattle.gixp_negotiators.specs.LooksUp.{LookedUp}
 use Rattle.gixp_negotiators.specs.Work.{to_mark}
-use Rattle.gixp_negotiators.specs.Marks.{COMMON, SEEN, has_mark}
+use Rattle.gixp_negotiators.specs.Marks.{COMMON, SEEN, MarksOnlyAsCommon, has_mark}
 use Rattle.gixp_hash.specs.declared.object_id.ObjectId.{ObjectId}
 use Rattle.gixp_negotiators.specs.Queued.{FitsSeen}
 use Rattle.gixp_negotiators.specs.Owed.{FitsOwing}

@@ -18,7 +18,7 @@ use Rattle.gixp_negotiators.proofs.GrowLemmas.{same_id, has_part}
 use Rattle.gixp_negotiators.proofs.UnreadLemmas.{unread_same, unread_timed}
 use Rattle.gixp_negotiators.proofs.FitLemmas.{seen_grown, fits_admitted, queues_same, queues_pushed, dated_new, shown_some}
 use Rattle.gixp_negotiators.proofs.StepLemmas.{unseen_marked}
-use Rattle.gixp_negotiators.proofs.LookedLemmas.{looked_ok, looked_from, looked_memory, looked_out}
+use Rattle.gixp_negotiators.proofs.LookedLemmas.{looked_ok, looked_from, looked_failed, looked_out}
 use Rattle.gixp_negotiators.proofs.skipping.Skipping.push.Goals as goal
 
 -- none of these sets has the mark of a commit that was taken
@@ -138,12 +138,12 @@ pub returns-in_err-time-clause-looks : goal.returns-in_err-time-clause-looks
 returns-in_err-time-clause-looks g c = looked_from _ c.from_residual.ensures.1 c.in_err-time.ensures.looks
 
 pub returns-in_err-admit-clause-looks : goal.returns-in_err-admit-clause-looks
-returns-in_err-admit-clause-looks g c = looked_from _ c.from_residual-in_err-admit.ensures.1
-    (looked_memory _ c.in_err-admit.ensures.failed c.in_ok-time.ensures.looks)
+returns-in_err-admit-clause-looks g c = looked_failed _ _ c.from_residual-in_err-admit.ensures.1 c.in_err-admit.ensures.failed
+    c.in_ok-time.ensures.looks
 
 pub returns-in_err-due-clause-looks : goal.returns-in_err-due-clause-looks
-returns-in_err-due-clause-looks g c = looked_from _ c.from_residual-in_err-due.ensures.1
-    (looked_memory _ c.in_err-due.ensures.failed c.in_ok-time.ensures.looks)
+returns-in_err-due-clause-looks g c = looked_failed _ _ c.from_residual-in_err-due.ensures.1 c.in_err-due.ensures.failed
+    c.in_ok-time.ensures.looks
 
 pub returns-in_err-push-clause-looks : goal.returns-in_err-push-clause-looks
 returns-in_err-push-clause-looks g c = looked_out _ c.from_residual-in_err-push.ensures.1 c.in_ok-time.ensures.looks

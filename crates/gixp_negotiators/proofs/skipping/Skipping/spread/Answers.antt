@@ -2,7 +2,7 @@ use Rattle.std.proofs.Common.{◌∙◌, subst}
 use Rattle.gixp_negotiators.specs.Spread.{was_seen, MarksCommonAmong}
 use Rattle.gixp_negotiators.proofs.GrowLemmas.{grows_none}
 use Rattle.gixp_negotiators.proofs.SpreadLemmas.{stays_seen, parents_common, from_parents}
-use Rattle.gixp_negotiators.proofs.LookedLemmas.{looked_none, looked_ok, looked_from, looked_memory}
+use Rattle.gixp_negotiators.proofs.LookedLemmas.{looked_none, looked_ok, looked_from, looked_failed}
 use Rattle.gixp_negotiators.proofs.skipping.Skipping.spread.Goals as goal
 
 pub returns-clause-spreads : goal.returns-clause-spreads
@@ -20,8 +20,8 @@ pub returns-clause-looks : goal.returns-clause-looks
 returns-clause-looks g c = looked_ok c.in_ok-reach_all.ensures.looks
 
 pub returns-in_err-parents-clause-looks : goal.returns-in_err-parents-clause-looks
-returns-in_err-parents-clause-looks g c = looked_from _ c.from_residual.ensures.1
-    (looked_memory _ c.in_err-parents.ensures.failed (looked_none c.args.graph.now))
+returns-in_err-parents-clause-looks g c = looked_failed _ _ c.from_residual.ensures.1 c.in_err-parents.ensures.failed
+    (looked_none c.args.graph.now)
 
 pub returns-in_err-reach_all-clause-looks : goal.returns-in_err-reach_all-clause-looks
 returns-in_err-reach_all-clause-looks g c = looked_from _ c.from_residual-in_err-reach_all.ensures.1 c.in_err-reach_all.ensures.looks

@@ -8,7 +8,7 @@ use Rattle.gixp_negotiators.specs.Marks.{COMMON, POPPED, Claims, has_all}
 use Rattle.gixp_negotiators.specs.Queued.{open_one}
 use Rattle.gixp_negotiators.proofs.StepLemmas.{offered, parents_marked}
 use Rattle.gixp_negotiators.proofs.FitLemmas.{seen_taken, seen_spent, released, was_mark, counts_all, counts_on, queues_on, queues_same}
-use Rattle.gixp_negotiators.proofs.LookedLemmas.{looked_on, looked_ok, looked_from, looked_memory}
+use Rattle.gixp_negotiators.proofs.LookedLemmas.{looked_on, looked_ok, looked_from, looked_failed}
 use Rattle.gixp_negotiators.proofs.skipping.Skipping.take.Goals as goal
 
 pub returns-in_default-clause-fits : goal.returns-in_default-clause-fits
@@ -54,7 +54,7 @@ returns-clause-offered g c t =
     offered c.args.graph.now.graph c.claim.new.graph.graph c.follow_all.new.graph.graph c.args.first.now.id c.in-Some.flags k lacks
     c.follow_all.ensures.looks.grows (c.claim.ensures.settles refl)
     (λ four. c.in_ok-any.ensures.settles (legacy_apart c.legacy_of.result c.skip_of-skip.result (c.legacy_of.ensures.passes lacks four)
-    (c.legacy_of.ensures.looks.grows lacks four)))
+    (c.legacy_of.ensures.grows lacks four)))
     (parents_marked c.args.graph.now.graph c.claim.new.graph.graph c.follow_all.new.graph.graph c.args.first.now.id c.deref.result.now
     c.claim.ensures.looks.grows c.follow_all.ensures.looks.grows k.held
     (c.deref.ensures.value ∙ c.in_ok-parents.ensures.parents) c.in_ok-any.ensures.waits)
@@ -78,7 +78,7 @@ returns-clause-takes g c =
     k c.follow_all.ensures.looks.grows (c.deref.ensures.value ∙ c.in_ok-parents.ensures.parents) c.skip_of-skip.ensures
     (subst (λ (s : Skipped). Hands c.legacy_of.result c.deref.result.now c.follow_all.new.graph.graph s
     c.follow_all.new.self.skips.entries) (ap (λ m. m.entries) c.discount.ensures.skips) c.in_ok-any.ensures.hands)
-    c.has-is_common.ensures c.legacy_of.ensures.passes c.legacy_of.ensures.looks.grows c.is_offered.ensures.reached c.in_ok-any.any
+    c.has-is_common.ensures c.legacy_of.ensures.passes c.legacy_of.ensures.grows c.is_offered.ensures.reached c.in_ok-any.any
     c.is_offered.ensures.passed c.in_ok-any.ensures.taken c.is_offered.ensures.last c.in_ok-any.ensures.left
     (c.claim.ensures.settles refl) c.in_ok-any.ensures.settles
 
@@ -96,5 +96,5 @@ pub returns-in_err-flags-clause-looks : goal.returns-in_err-flags-clause-looks
 returns-in_err-flags-clause-looks g c = looked_from _ c.from_residual.ensures.1 c.in_err-flags.ensures.looks
 
 pub returns-in_err-parents-clause-looks : goal.returns-in_err-parents-clause-looks
-returns-in_err-parents-clause-looks g c = looked_from _ c.from_residual-in_err-parents.ensures.1
-    (looked_memory _ c.in_err-parents.ensures.failed c.in_ok-flags.ensures.looks)
+returns-in_err-parents-clause-looks g c = looked_failed _ _ c.from_residual-in_err-parents.ensures.1 c.in_err-parents.ensures.failed
+    c.in_ok-flags.ensures.looks
