@@ -57,5 +57,5 @@ returns-clause-marks g c b z = none_looked b z c.args.graph.now.graph c.lookup.n
 
 pub returns-in_err-lookup-clause-looks : goal.returns-in_err-lookup-clause-looks
 returns-in_err-lookup-clause-looks g c =
-    looked_lookup c.in_err-lookup.field-0 _ c.from_residual.ensures.1 c.in_err-lookup.ensures.err c.lookup.ensures.failures
+    looked_lookup c.in_err-lookup.field-0.0 _ c.from_residual.ensures.1 c.in_err-lookup.ensures.err c.lookup.ensures.failures
     c.in_err-lookup.ensures.failed c.in_err-lookup.ensures.refused
