@@ -75,6 +75,7 @@ impl Queue {
     {
         self.waiting.pop()
     }
+
     /// Takes the first commit, unless all queued commits are common. `uncommon` counts those that aren't.
     pub fn pop_unless_all_common(&mut self, uncommon: usize) -> Option<Waiting>
         ensures some { OnSome result (heap_len self.new.waiting + 1 ≡ heap_len self.old.waiting) }
