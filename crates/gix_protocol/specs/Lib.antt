@@ -166,7 +166,15 @@ pub use Rattle.gixp_negotiators.specs.MarkLaws as NegotiatorMarkLaws
 pub use Rattle.gixp_negotiators.specs.Passing as NegotiatorPassing
 pub use Rattle.gixp_negotiators.specs.Spread as NegotiatorSpread
 pub use Rattle.gixp_negotiators.specs.SpreadLaws as NegotiatorSpreadLaws
+pub use Rattle.gixp_negotiators.specs.Dated as NegotiatorDated
+pub use Rattle.gixp_negotiators.specs.LooksUp as NegotiatorLooksUp
+pub use Rattle.gixp_negotiators.specs.Newest as NegotiatorNewest
+pub use Rattle.gixp_negotiators.specs.OwnCalls as NegotiatorOwnCalls
+pub use Rattle.gixp_negotiators.specs.Owed as NegotiatorOwed
+pub use Rattle.gixp_negotiators.specs.Queued as NegotiatorQueued
+pub use Rattle.gixp_negotiators.specs.Unread as NegotiatorUnread
 pub use Rattle.gixp_negotiators.specs.Waiting as NegotiatorWaiting
+pub use Rattle.gixp_negotiators.specs.Work as NegotiatorWork
 pub use Rattle.gixp_utils.specs.Lines as TextLines
 pub use Rattle.gixp_negotiators.specs.WaitingLaws as NegotiatorWaitingLaws
 pub use Rattle.gixp_memory.specs.Text as RepositoryText

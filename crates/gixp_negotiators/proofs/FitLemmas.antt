@@ -17,7 +17,9 @@ use Rattle.gixp_graph.specs.GraphData.{HeldCommit, Commits, GraphData, shown}
 use Rattle.gixp_graph.specs.GraphLaws.{same_from}
 use Rattle.gixp_negotiators.specs.declared.queue.Waiting.{Waiting}
 use Rattle.gixp_negotiators.specs.Marks.{COMMON, SEEN, POPPED, has_all, has_mark, Grows, AddsNone, AddsOnly, SeesNone, SeesOnly, MarksNoCommon, MarksCommonOnly, PopsNone, PopsOnly, Claims}
-use Rattle.gixp_negotiators.specs.Waiting.{waits_of, queued_one, open_one, open_in, Fits, FitsSeen, KeepsCount, KeepsQueue, KeepsTimed, AllTimed, NoneNewer, AllCommon, IsNewestWaiting, IsNewestAt, IsNewestIn, IsDated, QueuesNew}
+use Rattle.gixp_negotiators.specs.Queued.{waits_of, queued_one, open_one, open_in, Fits, FitsSeen, KeepsCount, AllCommon}
+use Rattle.gixp_negotiators.specs.Newest.{KeepsQueue, KeepsTimed, AllTimed, NoneNewer, IsNewestWaiting, IsNewestAt}
+use Rattle.gixp_negotiators.specs.Dated.{IsNewestIn, IsDated, QueuesNew}
 use Rattle.gixp_negotiators.proofs.GrowLemmas.{same_id, grows_on}
 
 -- a commit that lacks a mark after a step lacked it before

@@ -9,7 +9,8 @@ use Rattle.gixp_graph.specs.GraphData.{Commits, GraphData}
 use Rattle.gixp_graph.specs.GraphLaws.{same_from}
 use Rattle.gixp_negotiators.specs.declared.queue.Waiting.{Waiting}
 use Rattle.gixp_negotiators.specs.Marks.{COMMON, SEEN, POPPED, has_mark, Grows, SeesNone, MarksNoCommon, MarksCommonOnly, PopsNone}
-use Rattle.gixp_negotiators.specs.Waiting.{queued_one, open_in, owed_by, FitsSeen, FitsOwing}
+use Rattle.gixp_negotiators.specs.Queued.{queued_one, open_in, FitsSeen}
+use Rattle.gixp_negotiators.specs.Owed.{owed_by, FitsOwing}
 use Rattle.gixp_negotiators.proofs.FitLemmas.{same_none, same_queued, queued, spent, open_kept, open_settled}
 
 -- 1 for a commit that wasn't taken, else 0

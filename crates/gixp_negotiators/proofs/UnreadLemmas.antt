@@ -15,7 +15,7 @@ use Rattle.gixp_graph.specs.GraphLaws.{same_from}
 use Rattle.gixp_negotiators.specs.Marks.{COMMON, SEEN, POPPED, has_all, has_mark, Grows, SeesNone, MarksCommonOnly, PopsNone, PopsOnly}
 use Rattle.gixp_negotiators.specs.MarkLaws.{held_marked}
 use Rattle.gixp_negotiators.specs.Spread.{AllRead, AllHeld, IsNewlyCommon, MarksOn, MarksThrough, MarksCommonAmong}
-use Rattle.gixp_negotiators.specs.Waiting.{KeepsUnread}
+use Rattle.gixp_negotiators.specs.Unread.{KeepsUnread}
 use Rattle.gixp_negotiators.proofs.GrowLemmas.{same_id}
 use Rattle.gixp_negotiators.proofs.FitLemmas.{lacked, none_held}
 

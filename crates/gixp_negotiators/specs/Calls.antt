@@ -9,7 +9,10 @@ use Rattle.gixp_negotiators.specs.declared.skipping.Skipping.{Skipping}
 use Rattle.gixp_negotiators.specs.Marks.{COMMON, SEEN, Grows, Offers, SeesNone, SeesOnly, MarksNoCommon, ListsNone, ListsOnly, PopsNone, StaysIfSeen, IsMarkedIfThere, IsListedIfNew, has_mark}
 use Rattle.gixp_negotiators.specs.Spread.{is_there, was_seen, WhereNew, HasCommonParents, StaysSpread, Spreads, AllRead, AllHeld, MarksThrough, MarksCommonFrom, SeesCommon, SeesAmong, FindsCommon}
 use Rattle.gixp_negotiators.specs.Passing.{Distances}
-use Rattle.gixp_negotiators.specs.Waiting.{FitsSeen, KeepsTimed, KeepsCount, Picks, EndsAtOnce, QueuesNew, PicksDated, KeepsUnread, IsUnreadIfNew}
+use Rattle.gixp_negotiators.specs.Queued.{FitsSeen, KeepsCount, EndsAtOnce}
+use Rattle.gixp_negotiators.specs.Newest.{KeepsTimed, Picks}
+use Rattle.gixp_negotiators.specs.Dated.{QueuesNew, PicksDated}
+use Rattle.gixp_negotiators.specs.Unread.{KeepsUnread, IsUnreadIfNew}
 
 -- ---- `consecutive`
 
@@ -20,6 +23,12 @@ Steps n g m h = KeepsTimed n.uncommon (heap_items n.queue.waiting) g m.uncommon 
 -- a step that takes this queued commit keeps the invariant
 abbrev pub StepsTaking : Waiting → Consecutive → GraphData → Consecutive → GraphData → Type 0
 StepsTaking first n g m h = KeepsTimed n.uncommon (first ∷ heap_items n.queue.waiting) g m.uncommon (heap_items m.queue.waiting) h
+
+-- a step that may queue commits, takes none, and marks none as a ref of the server
+pub record QueuesInTurn (n : Consecutive) (g : GraphData) (m : Consecutive) (h : GraphData) : Type 0 where
+  pub keeps : Steps n g m h
+  pub lists : ListsNone g h
+  pub pops : PopsNone g h
 
 -- `known_common`: the commit is queued, and is the only one that is newly marked as a ref of the server; its parents
 -- become common, unless it is common itself; every other commit that is queued is common; only the commit and its

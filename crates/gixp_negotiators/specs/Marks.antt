@@ -84,6 +84,12 @@ PopsNone g h = AddsNone POPPED g h
 abbrev pub PopsOnly : ObjectId → GraphData → GraphData → Type 0
 PopsOnly one g h = AddsOnly POPPED one g h
 
+-- commits may become common; none gets another mark of a negotiator
+pub record MarksOnlyAsCommon (g h : GraphData) : Type 0 where
+  pub sees : SeesNone g h
+  pub lists : ListsNone g h
+  pub pops : PopsNone g h
+
 -- the objects have a commit, it is held, and it has these marks
 pub record IsFoundWith (g : GraphData) (id : ObjectId) (flags : Flags) : Type 0 where
   pub read : IsSome (commit_at g.objects id)

@@ -1,12 +1,15 @@
 //! Marks of commits.
-ghost use Rattle.std.specs.Prelude.{◌≡◌, ℕ, ◌≤◌, ◌==◌, ◌||◌, IsTrue, IfOk, IfErr, IfSome, IfNone, OnOk, IsSome, Some, None, bit_and, true, false};
+ghost use Rattle.std.specs.Prelude.{◌≡◌, ℕ, ◌≤◌, ◌==◌, ◌||◌, IsTrue, IfOk, IfErr, IfSome, IfNone, IsSome, Some, None, bit_and, true, false};
 ghost use Rattle.std.specs.FinMap as finite;
 ghost use Rattle.gixp_graph.specs.Object.{commit_at, time_at};
-ghost use Rattle.gixp_graph.specs.Negotiation.{IsRefusal, ErrorIsLookupRefusal};
+ghost use Rattle.gixp_graph.specs.GraphData.{parents_in};
+ghost use Rattle.gixp_graph.specs.Negotiation.{IsMemory};
+ghost use Rattle.gixp_negotiators.specs.LooksUp.{LooksUp};
 ghost use Rattle.gixp_negotiators.specs.Marks.{COMMON, COMMON_REF, SEEN, POPPED, Grows, Claims, IsFoundWith, IsMarkedIfThere, IsMarkedIfSeen, AddsNone, SeesNone, SeesOnly, MarksNoCommon, MarksCommonOnly, ListsNone, ListsOnly, PopsNone, PopsOnly, has_mark, has_all, left};
 
 use gixp_graph::{Flags, Graph, NegotiatorError, Objects};
 use gixp_hash::ObjectId;
+use std::alloc::Global;
 
 /// The marks of a queued common commit.
 pub(crate) const SEEN_COMMON: Flags = Flags(Flags::SEEN.0 | Flags::COMMON.0);
@@ -46,13 +49,7 @@ pub(crate) fn look<O: Objects>(
     ensures pops { PopsNone graph.old.graph graph.new.graph }
     ensures marks { (mark : ℕ) → has_all mark 0 ≡ false → AddsNone mark graph.old.graph graph.new.graph }
     ensures held { IsSome (finite.get graph.old.graph.held id.now) → graph.new.graph ≡ graph.old.graph }
-    ensures grows { Grows graph.old.graph graph.new.graph }
-    ensures seen { left SEEN graph.new.graph ≤ left SEEN graph.old.graph }
-    ensures common { left COMMON graph.new.graph ≤ left COMMON graph.old.graph }
-    ensures failures { graph.old.failures ≤ graph.new.failures }
-    ensures failed { IfErr result (IsRefusal 0 0 graph.old.failures graph.new.failures) }
-    ensures unrefused { OnOk result (graph.new.refusals ≡ graph.old.refusals) }
-    ensures refused { IfErr result (λ e. ErrorIsLookupRefusal e graph.old.refusals graph.new.refusals) }
+    ensures looks { LooksUp graph.old graph.new result }
 {
     Ok(graph.lookup(id)?)
 }
@@ -110,13 +107,7 @@ pub(crate) fn claim<O: Objects>(
     ensures lists_only { ListsOnly id.now graph.old.graph graph.new.graph }
     ensures pops { bit_and marks.0 POPPED ≡ 0 → PopsNone graph.old.graph graph.new.graph }
     ensures pops_only { PopsOnly id.now graph.old.graph graph.new.graph }
-    ensures grows { Grows graph.old.graph graph.new.graph }
-    ensures seen { left SEEN graph.new.graph ≤ left SEEN graph.old.graph }
-    ensures common { left COMMON graph.new.graph ≤ left COMMON graph.old.graph }
-    ensures failures { graph.old.failures ≤ graph.new.failures }
-    ensures failed { IfErr result (IsRefusal 0 0 graph.old.failures graph.new.failures) }
-    ensures unrefused { OnOk result (graph.new.refusals ≡ graph.old.refusals) }
-    ensures refused { IfErr result (λ e. ErrorIsLookupRefusal e graph.old.refusals graph.new.refusals) }
+    ensures looks { LooksUp graph.old graph.new result }
 {
     let Some((time, flags)) = look(graph, id)? else {
         return Ok(None);
@@ -137,4 +128,16 @@ pub(crate) fn is_marked<O: Objects>(graph: &Graph<O>, id: &ObjectId, marks: Flag
         Some((_, flags)) => has(flags, marks),
         None => false,
     }
+}
+
+/// The parents of a held commit.
+pub(crate) fn parents_of<O: Objects>(
+    graph: &Graph<O>,
+    alloc: Global,
+    id: &ObjectId,
+) -> Result<Vec<ObjectId>, NegotiatorError>
+    ensures parents { IfOk result (λ parents. parents.items ≡ parents_in graph.now.graph.held id.now) }
+    ensures failed { IfErr result IsMemory }
+{
+    Ok(graph.parents(alloc, id)?)
 }

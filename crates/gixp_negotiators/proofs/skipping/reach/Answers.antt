@@ -6,6 +6,7 @@ use Rattle.gixp_negotiators.proofs.OweLemmas.{owing_reached}
 use Rattle.gixp_negotiators.specs.Spread.{was_seen}
 use Rattle.gixp_negotiators.proofs.SpreadLemmas.{stays_seen, kept_none, kept_settled, newly_pushed}
 use Rattle.gixp_negotiators.proofs.UnreadLemmas.{among_same, among_one}
+use Rattle.gixp_negotiators.proofs.LookedLemmas.{looked_none, looked_held, looked_out}
 use Rattle.gixp_negotiators.proofs.skipping.reach.Goals as goal
 
 pub returns-clause-fits : goal.returns-clause-fits
@@ -48,3 +49,19 @@ returns-clause-newly g c f v all =
 
 pub returns-then-not-is_due-clause-spreads : goal.returns-then-not-is_due-clause-spreads
 returns-then-not-is_due-clause-spreads g c = kept_none was_seen stays_seen _ _
+
+pub returns-clause-looks : goal.returns-clause-looks
+returns-clause-looks g c = looked_held c.args.graph.now c.add.new.graph c.add.ensures.grows c.add.ensures.failures c.add.ensures.refusals
+
+pub returns-clause-marks : goal.returns-clause-marks
+returns-clause-marks g c = record { sees = c.add.ensures.sees refl; lists = c.add.ensures.lists refl; pops = c.add.ensures.pops refl }
+
+pub returns-then-not-is_due-clause-looks : goal.returns-then-not-is_due-clause-looks
+returns-then-not-is_due-clause-looks g c = looked_none _
+
+pub returns-then-not-is_due-clause-marks : goal.returns-then-not-is_due-clause-marks
+returns-then-not-is_due-clause-marks g c = record { sees = λ q m. m; lists = λ q m. m; pops = λ q m. m }
+
+pub returns-in_err-push-clause-looks : goal.returns-in_err-push-clause-looks
+returns-in_err-push-clause-looks g c = looked_out _ c.from_residual.ensures.1
+    (looked_held c.args.graph.now c.add.new.graph c.add.ensures.grows c.add.ensures.failures c.add.ensures.refusals)
