@@ -167,7 +167,7 @@ pub use Rattle.gixp_negotiators.specs.Passing as NegotiatorPassing
 pub use Rattle.gixp_negotiators.specs.Spread as NegotiatorSpread
 pub use Rattle.gixp_negotiators.specs.SpreadLaws as NegotiatorSpreadLaws
 pub use Rattle.gixp_negotiators.specs.Dated as NegotiatorDated
-pub use Rattle.gixp_negotiators.specs.LooksUp as NegotiatorLooksUp
+pub use Rattle.gixp_negotiators.specs.LooksUpCommits as NegotiatorLooksUpCommits
 pub use Rattle.gixp_negotiators.specs.Newest as NegotiatorNewest
 pub use Rattle.gixp_negotiators.specs.OwnCalls as NegotiatorOwnCalls
 pub use Rattle.gixp_negotiators.specs.Owed as NegotiatorOwed

@@ -11,7 +11,7 @@ use Rattle.gixp_graph.specs.Refusals.{Written, ErrorIsRefusal}
 use Rattle.gixp_graph.specs.Negotiation.{IsMemory, IsRefusal, ErrorIsLookupRefusal}
 use Rattle.gixp_negotiators.specs.Marks.{COMMON, SEEN, Grows}
 use Rattle.gixp_negotiators.specs.MarkLaws.{grows_left}
-use Rattle.gixp_negotiators.specs.LooksUp.{LooksUp, LookedUp}
+use Rattle.gixp_negotiators.specs.LooksUpCommits.{LooksUpCommits, LookedUp}
 use Rattle.gixp_negotiators.proofs.GrowLemmas.{grows_none, grows_on}
 
 -- a failure that was counted since one graph was counted since an earlier one
@@ -38,8 +38,8 @@ pub looked_none : (g : GraphValue) → LookedUp g g
 looked_none g = looked_held g g (grows_none g.graph) refl refl
 
 -- a call after calls that succeeded
-pub looked_on : {A B : Type 0} {g h k : GraphValue} {a : A} → (r : Result B NegotiatorError) → LooksUp g h (Ok a) → LooksUp h k r
-    → LooksUp g k r
+pub looked_on : {A B : Type 0} {g h k : GraphValue} {a : A} → (r : Result B NegotiatorError) → LooksUpCommits g h (Ok a) → LooksUpCommits h k r
+    → LooksUpCommits g k r
 looked_on {A} {B} {g} {h} {k} {a} (Ok b) v w = record {
   grows = grows_on g.graph h.graph k.graph v.grows w.grows;
   seen = omega (arith, v.seen, w.seen);
@@ -60,7 +60,7 @@ looked_on {A} {B} {g} {h} {k} {a} (Err e) v w = record {
 }
 
 -- another value of a call that succeeded
-pub looked_ok : {A B : Type 0} {g h : GraphValue} {a : A} {b : B} → LooksUp g h (Ok a) → LooksUp g h (Ok b)
+pub looked_ok : {A B : Type 0} {g h : GraphValue} {a : A} {b : B} → LooksUpCommits g h (Ok a) → LooksUpCommits g h (Ok b)
 looked_ok v = record {
   grows = v.grows;
   seen = v.seen;
@@ -73,7 +73,7 @@ looked_ok v = record {
 
 -- the error of a failed call is returned
 pub looked_from : {A B : Type 0} {g h : GraphValue} {e : NegotiatorError} → (r : Result B NegotiatorError) → IsErrAnd r (λ x. x ≡ e)
-    → LooksUp {T = A} g h (Err e) → LooksUp g h r
+    → LooksUpCommits {T = A} g h (Err e) → LooksUpCommits g h r
 looked_from (Ok b) is v = absurd is
 looked_from {A} {B} {g} {h} {e} (Err x) is v = record {
   grows = v.grows;
@@ -90,8 +90,8 @@ unrefused_memory (Lookup x) s t m is = inl (m, is)
 unrefused_memory Memory s t m is = is
 
 -- an allocation failed after calls that succeeded
-pub looked_memory : {A B : Type 0} {g h : GraphValue} {a : A} → (e : NegotiatorError) → IsMemory e → LooksUp {T = A} g h (Ok a)
-    → LooksUp {T = B} g h (Err e)
+pub looked_memory : {A B : Type 0} {g h : GraphValue} {a : A} → (e : NegotiatorError) → IsMemory e → LooksUpCommits {T = A} g h (Ok a)
+    → LooksUpCommits {T = B} g h (Err e)
 looked_memory {A} {B} {g} {h} e m v = record {
   grows = v.grows;
   seen = v.seen;
@@ -104,17 +104,17 @@ looked_memory {A} {B} {g} {h} e m v = record {
 
 -- the error of the failed allocation is returned
 pub looked_failed : {A B : Type 0} {g h : GraphValue} {a : A} → (e : NegotiatorError) (r : Result B NegotiatorError)
-    → IsErrAnd r (λ x. x ≡ e) → IsMemory e → LooksUp {T = A} g h (Ok a) → LooksUp g h r
+    → IsErrAnd r (λ x. x ≡ e) → IsMemory e → LooksUpCommits {T = A} g h (Ok a) → LooksUpCommits g h r
 looked_failed {A} {B} e r is m v = looked_from {A = A} r is (looked_memory e m v)
 
 pub looked_out : {A B : Type 0} {g h : GraphValue} {a : A} → (r : Result B NegotiatorError) → IsErrAnd r (λ x. x ≡ Memory)
-    → LooksUp {T = A} g h (Ok a) → LooksUp g h r
+    → LooksUpCommits {T = A} g h (Ok a) → LooksUpCommits g h r
 looked_out r is v = looked_failed Memory r is tt v
 
 -- the look-up failed
 pub looked_lookup : {A : Type 0} {g h : GraphValue} → (e : ObjectError) (r : Result A NegotiatorError) → IsErrAnd r (λ x. x ≡ Lookup e)
     → h.graph ≡ g.graph → g.failures ≤ h.failures → (e ≡ object.Memory) ⊎ HasRisen g.failures h.failures
-    → ErrorIsRefusal e g.refusals h.refusals → LooksUp g h r
+    → ErrorIsRefusal e g.refusals h.refusals → LooksUpCommits g h r
 looked_lookup {A} {g} {h} e r is same failures failed refused =
     let w : Grows g.graph h.graph = subst (Grows g.graph) (sym same) (grows_none g.graph) in
     looked_from {A = A} {e = Lookup e} r is record {

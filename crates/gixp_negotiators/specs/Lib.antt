@@ -7,7 +7,7 @@ pub mod Calls
 pub mod Dated
 pub mod Distance
 pub mod HaveList
-pub mod LooksUp
+pub mod LooksUpCommits
 pub mod MarkLaws
 pub mod Marks
 pub mod Newest

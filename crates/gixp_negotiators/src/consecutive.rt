@@ -9,7 +9,7 @@ ghost use Rattle.gixp_negotiators.specs.Spread.{is_there, IsKnown, WhereOpen, Wh
 ghost use Rattle.gixp_negotiators.specs.Spread.{KeepsSpread, SpreadsFrom, SpreadsAllFrom, StaysSpread};
 ghost use Rattle.gixp_negotiators.specs.Queued.{Fits, AllCommon, EndsAtOnce};
 ghost use Rattle.gixp_negotiators.specs.Newest.{IsNewestTimed};
-ghost use Rattle.gixp_negotiators.specs.LooksUp.{LooksUp};
+ghost use Rattle.gixp_negotiators.specs.LooksUpCommits.{LooksUpCommits};
 ghost use Rattle.gixp_negotiators.specs.Work.{to_take, to_mark};
 ghost use Rattle.gixp_negotiators.specs.Calls.{Steps, StepsTaking, QueuesInTurn};
 
@@ -69,7 +69,7 @@ impl Consecutive {
         ensures lists_only { OnOk result (ListsOnly id.now graph.old.graph graph.new.graph) }
         ensures pops { OnOk result (PopsNone graph.old.graph graph.new.graph) }
         ensures again { OnOk result (StaysIfSeen self.old graph.old.graph id.now self.new graph.new.graph) }
-        ensures looks { LooksUp graph.old graph.new result }
+        ensures looks { LooksUpCommits graph.old graph.new result }
     {
         let Some((time, flags)) = claim(graph, id, Flags::SEEN, marks)? else {
             return Ok(());
@@ -122,7 +122,7 @@ impl Consecutive {
         ensures marks_common_only { MarksCommonOnly id.now graph.old.graph graph.new.graph }
         ensures sees { SeesNone graph.old.graph graph.new.graph }
         ensures settled { IfOk result (λ done. IsTrue done → has_mark COMMON graph.new.graph.held id.now ≡ true) }
-        ensures looks { LooksUp graph.old graph.new result }
+        ensures looks { LooksUpCommits graph.old graph.new result }
     {
         let Some((_, flags)) = claim(graph, id, Flags::COMMON, Flags::COMMON)? else {
             return Ok(false);
@@ -148,7 +148,7 @@ impl Consecutive {
         ensures common { OnOk result (AllCommonAmong graph.old.graph due.old.items → AllCommonAmong graph.new.graph due.new.items) }
         ensures marks_common_only { MarksCommonOnly id.now graph.old.graph graph.new.graph }
         ensures owes { OnOk result (OwesAmong (id.now ∷ []) due.old.items due.new.items) }
-        ensures looks { LooksUp graph.old graph.new result }
+        ensures looks { LooksUpCommits graph.old graph.new result }
     {
         if !self.make_common(graph, id)? {
             return Ok(());
@@ -172,7 +172,7 @@ impl Consecutive {
         ensures common { OnOk result (AllCommonAmong graph.old.graph due.old.items → AllCommonAmong graph.new.graph due.new.items) }
         ensures among { OnOk result (MarksCommonWithin ids.now graph.old.graph graph.new.graph) }
         ensures owes { OnOk result (OwesAmong ids.now due.old.items due.new.items) }
-        ensures looks { LooksUp graph.old graph.new result }
+        ensures looks { LooksUpCommits graph.old graph.new result }
     {
         for id in ids {
             self.reach(graph, id, due)?;
@@ -197,7 +197,7 @@ impl Consecutive {
         ensures common { OnOk result (AllCommonAmong graph.old.graph due.old.items → AllCommonAmong graph.new.graph due.new.items) }
         ensures among { OnOk result (MarksCommonWithin (parents_in graph.new.graph.held id.now) graph.old.graph graph.new.graph) }
         ensures owes { OnOk result (OwesAmong (parents_in graph.new.graph.held id.now) due.old.items due.new.items) }
-        ensures looks { LooksUp graph.old graph.new result }
+        ensures looks { LooksUpCommits graph.old graph.new result }
     {
         let Some((_, flags)) = look(graph, id)? else {
             return Ok(());
@@ -224,7 +224,7 @@ impl Consecutive {
             → HasCommonParents is_there graph.old.graph graph.new.graph id.now) }
         ensures finds { OnOk result (IsKnown graph.old.graph id.now → SeesCommon graph.old.graph graph.new.graph) }
         ensures only { OnOk result (MarksCommonFrom id.now graph.old.graph graph.new.graph) }
-        ensures looks { LooksUp graph.old graph.new result }
+        ensures looks { LooksUpCommits graph.old graph.new result }
     {
         let mut due = Vec::new(self.alloc);
         self.spread(graph, id, &mut due)?;
@@ -247,7 +247,7 @@ impl Consecutive {
             (HasCommonParents is_there graph.old.graph graph.new.graph id.now)) }
         ensures finds { OnOk result (IsKnown graph.old.graph id.now → SeesCommon graph.old.graph graph.new.graph) }
         ensures only { OnOk result (MarksCommonFrom id.now graph.old.graph graph.new.graph) }
-        ensures looks { LooksUp graph.old graph.new result }
+        ensures looks { LooksUpCommits graph.old graph.new result }
     {
         let Some((_, flags)) = look(graph, id)? else {
             return Ok(());
@@ -270,7 +270,7 @@ impl Consecutive {
         ensures finds { OnOk result (SeesCommon graph.old.graph graph.new.graph) }
         ensures only { OnOk result (MarksCommonFrom id.now graph.old.graph graph.new.graph) }
         ensures common { OnOk result (IsMarkedIfThere COMMON graph.old.graph graph.new.graph id.now) }
-        ensures looks { LooksUp graph.old graph.new result }
+        ensures looks { LooksUpCommits graph.old graph.new result }
     {
         if !self.make_common(graph, id)? {
             return Ok(());
@@ -293,7 +293,7 @@ impl Consecutive {
         ensures finds { IsTrue is_common → OnOk result (SeesCommon graph.old.graph graph.new.graph) }
         ensures others { is_common ≡ false → OnOk result (SeesOnly parent.now graph.old.graph graph.new.graph) }
         ensures settles { is_common ≡ false → OnOk result (MarksNoCommon graph.old.graph graph.new.graph) }
-        ensures looks { LooksUp graph.old graph.new result }
+        ensures looks { LooksUpCommits graph.old graph.new result }
     {
         if is_common {
             self.push(graph, parent, SEEN_COMMON)?;
@@ -318,7 +318,7 @@ impl Consecutive {
         ensures finds { IsTrue is_common → OnOk result (SeesCommon graph.old.graph graph.new.graph) }
         ensures others { is_common ≡ false → OnOk result (SeesAmong parents.now graph.old.graph graph.new.graph) }
         ensures settles { is_common ≡ false → OnOk result (MarksNoCommon graph.old.graph graph.new.graph) }
-        ensures looks { LooksUp graph.old graph.new result }
+        ensures looks { LooksUpCommits graph.old graph.new result }
     {
         for parent in parents {
             self.follow(graph, parent, is_common)?;
@@ -350,7 +350,7 @@ impl Consecutive {
         ensures passes { IfOk result (λ offered. offered ≡ false → SeesCommon graph.old.graph graph.new.graph) }
         ensures opens { IfOk result (λ offered. IsTrue offered → OpensParents graph.old.graph first.now.id graph.new.graph) }
         ensures lists { OnOk result (ListsNone graph.old.graph graph.new.graph) }
-        ensures looks { LooksUp graph.old graph.new result }
+        ensures looks { LooksUpCommits graph.old graph.new result }
     {
         let Some((_, flags)) = claim(graph, &first.id, Flags::POPPED, Flags::POPPED)? else {
             return Ok(false);
@@ -379,7 +379,7 @@ impl Consecutive {
         ensures lists { OnOk result (ListsNone graph.old.graph graph.new.graph) }
         ensures ends { IfOk result (λ have. EndsAtOnce self.old.uncommon (heap_items self.old.queue.waiting)
             graph.old.graph have graph.new.graph) }
-        ensures looks { LooksUp graph.old graph.new result }
+        ensures looks { LooksUpCommits graph.old graph.new result }
     {
         while let Some(first) = self.queue.pop_unless_all_common(self.uncommon) {
             if self.take(graph, &first)? {
@@ -406,7 +406,7 @@ impl Consecutive {
         ensures finds { OnOk result (SeesAmong (id.now ∷ []) graph.old.graph graph.new.graph) }
         ensures again { OnOk result (StaysIfSeen self.old graph.old.graph id.now self.new graph.new.graph) }
         ensures only { OnOk result (MarksCommonFrom id.now graph.old.graph graph.new.graph) }
-        ensures looks { LooksUp graph.old graph.new result }
+        ensures looks { LooksUpCommits graph.old graph.new result }
     {
         let Some((_, flags)) = look(graph, id)? else {
             return Ok(());

@@ -4,7 +4,7 @@ ghost use Rattle.std.specs.FinMap as finite;
 ghost use Rattle.gixp_graph.specs.Object.{commit_at, time_at};
 ghost use Rattle.gixp_graph.specs.GraphData.{parents_in};
 ghost use Rattle.gixp_graph.specs.Negotiation.{IsMemory};
-ghost use Rattle.gixp_negotiators.specs.LooksUp.{LooksUp};
+ghost use Rattle.gixp_negotiators.specs.LooksUpCommits.{LooksUpCommits};
 ghost use Rattle.gixp_negotiators.specs.Marks.{COMMON, COMMON_REF, SEEN, POPPED, Grows, Claims, IsFoundWith, IsMarkedIfThere, IsMarkedIfSeen, AddsNone, SeesNone, SeesOnly, MarksNoCommon, MarksCommonOnly, ListsNone, ListsOnly, PopsNone, PopsOnly, has_mark, has_all, left};
 
 use gixp_graph::{Flags, Graph, NegotiatorError, Objects};
@@ -49,7 +49,7 @@ pub(crate) fn look<O: Objects>(
     ensures pops { PopsNone graph.old.graph graph.new.graph }
     ensures marks { (mark : ℕ) → has_all mark 0 ≡ false → AddsNone mark graph.old.graph graph.new.graph }
     ensures held { IsSome (finite.get graph.old.graph.held id.now) → graph.new.graph ≡ graph.old.graph }
-    ensures looks { LooksUp graph.old graph.new result }
+    ensures looks { LooksUpCommits graph.old graph.new result }
 {
     Ok(graph.lookup(id)?)
 }
@@ -107,7 +107,7 @@ pub(crate) fn claim<O: Objects>(
     ensures lists_only { ListsOnly id.now graph.old.graph graph.new.graph }
     ensures pops { bit_and marks.0 POPPED ≡ 0 → PopsNone graph.old.graph graph.new.graph }
     ensures pops_only { PopsOnly id.now graph.old.graph graph.new.graph }
-    ensures looks { LooksUp graph.old graph.new result }
+    ensures looks { LooksUpCommits graph.old graph.new result }
 {
     let Some((time, flags)) = look(graph, id)? else {
         return Ok(None);

@@ -16,7 +16,7 @@ ghost use Rattle.gixp_negotiators.specs.Owed.{FitsOwing};
 ghost use Rattle.gixp_negotiators.specs.Queued.{AllCommon};
 ghost use Rattle.gixp_negotiators.specs.Dated.{IsNewestIn, QueuesNew};
 ghost use Rattle.gixp_negotiators.specs.Unread.{KeepsUnread, IsUnreadIfNew};
-ghost use Rattle.gixp_negotiators.specs.LooksUp.{LooksUp};
+ghost use Rattle.gixp_negotiators.specs.LooksUpCommits.{LooksUpCommits};
 ghost use Rattle.gixp_negotiators.specs.Work.{to_take, to_mark};
 ghost use Rattle.gixp_negotiators.specs.Calls.{FitsSkipping, CountsStill, CountsTaking, CountsAll};
 ghost use Rattle.gixp_negotiators.specs.declared.skipping.Legacy.TheVariants.{Common, Skips};
@@ -106,7 +106,7 @@ impl Skipping {
         ensures unread { OnOk result (KeepsUnread self.old.unread graph.old.graph self.new.unread graph.new.graph) }
         ensures unread_if_new { OnOk result (IsUnreadIfNew graph.old.graph id.now self.new.unread) }
         ensures again { OnOk result (StaysIfSeen self.old graph.old.graph id.now self.new graph.new.graph) }
-        ensures looks { LooksUp graph.old graph.new result }
+        ensures looks { LooksUpCommits graph.old graph.new result }
     {
         let is_read = graph.get(id).is_some();
         let Some((time, _)) = claim(graph, id, Flags::SEEN, marks)? else {
@@ -166,7 +166,7 @@ impl Skipping {
         ensures newly { OnOk result (StaysNewly due.old.items graph.old.graph due.new.items graph.new.graph) }
         ensures among { OnOk result (MarksCommonAmong (parents_in graph.old.graph.held id.now) graph.old.graph graph.new.graph) }
         ensures marks { OnOk result (MarksOnlyAsCommon graph.old.graph graph.new.graph) }
-        ensures looks { LooksUp graph.old graph.new result }
+        ensures looks { LooksUpCommits graph.old graph.new result }
     {
         let parents = parents_of(graph, self.alloc, id)?;
         reach_all(graph, &parents, due)?;
@@ -203,7 +203,7 @@ impl Skipping {
         ensures unread { self.new.unread ≡ self.old.unread }
         ensures through { OnOk result (MarksThrough self.old.unread graph.old.graph id.now graph.new.graph) }
         ensures marks { OnOk result (MarksOnlyAsCommon graph.old.graph graph.new.graph) }
-        ensures looks { LooksUp graph.old graph.new result }
+        ensures looks { LooksUpCommits graph.old graph.new result }
     {
         let mut due = Vec::new(self.alloc);
         reach(graph, id, &mut due)?;
@@ -256,7 +256,7 @@ impl Skipping {
         ensures settles { legacy ≢ Common → OnOk result (MarksNoCommon graph.old.graph graph.new.graph) }
         ensures unread { self.new.unread ≡ self.old.unread }
         ensures marks { OnOk result (MarksOnlyAsCommon graph.old.graph graph.new.graph) }
-        ensures looks { LooksUp graph.old graph.new result }
+        ensures looks { LooksUpCommits graph.old graph.new result }
     {
         match legacy {
             Legacy::Common => {
@@ -289,7 +289,7 @@ impl Skipping {
         ensures lists { OnOk result (ListsNone graph.old.graph graph.new.graph) }
         ensures pops { OnOk result (PopsNone graph.old.graph graph.new.graph) }
         ensures unread { OnOk result (KeepsUnread self.old.unread graph.old.graph self.new.unread graph.new.graph) }
-        ensures looks { LooksUp graph.old graph.new result }
+        ensures looks { LooksUpCommits graph.old graph.new result }
     {
         self.push(graph, parent, Flags::SEEN)?;
         if is_marked(graph, parent, Flags::POPPED) {
@@ -318,7 +318,7 @@ impl Skipping {
         ensures lists { OnOk result (ListsNone graph.old.graph graph.new.graph) }
         ensures pops { OnOk result (PopsNone graph.old.graph graph.new.graph) }
         ensures unread { OnOk result (KeepsUnread self.old.unread graph.old.graph self.new.unread graph.new.graph) }
-        ensures looks { LooksUp graph.old graph.new result }
+        ensures looks { LooksUpCommits graph.old graph.new result }
     {
         let mut any = false;
         for parent in parents {
@@ -343,7 +343,7 @@ impl Skipping {
         ensures queues { OnOk result (QueuesNew (heap_items self.old.queue.waiting) graph.old.graph (heap_items self.new.queue.waiting)) }
         ensures lists { OnOk result (ListsNone graph.old.graph graph.new.graph) }
         ensures unread { OnOk result (KeepsUnread self.old.unread graph.old.graph self.new.unread graph.new.graph) }
-        ensures looks { LooksUp graph.old graph.new result }
+        ensures looks { LooksUpCommits graph.old graph.new result }
     {
         let Some((_, flags)) = claim(graph, &first.id, Flags::POPPED, Flags::POPPED)? else {
             return Ok(false);
@@ -374,7 +374,7 @@ impl Skipping {
         ensures queues { OnOk result (QueuesNew (heap_items self.old.queue.waiting) graph.old.graph (heap_items self.new.queue.waiting)) }
         ensures lists { OnOk result (ListsNone graph.old.graph graph.new.graph) }
         ensures unread { OnOk result (KeepsUnread self.old.unread graph.old.graph self.new.unread graph.new.graph) }
-        ensures looks { LooksUp graph.old graph.new result }
+        ensures looks { LooksUpCommits graph.old graph.new result }
     {
         while let Some(first) = self.queue.pop_unless_all_common(self.uncommon) {
             if self.take(graph, &first)? {
@@ -399,7 +399,7 @@ fn reach<O: Objects>(
     ensures newly { OnOk result (StaysNewly due.old.items graph.old.graph due.new.items graph.new.graph) }
     ensures among { OnOk result (MarksCommonAmong (id.now ∷ []) graph.old.graph graph.new.graph) }
     ensures marks { OnOk result (MarksOnlyAsCommon graph.old.graph graph.new.graph) }
-    ensures looks { LooksUp graph.old graph.new result }
+    ensures looks { LooksUpCommits graph.old graph.new result }
 {
     if !is_due(graph, id) {
         return Ok(());
@@ -435,7 +435,7 @@ fn reach_all<O: Objects>(
     ensures common { OnOk result (All (BecomesCommon was_seen graph.old.graph graph.new.graph) ids.now) }
     ensures among { OnOk result (MarksCommonAmong ids.now graph.old.graph graph.new.graph) }
     ensures marks { OnOk result (MarksOnlyAsCommon graph.old.graph graph.new.graph) }
-    ensures looks { LooksUp graph.old graph.new result }
+    ensures looks { LooksUpCommits graph.old graph.new result }
 {
     for id in ids {
         reach(graph, id, due)?;

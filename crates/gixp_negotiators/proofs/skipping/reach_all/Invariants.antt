@@ -2,7 +2,7 @@ use Rattle.std.proofs.Common.{ℕ, ◌≤◌, List, take}
 use Rattle.std.specs.Prelude.{All}
 use Rattle.gixp_graph.specs.GraphData.{GraphData}
 use Rattle.gixp_negotiators.specs.declared.queue.Waiting.{Waiting}
-use Rattle.gixp_negotiators.specs.LooksUp.{LookedUp}
+use Rattle.gixp_negotiators.specs.LooksUpCommits.{LookedUp}
 use Rattle.gixp_negotiators.specs.Work.{to_mark}
 use Rattle.gixp_negotiators.specs.Marks.{Grows, MarksOnlyAsCommon}
 use Rattle.gixp_negotiators.specs.Owed.{FitsOwing}

@@ -2,7 +2,7 @@ use Rattle.std.proofs.Common.{◌≡◌, ◌≤◌, take, false}
 use Rattle.std.specs.Prelude.{All, IsTrue}
 use Rattle.gixp_negotiators.specs.Marks.{SEEN, MarksNoCommon, IsMarkedIfThere}
 use Rattle.gixp_negotiators.specs.Calls.{QueuesInTurn}
-use Rattle.gixp_negotiators.specs.LooksUp.{LookedUp}
+use Rattle.gixp_negotiators.specs.LooksUpCommits.{LookedUp}
 use Rattle.gixp_negotiators.specs.Work.{to_take}
 use Rattle.gixp_negotiators.specs.Spread.{is_there, SeesCommon, SeesAmong, StaysSpread}
 use Rattle.gixp_negotiators.proofs.consecutive.Consecutive.follow_all.Given as goal

@@ -1,7 +1,7 @@
 use Rattle.std.proofs.Common.{◌≡◌}
 use Rattle.gixp_negotiators.specs.Marks.{ListsNone}
 use Rattle.gixp_negotiators.specs.Calls.{Steps}
-use Rattle.gixp_negotiators.specs.LooksUp.{LookedUp}
+use Rattle.gixp_negotiators.specs.LooksUpCommits.{LookedUp}
 use Rattle.gixp_negotiators.specs.Work.{to_take}
 use Rattle.gixp_negotiators.specs.Spread.{is_there, SeesCommon, StaysSpread}
 use Rattle.gixp_negotiators.proofs.consecutive.Consecutive.next.Given as goal

@@ -2,7 +2,7 @@ use Rattle.std.proofs.Common.{◌≡◌, ◌≤◌, take, true}
 use Rattle.std.specs.Prelude.{All}
 use Rattle.gixp_negotiators.specs.Marks.{COMMON, SeesNone, has_mark, IsMarkedIfThere}
 use Rattle.gixp_negotiators.specs.Calls.{QueuesInTurn}
-use Rattle.gixp_negotiators.specs.LooksUp.{LookedUp}
+use Rattle.gixp_negotiators.specs.LooksUpCommits.{LookedUp}
 use Rattle.gixp_negotiators.specs.Work.{to_mark}
 use Rattle.gixp_negotiators.specs.Spread.{is_there, MarksCommonWithin, OwesAmong, KeepsSpread}
 use Rattle.gixp_negotiators.proofs.consecutive.Consecutive.reach_all.Given as goal

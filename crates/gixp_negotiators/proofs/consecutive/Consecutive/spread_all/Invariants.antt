@@ -3,7 +3,7 @@ use Rattle.std.specs.Prelude.{All, IsSome, ◌||◌}
 use Rattle.gixp_negotiators.specs.Marks.{COMMON, SEEN, has_mark}
 use Rattle.gixp_negotiators.specs.Calls.{QueuesInTurn}
 use Rattle.gixp_graph.specs.Object.{commit_at}
-use Rattle.gixp_negotiators.specs.LooksUp.{LookedUp}
+use Rattle.gixp_negotiators.specs.LooksUpCommits.{LookedUp}
 use Rattle.gixp_negotiators.specs.Work.{to_take, to_mark}
 use Rattle.gixp_negotiators.specs.Spread.{IsFrom, MarksCommonFrom, is_there, SeesCommon, HasCommonParents, SpreadsFrom}
 use Rattle.gixp_negotiators.proofs.consecutive.Consecutive.spread_all.Given as goal

@@ -3,7 +3,7 @@ use Rattle.std.specs.Prelude.{◌≢◌, All}
 use Rattle.gixp_negotiators.specs.declared.skipping.Legacy.TheVariants.{Common}
 use Rattle.gixp_negotiators.specs.Spread.{AllHeld}
 use Rattle.std.specs.BinaryHeap.{heap_items}
-use Rattle.gixp_negotiators.specs.LooksUp.{LookedUp}
+use Rattle.gixp_negotiators.specs.LooksUpCommits.{LookedUp}
 use Rattle.gixp_negotiators.specs.Work.{to_take}
 use Rattle.gixp_negotiators.specs.Marks.{SEEN, MarksNoCommon, ListsNone, PopsNone, IsMarkedIfThere}
 use Rattle.gixp_negotiators.specs.Passing.{Hands, AllTaken}

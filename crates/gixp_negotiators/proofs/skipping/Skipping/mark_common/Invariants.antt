@@ -1,7 +1,7 @@
 use Rattle.std.proofs.Common.{◌≡◌, ℕ, true}
 use Rattle.std.specs.Prelude.{All}
 use Rattle.std.specs.BinaryHeap.{heap_items}
-use Rattle.gixp_negotiators.specs.LooksUp.{LookedUp}
+use Rattle.gixp_negotiators.specs.LooksUpCommits.{LookedUp}
 use Rattle.gixp_negotiators.specs.Work.{to_mark}
 use Rattle.gixp_negotiators.specs.Marks.{COMMON, SEEN, MarksOnlyAsCommon, has_mark}
 use Rattle.gixp_hash.specs.declared.object_id.ObjectId.{ObjectId}

@@ -1,5 +1,5 @@
 use Rattle.std.specs.BinaryHeap.{heap_items}
-use Rattle.gixp_negotiators.specs.LooksUp.{LookedUp}
+use Rattle.gixp_negotiators.specs.LooksUpCommits.{LookedUp}
 use Rattle.gixp_negotiators.specs.Work.{to_take}
 use Rattle.gixp_negotiators.specs.Marks.{ListsNone}
 use Rattle.gixp_negotiators.specs.Spread.{AllHeld}

@@ -1,4 +1,4 @@
--- What a call leaves that looks commits up in a graph.
+-- The effect of a call that looks commits up in a graph.
 use Rattle.std.specs.Prelude.{◌≡◌, ◌≤◌, Result, Ok, IfErr, OnOk}
 use Rattle.gixp_graph.specs.declared.negotiator.NegotiatorError.{NegotiatorError}
 use Rattle.gixp_graph.specs.GraphData.{GraphValue}
@@ -7,7 +7,7 @@ use Rattle.gixp_negotiators.specs.Marks.{COMMON, SEEN, Grows, left}
 
 -- the graph only grows, so no more commits lack a mark. Failed look-ups are counted. The call returns the error of a
 -- failed look-up, or an allocation failed
-pub record LooksUp {T : Type 0} (old new : GraphValue) (result : Result T NegotiatorError) : Type 0 where
+pub record LooksUpCommits {T : Type 0} (old new : GraphValue) (result : Result T NegotiatorError) : Type 0 where
   pub grows : Grows old.graph new.graph
   pub seen : left SEEN new.graph ≤ left SEEN old.graph
   pub common : left COMMON new.graph ≤ left COMMON old.graph
@@ -16,6 +16,6 @@ pub record LooksUp {T : Type 0} (old new : GraphValue) (result : Result T Negoti
   pub unrefused : OnOk result (new.refusals ≡ old.refusals)
   pub refused : IfErr result (λ e. ErrorIsLookupRefusal e old.refusals new.refusals)
 
--- the same of calls that succeeded
+-- the same for calls that succeeded
 abbrev pub LookedUp : GraphValue → GraphValue → Type 0
-LookedUp old new = LooksUp {T = Unit {0}} old new (Ok tt)
+LookedUp old new = LooksUpCommits {T = Unit {0}} old new (Ok tt)
