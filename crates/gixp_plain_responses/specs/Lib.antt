@@ -1,0 +1,5 @@
+pub mod Acknowledgement
+pub mod Band
+pub mod Detailed
+pub mod Order
+pub mod Translation
