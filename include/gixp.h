@@ -130,7 +130,7 @@ uint32_t gixp_prefixes(const uint8_t *specs, size_t specs_len, uint8_t *buffer, 
 
 /* The arguments of a session. The refspecs are one per line. Ids have 20 bytes each. `haves` are objects that exist locally. They are
  * offered in this order, and never requested. `boundary` is the local repository's shallow boundary. A depth of 0 leaves it unchanged. */
-typedef struct gixp_wishes {
+typedef struct gixp_session_input {
     const uint8_t *specs;
     size_t specs_len;
     const uint8_t *haves;
@@ -138,7 +138,7 @@ typedef struct gixp_wishes {
     const uint8_t *boundary;
     size_t boundary_len;
     uint32_t depth;
-} gixp_wishes;
+} gixp_session_input;
 
 /* The caller's next action. */
 typedef struct gixp_step {
@@ -154,7 +154,7 @@ typedef struct gixp_step {
  *
  * With GIXP_NO_ROOM, `length` is the size that the request needs. With GIXP_SERVER, it is the length of the server's message, and
  * `request` has the message if it is large enough. */
-uint32_t gixp_next(const uint8_t *answers, size_t answers_len, const size_t *ends, size_t ends_len, const gixp_wishes *wishes,
+uint32_t gixp_next(const uint8_t *answers, size_t answers_len, const size_t *ends, size_t ends_len, const gixp_session_input *input,
                    uint8_t *request, size_t request_len, gixp_step *step);
 
 /* The text of a number that a call returned, in ASCII, without a NUL. */

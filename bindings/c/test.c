@@ -256,8 +256,8 @@ static uint32_t next(const char *answers, const size_t *ends, size_t count, uint
 {
     size_t len = count ? ends[count - 1] : 0;
     uint8_t *bytes = copy(answers, len), *none = copy("", 0), *spec = copy(SPEC, strlen(SPEC));
-    gixp_wishes wishes = {spec, strlen(SPEC), none, 0, none, 0, 0};
-    uint32_t code = gixp_next(bytes, len, ends, count, &wishes, request, room, step);
+    gixp_session_input input = {spec, strlen(SPEC), none, 0, none, 0, 0};
+    uint32_t code = gixp_next(bytes, len, ends, count, &input, request, room, step);
     free(spec);
     free(none);
     free(bytes);
@@ -289,10 +289,10 @@ static void session(void)
     static const size_t wrong[][2] = {{19, 0}, {21, 20}, {20, 1}, {0, 39}};
     for (size_t i = 0; i < sizeof wrong / sizeof *wrong; i++)
     {
-        gixp_wishes wishes = {spec, len, ids, wrong[i][0], ids, wrong[i][1], 0};
-        CHECK(gixp_next(bytes, ends[0], ends, 1, &wishes, room, 4096, &step) == GIXP_BAD_PLACE && step.length == 0);
+        gixp_session_input input = {spec, len, ids, wrong[i][0], ids, wrong[i][1], 0};
+        CHECK(gixp_next(bytes, ends[0], ends, 1, &input, room, 4096, &step) == GIXP_BAD_PLACE && step.length == 0);
     }
-    gixp_wishes some = {spec, len, ids, 40, ids, 20, 3}, none = {spec, len, empty, 0, empty, 0, 0};
+    gixp_session_input some = {spec, len, ids, 40, ids, 20, 3}, none = {spec, len, empty, 0, empty, 0, 0};
     CHECK(gixp_next(bytes, ends[0], ends, 1, &some, empty, 0, &step) == GIXP_NO_ROOM && step.length == needed);
     CHECK(gixp_next(empty, 0, ends, 0, &none, room, 4096, &step) == GIXP_NO_ANSWER);
     free(empty);

@@ -36,7 +36,7 @@ class _Piece(Structure):
     _fields_ = [("band", c_uint32), ("text", _Span), ("next", c_size_t)]
 
 
-class _Wishes(Structure):
+class _SessionInput(Structure):
     _fields_ = [("specs", c_char_p), ("specs_len", c_size_t), ("haves", c_char_p), ("haves_len", c_size_t), ("boundary", c_char_p),
                 ("boundary_len", c_size_t), ("depth", c_uint32)]
 
@@ -60,7 +60,7 @@ _lib.gixp_refs.argtypes = [*_bytes, c_size_t, POINTER(_Ref), c_size_t, POINTER(_
 _lib.gixp_piece.argtypes = [*_bytes, c_size_t, POINTER(_Piece)]
 _lib.gixp_error_text.argtypes = [c_uint32, c_char_p, c_size_t, POINTER(c_size_t)]
 _lib.gixp_advertised.argtypes = _lib.gixp_refs.argtypes
-_lib.gixp_next.argtypes = [*_bytes, POINTER(c_size_t), c_size_t, POINTER(_Wishes), c_char_p, c_size_t, POINTER(_Step)]
+_lib.gixp_next.argtypes = [*_bytes, POINTER(c_size_t), c_size_t, POINTER(_SessionInput), c_char_p, c_size_t, POINTER(_Step)]
 for _f in (_lib.gixp_refs, _lib.gixp_advertised, _lib.gixp_piece, _lib.gixp_error_text, _lib.gixp_next, _lib.gixp_map,
            _lib.gixp_prefixes):
     _f.restype = c_uint32
@@ -306,10 +306,10 @@ class Session:
             ends.append(end)
         # There is room for a want of each ref in the responses and for a have of each id, so one call is mostly enough.
         places, room, step = (c_size_t * max(len(ends), 1))(*ends), 4096 + len(data) + 3 * len(self.haves), _Step()
-        wishes = _Wishes(self.specs, len(self.specs), self.haves, len(self.haves), self.shallow, len(self.shallow), self.depth)
+        record = _SessionInput(self.specs, len(self.specs), self.haves, len(self.haves), self.shallow, len(self.shallow), self.depth)
         while True:
             request = ctypes.create_string_buffer(room)
-            code = _lib.gixp_next(data, len(data), places, len(ends), byref(wishes), request, room, byref(step))
+            code = _lib.gixp_next(data, len(data), places, len(ends), byref(record), request, room, byref(step))
             if code != _NO_ROOM:
                 break
             room = step.length

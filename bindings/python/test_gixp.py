@@ -14,13 +14,14 @@ import unittest
 
 HERE = pathlib.Path(__file__).resolve().parent
 TOP = HERE.parent.parent
-sys.path[:0] = [str(HERE), str(TOP / "models")]
+sys.path[:0] = [str(HERE), str(HERE.parent), str(TOP / "models")]
 
 sys.setrecursionlimit(100_000)  # definitions.py groups the lines of an advertisement by recursion
 
 import definitions  # noqa: E402
 import gixp  # noqa: E402
 import vectors  # noqa: E402
+from git_server import Backend, git  # noqa: E402
 
 # The number of each error in definitions.py.
 CODES = {"Io": 10, "HexDecode": 11, "DataLengthLimitExceeded": 12, "DataIsEmpty": 13, "InvalidLineLength": 14, "Server": 15,
@@ -220,37 +221,6 @@ class Maps(unittest.TestCase):
             self.assertEqual(list(dict.fromkeys(gixp.prefixes(words))), definitions.all_prefixes(specs), row.name)
             count += 1
         self.assertGreater(count, 50)
-
-
-class Backend(http.server.BaseHTTPRequestHandler):
-    """git's own server, run by a web server in Python."""
-    def serve(self, body=b""):
-        path, _, query = self.path.partition("?")
-        env = dict(os.environ, GIT_PROJECT_ROOT=self.server.root, GIT_HTTP_EXPORT_ALL="1", PATH_INFO=path, QUERY_STRING=query,
-                   REQUEST_METHOD=self.command, CONTENT_TYPE=self.headers.get("Content-Type", ""),
-                   CONTENT_LENGTH=str(len(body)), GIT_PROTOCOL=self.headers.get("Git-Protocol", ""))
-        out = subprocess.run(["git", "http-backend"], input=body, env=env, stdout=subprocess.PIPE, stderr=subprocess.DEVNULL).stdout
-        head, _, body = out.partition(b"\r\n\r\n")
-        fields = dict(line.decode().split(": ", 1) for line in head.split(b"\r\n"))
-        self.send_response(int(fields.pop("Status", "200").split()[0]))
-        for name, value in fields.items():
-            self.send_header(name, value)
-        self.end_headers()
-        self.wfile.write(body)
-
-    def do_GET(self):
-        self.serve()
-
-    def do_POST(self):
-        self.serve(self.rfile.read(int(self.headers["Content-Length"])))
-
-    def log_message(self, *words):
-        pass
-
-
-def git(*words, folder=None, **more):
-    who = ["-c", "user.name=a", "-c", "user.email=a@b", "-c", "init.defaultBranch=main"]
-    return subprocess.run(["git", *who, *words], cwd=folder, check=True, stdout=subprocess.PIPE, **more).stdout
 
 
 @unittest.skipUnless(shutil.which("git"), "git isn't here")

@@ -1,5 +1,5 @@
 //! A session, one request after another.
-use crate::sys::{self, StepRecord, Wishes};
+use crate::sys::{self, StepRecord, SessionInput};
 use crate::{Error, Id};
 
 /// The caller's next action.
@@ -89,7 +89,7 @@ impl Session {
     pub fn step(&self) -> Result<Step, Error> {
         // There is room for a want of each ref in the responses and for a have of each id, so one call is mostly enough.
         let mut request = vec![0; 4096 + self.answers.len() + 3 * self.haves.len()];
-        let wishes = Wishes {
+        let input = SessionInput {
             specs: self.specs.as_ptr(),
             specs_len: self.specs.len(),
             haves: self.haves.as_ptr(),
@@ -100,14 +100,14 @@ impl Session {
         };
         loop {
             let mut step = StepRecord::default();
-            // SAFETY: all are whole slices, also those of the wishes. The request and `step` belong only to this call.
+            // SAFETY: all are whole slices, also those of the input. The request and `step` belong only to this call.
             let code = unsafe {
                 sys::gixp_next(
                     self.answers.as_ptr(),
                     self.answers.len(),
                     self.ends.as_ptr(),
                     self.ends.len(),
-                    &wishes,
+                    &input,
                     request.as_mut_ptr(),
                     request.len(),
                     &mut step,

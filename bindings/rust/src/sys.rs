@@ -40,7 +40,7 @@ pub(crate) struct PieceRecord {
 }
 
 #[repr(C)]
-pub(crate) struct Wishes {
+pub(crate) struct SessionInput {
     pub specs: *const u8,
     pub specs_len: usize,
     pub haves: *const u8,
@@ -108,7 +108,7 @@ extern "C" {
         answers_len: usize,
         ends: *const usize,
         ends_len: usize,
-        wishes: *const Wishes,
+        input: *const SessionInput,
         request: *mut u8,
         request_len: usize,
         step: *mut StepRecord,

@@ -1,18 +1,12 @@
-//! The exports for programs in C, Rust and other languages: bytes in, numbers out. No call keeps state, and each buffer belongs to
-//! the caller.
+//! The exports for programs in C, Rust and other languages: the calls of `gixp_calls`.
 #![tactic(auto)]
 
-mod advertised;
-mod bands;
-mod code;
-mod map;
+mod mapping;
 mod next;
-mod refs;
+mod reading;
 mod texts;
 
-pub use advertised::gixp_advertised;
-pub use bands::{PieceRecord, gixp_piece};
-pub use map::{gixp_map, gixp_prefixes};
-pub use next::{StepRecord, WishesRecord, gixp_next};
-pub use refs::{FoundRecord, gixp_refs};
+pub use mapping::{gixp_map, gixp_prefixes};
+pub use next::gixp_next;
+pub use reading::{gixp_advertised, gixp_piece, gixp_refs};
 pub use texts::gixp_error_text;

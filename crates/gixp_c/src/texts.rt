@@ -1,90 +1,16 @@
-//! The text of each number.
-ghost use Rattle.std.specs.Prelude.{◌≡◌, ◌<◌, ◌≤◌, ◌++◌, ℕ, List, ◌↔◌, IsTrue, false, length, drop};
-ghost use Rattle.std.specs.Bool.{OnTrue};
-ghost use Rattle.gixp_c.specs.Exports.{PutsBy, PutsText};
+//! The export for the text of a number.
+ghost use Rattle.std.specs.Prelude.{◌≡◌, ◌⊎◌, ◌<◌, ◌≤◌, ◌++◌, ℕ, List, length, drop};
 
-use crate::code::{NO_ROOM, OK};
+use gixp_calls::write_error_text;
 
-fn text_of(code: u32) -> &'static str {
-    match code {
-        0 => "all is read",
-        1 => "the next call goes on",
-        2 => "a buffer has too little room",
-        3 => "a place or a length doesn't fit the bytes",
-        4 => "an allocation failed",
-        10 => "the answer ends before it is whole",
-        11 => "no packet line: its length is no hexadecimal number",
-        12 => "a packet line is longer than 65520 bytes",
-        13 => "a packet line has no payload",
-        14 => "a packet line is shorter than its length",
-        15 => "the server sent an error",
-        16 => "a packet line without a payload stands where none may",
-        17 => "a packet line belongs to no band",
-        20 => "an object id isn't 40 hexadecimal digits",
-        21 => "a ref line isn't an id and a name with attributes",
-        22 => "a ref line has an unknown attribute",
-        23 => "a ref line without an id has not just a target",
-        24 => "a peeled line doesn't follow the ref line of its name",
-        25 => "a capability symref isn't a name and a target",
-        30 => "there is no answer yet",
-        31 => "there are more answers than requests",
-        32 => "a negative refspec has a destination",
-        33 => "a negative refspec is an object id",
-        34 => "a negative refspec is no full name",
-        35 => "one side of a refspec alone is a pattern",
-        36 => "a refspec has more than one star on a side",
-        37 => "a refspec has a name that no ref may have",
-        40 | 41 | 42 => "the server wants an account",
-        43 => "the server's first answer is no advertisement",
-        44 => "the server speaks a version that isn't accepted",
-        45 => "a ref of the server's first answer isn't one",
-        46 => "the first ref line has no capabilities",
-        47 => "the server speaks version 2, and lists its refs where it is asked",
-        48 => "the server speaks a version that isn't known",
-        50 => "the server's objects have another hash",
-        51 => "two refs would go to one local name",
-        52 => "the answer to ls-refs is refused",
-        53 => "expected flush after ref listing",
-        60 => "the answer to a fetch is refused",
-        61 => "the negotiation ended without a pack",
-        62 => "a request can't be made",
-        63 => "the server lacks what was asked for",
-        64 | 65 | 66 => "the boundary of a shallow repository isn't changed",
-        67 => "the server's repository is shallow",
-        68 | 69 => "the pack isn't read",
-        _ => "unknown",
-    }
-}
-
-// Copies a text to the start of a buffer if that is large enough.
-pub(crate) fn copy_text(text: &[u8], buffer: &mut [u8]) -> bool
-    ensures fits { OnTrue result (buffer.new ≡ text.now ++ drop (length text.now) buffer.old) }
-    ensures short { result ≡ false → buffer.new ≡ buffer.old }
-    ensures puts { PutsBy text.now buffer.old buffer.new result }
-    ensures room { IsTrue result ↔ (length text.now ≤ length buffer.old) }
-{
-    if text.len() > buffer.len() {
-        return false;
-    }
-    buffer[..text.len()].copy_from_slice(text);
-    true
-}
-
-// Copies a text to the start of a buffer, and writes its length.
-pub(crate) fn put_text(text: &[u8], buffer: &mut [u8], len: &mut usize) -> u32
-    ensures { PutsText text.now buffer.old result buffer.new len.new }
-{
-    *len = text.len();
-    if copy_text(text, buffer) { OK } else { NO_ROOM }
-}
-
-/// Writes the text of a number that an export returned to the start of a buffer, and its length.
+/// Writes the text of a number that a call returned to the start of a buffer, and its length.
 ///
 /// Returns 0, or 2 if the buffer is too small. Then only the length is written.
 #[unsafe(no_mangle)]
 pub extern "C" fn gixp_error_text(code: u32, buffer: &mut [u8], len: &mut usize) -> u32
-    ensures told { result ≡ 0 → (text : List ℕ) × (length text ≡ len.new) × (buffer.new ≡ text ++ drop (length text) buffer.old) }
+    ensures number { ((result ≡ 0) × (len.new ≤ length buffer.old)) ⊎ ((result ≡ 2) × (length buffer.old < len.new)) }
+    ensures input_record { result ≡ 0 → (text : List ℕ) × (length text ≡ len.new) × (buffer.new ≡ text ++ drop (length text) buffer.old) }
     ensures no_room { result ≡ 2 → (buffer.new ≡ buffer.old) × (length buffer.old < len.new) }
 {
-    put_text(text_of(code).as_bytes(), buffer, len)
+    write_error_text(code, buffer, len)
 }

@@ -15,11 +15,13 @@ use Rattle.gixp_handshake.specs.Taken.{without_refs}
 use Rattle.gixp_fetch.specs.declared.error.Error.{Error as FetchError}
 use Rattle.gixp_fetch.specs.declared.options.Outcome.{Outcome}
 use Rattle.gixp_fetch.specs.FetchShallow.{ShallowValue}
+use Rattle.gixp_response.specs.Sections.{is_flush}
 use Rattle.gixp_fetch.specs.Fetch.{World, Parties}
 use Rattle.gixp_fetch.specs.Fetched.{Fetches, call_of}
 use Rattle.gixp_engine.specs.declared.consumer.Left.{Left}
 use Rattle.gixp_engine.specs.declared.error.EngineError.{EngineError}
-use Rattle.gixp_engine.specs.Alone.{engine_agent, engine_call, end_of_fetch, CarriesCall, ShakesAlone, MapsAlone, EngineSession, ends_refs, map_of_whole, fetched}
+use Rattle.gixp_handshake.specs.WithoutAccount.{GreetsWithoutAccount}
+use Rattle.gixp_engine.specs.Alone.{engine_agent, engine_call, end_of_fetch, CarriesCall, MapsAlone, EngineSession, map_of_whole, fetched}
 
 -- the engine passes git's table and its agent
 pub carries-call : {N I A S C P X : Type 0} (parties : Parties N I A S C P X) (first : World N I S C)
@@ -34,13 +36,13 @@ carries-call parties first r last progress h shallow table agent e f it = record
 }
 
 module _ (Receives : RefMap → Handshake → Reading → Reading → Result (Option Outcome) (FetchError AllocError Left) → Type 0) where
-  pub session-ran : (context : Context) (plain : Bool) (old mid behind new : Reading) (h k : Handshake) (m : RefMap)
+  pub session-ran : (context : Context) (plain : Bool) (old mid following new : Reading) (h k : Handshake) (m : RefMap)
       (r : Result (Option Outcome) (FetchError AllocError Left)) (ended : Result (Option Protocol) EngineError)
-      → ShakesAlone plain old mid (Ok h) → MapsAlone context h plain mid behind (Ok m) → ends_refs behind.stopped ≡ true
-      → k ≡ without_refs h → (m.mappings.items ≡ [] → ⊥) → Receives m k behind new r → ended ≡ end_of_fetch k.server_protocol_version r
+      → GreetsWithoutAccount plain old mid (Ok h) → MapsAlone context h plain mid following (Ok m) → is_flush following.stopped ≡ true
+      → k ≡ without_refs h → (m.mappings.items ≡ [] → ⊥) → Receives m k following new r → ended ≡ end_of_fetch k.server_protocol_version r
       → EngineSession Receives context plain old new ended
-  session-ran context plain old mid behind new h k m r ended s l whole e some f q =
-      fetched h mid behind m r s l whole some (subst (λ x. Receives m x behind new r) e f)
+  session-ran context plain old mid following new h k m r ended s l whole e some f q =
+      fetched h mid following m r s l whole some (subst (λ x. Receives m x following new r) e f)
       (q ∙ ap (λ (x : Handshake). end_of_fetch x.server_protocol_version r) e)
 
 -- a ref map that was made

@@ -6,9 +6,9 @@ use Rattle.std.proofs.lemmas.Option.{slice_get-map, slice_get_read}
 use Rattle.std.proofs.lemmas.List.{drop_more, map-append}
 use Rattle.std.proofs.lemmas.Bool.Decides.{nat_tests}
 use Rattle.gixp_packetline.specs.declared.protocol.Protocol.{Protocol}
-use Rattle.gixp_wire.specs.declared.bodies.Body.{Body}
-use Rattle.gixp_wire.specs.declared.bodies.Bodies.{Bodies}
-use Rattle.gixp_wire.specs.Bodies.{answer_of, IsNewBodies}
+use Rattle.gixp_transport.specs.declared.bodies.Body.{Body}
+use Rattle.gixp_transport.specs.declared.bodies.Bodies.{Bodies}
+use Rattle.gixp_transport.specs.Bodies.{answer_of, IsNewBodies}
 use Rattle.gixp_engine.specs.Handed.{answers_between, answer_in}
 use Rattle.gixp_engine.specs.NextStep.{start_of_last, OpensOver}
 

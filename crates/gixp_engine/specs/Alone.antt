@@ -1,13 +1,11 @@
 -- A session without an account: a handshake, a ref map, and a fetch of the mapped refs that leaves the pack to the caller.
-use Rattle.std.specs.Prelude.{◌≡◌, ◌⊎◌, ⊤, true, false, List, [], ◌∷◌, codes, Option, Some, None, Result, Ok, Err, IfOk, IsOk, Bool}
+use Rattle.std.specs.Prelude.{◌≡◌, ◌⊎◌, true, false, List, [], ◌∷◌, codes, Option, Some, None, Result, Ok, Err, IfOk, IsOk, Bool}
 use Rattle.std.specs.FinMap as finite
 use Rattle.std.specs.declared.alloc.AllocError.{AllocError}
 use Rattle.gixp_hash.specs.declared.object_id.ObjectId.{ObjectId}
-use Rattle.gixp_packetline.specs.declared.protocol.MessageKind.{MessageKind}
-use Rattle.gixp_packetline.specs.declared.protocol.MessageKind.TheVariants.{Flush}
 use Rattle.gixp_packetline.specs.declared.protocol.Protocol.{Protocol}
 use Rattle.gixp_packetline.specs.Reading.{Reading}
-use Rattle.gixp_wire.specs.declared.service.Service.TheVariants.{UploadPack}
+use Rattle.gixp_response.specs.Sections.{is_flush}
 use Rattle.gixp_requests.specs.Feature.{FeatureValue}
 use Rattle.gixp_requests.specs.Command.{git_table}
 use Rattle.gixp_graph.specs.GraphData.{graph_of}
@@ -23,7 +21,7 @@ use Rattle.gixp_refmap.specs.declared.refmap.init.Error.TheVariants as map
 use Rattle.gixp_refmap.specs.declared.refmap.map.RefMap.{RefMap}
 use Rattle.gixp_handshake.specs.declared.handshake.error.Error.{Error as HandshakeError}
 use Rattle.gixp_handshake.specs.declared.handshake.read.Handshake.{Handshake}
-use Rattle.gixp_handshake.specs.Shake.{CredentialCall, CompletesHandshake}
+use Rattle.gixp_handshake.specs.WithoutAccount.{GreetsWithoutAccount}
 use Rattle.gixp_handshake.specs.Taken.{without_refs}
 use Rattle.gixp_handshake.specs.Obtain.{ObtainsMappings}
 use Rattle.gixp_fetch.specs.declared.error.Error.{Error as FetchError}
@@ -40,26 +38,10 @@ use Rattle.gixp_engine.specs.declared.error.EngineError.TheVariants.{Handshake a
 abbrev pub engine_agent : FeatureValue
 engine_agent = record { name = codes "agent"; value = Some (codes "git/gixp") }
 
--- each request for an account was answered with none
-abbrev pub HaveNoAccount : List CredentialCall → Type 0
-HaveNoAccount [] = ⊤
-HaveNoAccount (t ∷ ts) = (t.answer ≡ Ok None) × HaveNoAccount ts
-
--- a handshake without an account
-pub record ShakesAlone (plain : Bool) (old new : Reading) (r : Result Handshake HandshakeError) : Type 0 where
-  pub calls : List CredentialCall
-  pub unanswered : HaveNoAccount calls
-  pub shakes : CompletesHandshake UploadPack [] plain old new calls r
-
 -- the ref map of the server, which lists the refs with the prefixes of the refspecs; or an allocation failed first
 abbrev pub MapsAlone : Context → Handshake → Bool → Reading → Reading → Result RefMap MapError → Type 0
 MapsAlone context h plain old new r = ObtainsMappings git_table engine_agent context h plain old new r
     ⊎ ((new ≡ old) × (r ≡ Err map.Memory))
-
--- refs are complete if they end with a flush packet (gitprotocol-v2, "ls-refs"; gitprotocol-pack, "Reference Discovery")
-abbrev pub ends_refs : Option MessageKind → Bool
-ends_refs (Some Flush) = true
-ends_refs _ = false
 
 -- the error of a ref map whose list didn't end with a flush packet: refs that were read are incomplete, whether they can be mapped
 -- or not
@@ -69,7 +51,8 @@ unmapped_of_cut (map.MappingValidation e) = UnterminatedRefs
 unmapped_of_cut (map.ListRefs e) = Unmapped (map.ListRefs e)
 unmapped_of_cut map.Memory = Unmapped map.Memory
 
--- the ref map, if its refs are complete
+-- the ref map, if its refs are complete: they end with a flush packet (gitprotocol-v2, "ls-refs"; gitprotocol-pack,
+-- "Reference Discovery")
 abbrev pub map_of_whole : Result RefMap MapError → Bool → Result RefMap EngineError
 map_of_whole (Ok m) true = Ok m
 map_of_whole (Ok m) false = Err UnterminatedRefs
@@ -130,14 +113,14 @@ module _ (Receives : RefMap → Handshake → Reading → Reading → Result (Op
     (context : Context) (plain : Bool) (old : Reading) where
   -- a session up to its pack: the handshake failed, or the ref map failed, or nothing is mapped, or the mapped refs were fetched
   pub data EngineSession (new : Reading) (ended : Result (Option Protocol) EngineError) : Type 0 where
-    unshaken : (e : HandshakeError) → ShakesAlone plain old new (Err e) → ended ≡ Err (Unshaken e) → EngineSession new ended
-    unmapped : (h : Handshake) (mid : Reading) (r : Result RefMap MapError) (e : EngineError) → ShakesAlone plain old mid (Ok h)
-        → MapsAlone context h plain mid new r → map_of_whole r (ends_refs new.stopped) ≡ Err e → ended ≡ Err e
+    unshaken : (e : HandshakeError) → GreetsWithoutAccount plain old new (Err e) → ended ≡ Err (Unshaken e) → EngineSession new ended
+    unmapped : (h : Handshake) (mid : Reading) (r : Result RefMap MapError) (e : EngineError) → GreetsWithoutAccount plain old mid (Ok h)
+        → MapsAlone context h plain mid new r → map_of_whole r (is_flush new.stopped) ≡ Err e → ended ≡ Err e
         → EngineSession new ended
-    empty : (h : Handshake) (mid : Reading) (m : RefMap) → ShakesAlone plain old mid (Ok h)
-        → MapsAlone context h plain mid new (Ok m) → ends_refs new.stopped ≡ true → m.mappings.items ≡ [] → ended ≡ Ok None
+    empty : (h : Handshake) (mid : Reading) (m : RefMap) → GreetsWithoutAccount plain old mid (Ok h)
+        → MapsAlone context h plain mid new (Ok m) → is_flush new.stopped ≡ true → m.mappings.items ≡ [] → ended ≡ Ok None
         → EngineSession new ended
-    fetched : (h : Handshake) (mid behind : Reading) (m : RefMap) (r : Result (Option Outcome) (FetchError AllocError Left))
-        → ShakesAlone plain old mid (Ok h) → MapsAlone context h plain mid behind (Ok m) → ends_refs behind.stopped ≡ true
+    fetched : (h : Handshake) (mid following : Reading) (m : RefMap) (r : Result (Option Outcome) (FetchError AllocError Left))
+        → GreetsWithoutAccount plain old mid (Ok h) → MapsAlone context h plain mid following (Ok m) → is_flush following.stopped ≡ true
         → (m.mappings.items ≡ [] → ⊥)
-        → Receives m (without_refs h) behind new r → ended ≡ end_of_fetch h.server_protocol_version r → EngineSession new ended
+        → Receives m (without_refs h) following new r → ended ≡ end_of_fetch h.server_protocol_version r → EngineSession new ended

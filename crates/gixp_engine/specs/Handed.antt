@@ -3,23 +3,22 @@ use Rattle.std.specs.Prelude.{◌≡◌, ◌==◌, ℕ, ◌/◌, ◌%◌, ◌<�
 use Rattle.std.specs.Simd.{first_chunks}
 use Rattle.std.specs.declared.alloc.Global.{Global}
 use Rattle.gixp_hash.specs.declared.object_id.ObjectId.{ObjectId}
-use Rattle.gixp_text.specs.Lines.{text_lines}
+use Rattle.gixp_utils.specs.Lines.{text_lines}
 use Rattle.gixp_packetline.specs.Pieces.{stream_pieces}
 use Rattle.gixp_packetline.specs.TransportState.{Answer, body}
 use Rattle.gixp_refspec.specs.RefSpec.{owned_value_of}
 use Rattle.gixp_refmap.specs.declared.refmap.init.Context.{Context}
-use Rattle.gixp_wire.specs.declared.bodies.Body.{Body}
-use Rattle.gixp_wire.specs.Bodies.{answer_of}
+use Rattle.gixp_transport.specs.declared.bodies.Body.{Body}
+use Rattle.gixp_transport.specs.Bodies.{answer_of}
+use Rattle.gixp_response.specs.AnswerLine.{id_from}
 use Rattle.gixp_graph.specs.Object.{Objects}
 use Rattle.gixp_memory.specs.Repository.{with_id}
+use Rattle.gixp_response.specs.AnswerLine.{id_from}
 use Rattle.gixp_records.specs.declared.spec_text.SpecsRefused.{SpecsRefused}
 use Rattle.gixp_records.specs.declared.spec_text.SpecsRefused.TheVariants as none
 use Rattle.gixp_records.specs.SpecText.{specs_of_lines}
 use Rattle.gixp_engine.specs.declared.error.EngineError.{EngineError}
 use Rattle.gixp_engine.specs.declared.error.EngineError.TheVariants.{Lengths, Spec, Memory}
-
-abbrev pub id_from : List ℕ → ObjectId
-id_from bytes = record { bytes = bytes }
 
 -- the ids, one after another
 abbrev pub ids_in : List ℕ → List ObjectId

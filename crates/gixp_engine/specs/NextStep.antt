@@ -5,9 +5,9 @@ use Rattle.std.specs.declared.alloc.Global.{Global}
 use Rattle.gixp_packetline.specs.declared.protocol.Protocol.{Protocol}
 use Rattle.gixp_packetline.specs.declared.protocol.Protocol.TheVariants.{V0, V1, V2}
 use Rattle.gixp_packetline.specs.Reading.{Reading}
-use Rattle.gixp_wire.specs.declared.bodies.Body.{Body}
-use Rattle.gixp_wire.specs.declared.bodies.Bodies.{Bodies}
-use Rattle.gixp_wire.specs.Bodies.{answer_of, bodies_reading, IsNewBodies}
+use Rattle.gixp_transport.specs.declared.bodies.Body.{Body}
+use Rattle.gixp_transport.specs.declared.bodies.Bodies.{Bodies}
+use Rattle.gixp_transport.specs.Bodies.{answer_of, bodies_reading, IsNewBodies}
 use Rattle.gixp_graph.specs.Object.{Objects}
 use Rattle.std.specs.FinMap as finite
 use Rattle.gixp_refmap.specs.declared.refmap.map.RefMap.{RefMap}
@@ -15,13 +15,13 @@ use Rattle.gixp_handshake.specs.declared.handshake.read.Handshake.{Handshake}
 use Rattle.gixp_fetch.specs.declared.error.Error.{Error as FetchError}
 use Rattle.gixp_fetch.specs.declared.options.Outcome.{Outcome}
 use Rattle.gixp_records.specs.declared.packets.PacketRefused.{PacketRefused}
-use Rattle.gixp_records.specs.Place.{FollowsHeader, FollowsTold, RefusedFrom}
+use Rattle.gixp_records.specs.Place.{FollowsHeader, FollowsAcknowledgements, RefusedFrom}
 use Rattle.gixp_engine.specs.declared.consumer.Left.{Left}
 use Rattle.gixp_engine.specs.declared.error.EngineError.{EngineError}
 use Rattle.gixp_engine.specs.declared.error.EngineError.TheVariants.{NoAnswer, TooManyAnswers, Lengths, Pack as Packless, Memory}
-use Rattle.gixp_engine.specs.declared.step.Step.{Step}
-use Rattle.gixp_engine.specs.declared.step.Step.TheVariants.{Request, Pack, Nothing}
-use Rattle.gixp_engine.specs.declared.step.Wishes.{Wishes}
+use Rattle.gixp_engine.specs.declared.step.EngineStep.{EngineStep}
+use Rattle.gixp_engine.specs.declared.step.EngineStep.TheVariants.{Request, Pack, Nothing}
+use Rattle.gixp_engine.specs.declared.step.SessionInput.{SessionInput}
 use Rattle.gixp_engine.specs.Handed.{answers_between, answer_in, objects_held}
 use Rattle.gixp_engine.specs.Alone.{EngineSession}
 
@@ -33,12 +33,12 @@ start_of_last ends = if nat_lt (length ends) 2 then 0 else slice_index ends (len
 -- acknowledgement nor a shallow update
 abbrev pub BeginsPack : Protocol → List ℕ → ℕ → ℕ → Type 0
 BeginsPack V2 bytes start place = FollowsHeader bytes start place
-BeginsPack V1 bytes start place = FollowsTold bytes start place
-BeginsPack V0 bytes start place = FollowsTold bytes start place
+BeginsPack V1 bytes start place = FollowsAcknowledgements bytes start place
+BeginsPack V0 bytes start place = FollowsAcknowledgements bytes start place
 
 -- the step by the requests of a session and its result; the first response is the advertisement, each other one is to the next request
 pub data StepsTo (bytes ends : List ℕ) (sent : List (List ℕ)) (ended : Result (Option Protocol) EngineError)
-    (step : Result Step EngineError) : Type 0 where
+    (step : Result EngineStep EngineError) : Type 0 where
   -- a request has no response yet
   asks : (request : Vec ℕ Global) → slice_get sent (length ends - 1) ≡ Some request.items → step ≡ Ok (Request request)
       → StepsTo bytes ends sent ended step
@@ -65,19 +65,19 @@ pub record OpensOver (answers : List (List ℕ)) (transport : Bodies) : Type 0 w
 
 module _ {O : Type 0} (contents : O → Objects)
     (Receives : O → RefMap → Handshake → Reading → Reading → Result (Option Outcome) (FetchError AllocError Left) → Type 0)
-    (bytes ends : List ℕ) (wishes : Wishes) where
+    (bytes ends : List ℕ) (input : SessionInput) where
   -- a session over the responses, with only the haves as local objects, and the requests that it sent
   pub record SessionOver (answers : List (List ℕ)) (sent : List (List ℕ)) (ended : Result (Option Protocol) EngineError) : Type 0 where
     pub here : O
     pub transport : Bodies
     pub new : Reading
-    pub holds : contents here ≡ objects_held finite.empty wishes.haves.items
+    pub holds : contents here ≡ objects_held finite.empty input.haves.items
     pub opens : OpensOver answers transport
-    pub session : EngineSession (Receives here) wishes.specs true (bodies_reading transport) new ended
+    pub session : EngineSession (Receives here) input.specs true (bodies_reading transport) new ended
     pub requests : sent ≡ new.held.sent
 
   -- the step by that session, unless the offsets are invalid, or there is no response, or an allocation failed
-  pub data IsNextStep (step : Result Step EngineError) : Type 0 where
+  pub data IsNextStep (step : Result EngineStep EngineError) : Type 0 where
     uncut : answers_between bytes 0 ends ≡ None → step ≡ Err Lengths → IsNextStep step
     unanswered : answers_between bytes 0 ends ≡ Some [] → step ≡ Err NoAnswer → IsNextStep step
     unstored : step ≡ Err Memory → IsNextStep step

@@ -19,13 +19,13 @@ use thiserror::Error as DeriveError;
 #[derive(Debug, Drop, DeriveError)]
 pub enum EngineError {
     /// There is no response. The first response is the server's advertisement.
-    #[error("no answer is there yet")]
+    #[error("there is no response yet")]
     NoAnswer,
     /// There are more responses than requests.
-    #[error("there are more answers than requests")]
+    #[error("there are more responses than requests")]
     TooManyAnswers,
     /// The offsets don't match the responses, or the bytes aren't whole ids.
-    #[error("lengths that don't fit")]
+    #[error("a length is out of range")]
     Lengths,
     /// A text isn't a valid refspec.
     #[error("{0}")]
@@ -43,7 +43,7 @@ pub enum EngineError {
     #[error("{0}")]
     Fetch(FetchError<AllocError, Left>),
     /// The start of the pack isn't in the last response.
-    #[error("no pack begins")]
+    #[error("the response has no pack")]
     Pack(PacketRefused),
     /// An allocation failed.
     #[error("Memory")]

@@ -11,4 +11,4 @@ mod step;
 pub use consumer::{LeavePack, Left};
 pub use error::EngineError;
 pub use read::{ids_of, specs_of};
-pub use step::{Step, Wishes, next_step};
+pub use step::{EngineStep, SessionInput, next_step};

@@ -2,7 +2,8 @@
 ghost use Rattle.std.specs.Prelude.{◌≡◌, IfOk, map};
 ghost use Rattle.std.specs.FinMap as finite;
 ghost use Rattle.gixp_refspec.specs.RefSpec.{value_of, owned_value_of};
-ghost use Rattle.gixp_engine.specs.Handed.{HandsIds, HandsSpecs, HandsAnswers, refused_specs, id_from, objects_held};
+ghost use Rattle.gixp_response.specs.AnswerLine.{id_from};
+ghost use Rattle.gixp_engine.specs.Handed.{HandsIds, HandsSpecs, HandsAnswers, refused_specs, objects_held};
 
 use crate::error::EngineError;
 use gixp_hash::ObjectId;
@@ -10,7 +11,7 @@ use gixp_memory::StoredObjects;
 use gixp_records::{SpecsRefused, specs_in};
 use gixp_refmap::refmap::init::Context;
 use gixp_refspec::{RefSpec, RefSpecRef};
-use gixp_wire::Body;
+use gixp_transport::Body;
 use std::alloc::{AllocError, Global};
 
 fn ids_from(alloc: Global, whole: &[[u8; 20]]) -> Result<Vec<ObjectId>, AllocError>

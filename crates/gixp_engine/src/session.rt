@@ -1,22 +1,22 @@
 //! A session over the responses so far.
 ghost use Rattle.std.specs.Prelude.{◌≡◌, true, None, Ok, IfOk};
+ghost use Rattle.gixp_response.specs.Sections.{is_flush};
 ghost use Rattle.gixp_requests.specs.Feature.{feature_value};
 ghost use Rattle.gixp_handshake.specs.Taken.{without_refs};
 ghost use Rattle.gixp_fetch.specs.Fetch.{parties_of};
 ghost use Rattle.gixp_fetch.specs.FetchShallow.{shallow_value};
-ghost use Rattle.gixp_engine.specs.Alone.{engine_agent, engine_call, end_of_fetch, ends_refs, unmapped_of_cut, map_of_whole, ShakesAlone, MapsAlone, CarriesAlone, FetchesAlone, OffersAlone, EngineSession};
+ghost use Rattle.gixp_engine.specs.Alone.{engine_agent, engine_call, end_of_fetch, unmapped_of_cut, map_of_whole, MapsAlone, CarriesAlone, FetchesAlone, OffersAlone, EngineSession};
 
 use crate::consumer::{LeavePack, Left};
 use crate::error::EngineError;
-use crate::step::Wishes;
+use crate::step::SessionInput;
 use gixp_fetch::consume::ConsumePack;
 use gixp_fetch::error::Error as FetchError;
 use gixp_fetch::fetch::fetch;
 use gixp_fetch::options::{Context, Options, Outcome};
 use gixp_graph::{Graph, NoObjects, NoRefs, Objects};
 use gixp_handshake::Handshake;
-use gixp_handshake::credentials::{self, Action};
-use gixp_handshake::handshake::{self, obtain_mappings};
+use gixp_handshake::handshake::{handshake_without_account, obtain_mappings};
 use gixp_hash::ObjectId;
 use gixp_negotiate::negotiate::Negotiate;
 use gixp_negotiate::negotiate::negotiation::{NegotiateContext, Negotiation};
@@ -30,7 +30,7 @@ use gixp_requests::agent_feature;
 use gixp_requests::command::CommandTable;
 use gixp_shallow::{Shallow, ShallowMemory, ShallowStore};
 use gixp_sidebands::{Interrupt, NeverInterrupt};
-use gixp_wire::{Feature, Service, Transport};
+use gixp_transport::{Feature, Transport};
 use std::alloc::{AllocError, Global};
 
 // The feature `agent`.
@@ -40,24 +40,8 @@ fn engine_feature(alloc: Global) -> Result<Feature, AllocError>
     agent_feature(alloc, "git/gixp")
 }
 
-fn greet<T: Transport>(alloc: Global, transport: &mut T) -> Result<Handshake, handshake::Error>
-    ensures { ShakesAlone T.is_plain (T.reading transport.old) (T.reading transport.new) result }
-{
-    let mut quiet = Discard;
-    handshake::handshake(
-        alloc,
-        transport,
-        Service::UploadPack,
-        |_: Action| -> Result<Option<credentials::Outcome>, credentials::Error>
-            ensures { result ≡ Ok None }
-        { Ok(None) },
-        Vec::new(alloc),
-        &mut quiet,
-    )
-}
-
 fn is_at_flush<T: ExtendedBufRead>(reader: &T) -> bool
-    ensures { result ≡ ends_refs (T.reading reader.now).stopped }
+    ensures { result ≡ is_flush (T.reading reader.now).stopped }
 {
     matches!(reader.stopped_at(), Some(MessageKind::Flush))
 }
@@ -128,7 +112,7 @@ fn fetch_over<N: Negotiate, T: Transport>(
 ) -> Result<Option<Outcome>, FetchError<N::AlternatesError, Left>>
     requires { feature_value agent ≡ engine_agent }
     ensures { CarriesAlone
-        (parties_of N.calls ⟦<ShallowMemory as ShallowStore>⟧.calls ⟦<NeverInterrupt as Interrupt>⟧.says
+        (parties_of N.calls ⟦<ShallowMemory as ShallowStore>⟧.calls ⟦<NeverInterrupt as Interrupt>⟧.polls
         ⟦<LeavePack as ConsumePack<Discard>>⟧.consumes T.is_plain)
         (engine_call handshake.old (shallow_value shallow.now)) negotiation.old (T.reading transport.old) boundary.old result
         negotiation.new (T.reading transport.new) boundary.new }
@@ -178,7 +162,7 @@ fn fetch_mapped<'a, O: Objects, T: Transport>(
 ) -> Result<Option<Outcome>, FetchError<AllocError, Left>>
     ensures { FetchesAlone
         (parties_of ⟦<Negotiation<'a, O, NoRefs, HaveList, NoObjects, AllocError> as Negotiate>⟧.calls
-        ⟦<ShallowMemory as ShallowStore>⟧.calls ⟦<NeverInterrupt as Interrupt>⟧.says
+        ⟦<ShallowMemory as ShallowStore>⟧.calls ⟦<NeverInterrupt as Interrupt>⟧.polls
         ⟦<LeavePack as ConsumePack<Discard>>⟧.consumes T.is_plain)
         (OffersAlone objects.now here.haves.items map.now shallow.now) here.boundary.items
         (engine_call handshake.old (shallow_value shallow.now)) (T.reading transport.old) (T.reading transport.new) result }
@@ -227,25 +211,25 @@ fn end_of(
 pub(crate) fn run<'a, O: Objects, T: Transport>(
     alloc: Global,
     objects: &'a O,
-    wishes: Wishes,
+    input: SessionInput,
     transport: &mut T,
 ) -> Result<Option<Protocol>, EngineError>
     ensures { EngineSession
         (λ m h old new r. FetchesAlone
         (parties_of ⟦<Negotiation<'a, O, NoRefs, HaveList, NoObjects, AllocError> as Negotiate>⟧.calls
-        ⟦<ShallowMemory as ShallowStore>⟧.calls ⟦<NeverInterrupt as Interrupt>⟧.says
+        ⟦<ShallowMemory as ShallowStore>⟧.calls ⟦<NeverInterrupt as Interrupt>⟧.polls
         ⟦<LeavePack as ConsumePack<Discard>>⟧.consumes T.is_plain)
-        (OffersAlone objects.now wishes.haves.items m wishes.shallow) wishes.boundary.items
-        (engine_call h (shallow_value wishes.shallow)) old new r)
-        wishes.specs T.is_plain (T.reading transport.old) (T.reading transport.new) result }
+        (OffersAlone objects.now input.haves.items m input.shallow) input.boundary.items
+        (engine_call h (shallow_value input.shallow)) old new r)
+        input.specs T.is_plain (T.reading transport.old) (T.reading transport.new) result }
 {
-    let Wishes {
+    let SessionInput {
         specs,
         haves,
         shallow,
         boundary,
-    } = wishes;
-    let mut handshake = match greet(alloc, transport) {
+    } = input;
+    let mut handshake = match handshake_without_account(alloc, transport) {
         Ok(handshake) => handshake,
         Err(e) => return Err(EngineError::Handshake(e)),
     };

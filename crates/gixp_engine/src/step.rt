@@ -20,16 +20,16 @@ use gixp_negotiate::negotiate::negotiation::Negotiation;
 use gixp_negotiators::HaveList;
 use gixp_packetline::Protocol;
 use gixp_progress::Discard;
-use gixp_records::{PacketRefused, behind_header, behind_told};
+use gixp_records::{PacketRefused, pack_start_v0, pack_start_v2};
 use gixp_refmap::refmap::init::Context;
 use gixp_shallow::{Shallow, ShallowMemory, ShallowStore};
 use gixp_sidebands::{Interrupt, NeverInterrupt};
-use gixp_wire::Bodies;
+use gixp_transport::Bodies;
 use std::alloc::{AllocError, Global};
 
 /// The arguments of a session.
 #[derive(Drop)]
-pub struct Wishes {
+pub struct SessionInput {
     /// The refspecs.
     pub specs: Context,
     /// The objects that exist locally. They are offered as haves in this order, and never requested.
@@ -42,7 +42,7 @@ pub struct Wishes {
 
 /// The caller's next action.
 #[derive(Debug, Drop)]
-pub enum Step {
+pub enum EngineStep {
     /// Send these bytes. The server's reply is the next response.
     Request(Vec<u8>),
     /// Take the pack from the last response. It begins at this offset of all bytes.
@@ -57,8 +57,8 @@ fn pack_place(bytes: &[u8], start: usize, version: Protocol) -> Result<usize, Pa
     ensures { MatchResult result (BeginsPack version bytes.now start) (RefusedFrom bytes.now start) }
 {
     match version {
-        Protocol::V2 => behind_header(bytes, start),
-        Protocol::V1 | Protocol::V0 => behind_told(bytes, start),
+        Protocol::V2 => pack_start_v2(bytes, start),
+        Protocol::V1 | Protocol::V0 => pack_start_v0(bytes, start),
     }
 }
 
@@ -73,15 +73,19 @@ fn start_of_last(ends: &[usize]) -> usize
 }
 
 // The step after a session whose requests all have a response.
-fn step_behind(bytes: &[u8], ends: &[usize], pack: Option<Protocol>) -> Result<Step, EngineError>
+fn step_after(
+    bytes: &[u8],
+    ends: &[usize],
+    pack: Option<Protocol>,
+) -> Result<EngineStep, EngineError>
     requires { start_of_last ends.now ≤ length bytes.now }
     ensures { (sent : List (List ℕ)) → length sent + 1 ≡ length ends.now → StepsTo bytes.now ends.now sent (Ok pack) result }
 {
     let Some(version) = pack else {
-        return Ok(Step::Nothing);
+        return Ok(EngineStep::Nothing);
     };
     match pack_place(bytes, start_of_last(ends), version) {
-        Ok(place) => Ok(Step::Pack(place)),
+        Ok(place) => Ok(EngineStep::Pack(place)),
         Err(e) => Err(EngineError::Pack(e)),
     }
 }
@@ -92,7 +96,7 @@ fn step_unasked(
     ends: &[usize],
     requests: usize,
     ended: Result<Option<Protocol>, EngineError>,
-) -> Result<Step, EngineError>
+) -> Result<EngineStep, EngineError>
     requires fewer { requests < length ends.now }
     requires within { start_of_last ends.now ≤ length bytes.now }
     ensures { (sent : List (List ℕ)) → length sent ≡ requests → StepsTo bytes.now ends.now sent ended result }
@@ -102,7 +106,7 @@ fn step_unasked(
             if requests + 1 < ends.len() {
                 return Err(EngineError::TooManyAnswers);
             }
-            step_behind(bytes, ends, pack)
+            step_after(bytes, ends, pack)
         }
         Err(e) => Err(e),
     }
@@ -115,7 +119,7 @@ fn step_of(
     ends: &[usize],
     sent: &[Vec<u8>],
     ended: Result<Option<Protocol>, EngineError>,
-) -> Result<Step, EngineError>
+) -> Result<EngineStep, EngineError>
     requires some { 0 < length ends.now }
     requires within { start_of_last ends.now ≤ length bytes.now }
     ensures { StepsTo bytes.now ends.now (map vec_items sent.now) ended result }
@@ -124,7 +128,7 @@ fn step_of(
         return step_unasked(bytes, ends, sent.len(), ended);
     };
     match Vec::from_slice(alloc, request) {
-        Ok(request) => Ok(Step::Request(request)),
+        Ok(request) => Ok(EngineStep::Request(request)),
         Err(_) => Err(EngineError::Memory),
     }
 }
@@ -140,16 +144,16 @@ pub fn next_step(
     alloc: Global,
     bytes: &[u8],
     ends: &[usize],
-    wishes: Wishes,
-) -> Result<Step, EngineError>
+    input: SessionInput,
+) -> Result<EngineStep, EngineError>
     ensures { IsNextStep ⟦<Shared<'static, StoredObjects> as Objects>⟧.contents
         (λ objects m h old new r. FetchesAlone
         (parties_of ⟦<Negotiation<'static, Shared<'static, StoredObjects>, NoRefs, HaveList, NoObjects, AllocError> as Negotiate>⟧.calls
-        ⟦<ShallowMemory as ShallowStore>⟧.calls ⟦<NeverInterrupt as Interrupt>⟧.says
+        ⟦<ShallowMemory as ShallowStore>⟧.calls ⟦<NeverInterrupt as Interrupt>⟧.polls
         ⟦<LeavePack as ConsumePack<Discard>>⟧.consumes true)
-        (OffersAlone objects wishes.haves.items m wishes.shallow) wishes.boundary.items
-        (engine_call h (shallow_value wishes.shallow)) old new r)
-        bytes.now ends.now wishes result }
+        (OffersAlone objects input.haves.items m input.shallow) input.boundary.items
+        (engine_call h (shallow_value input.shallow)) old new r)
+        bytes.now ends.now input result }
 {
     let answers = match answers_of(alloc, bytes, ends) {
         Ok(answers) => answers,
@@ -158,13 +162,13 @@ pub fn next_step(
     if ends.is_empty() {
         return Err(EngineError::NoAnswer);
     }
-    let Ok(here) = objects_of(alloc, &wishes.haves) else {
+    let Ok(here) = objects_of(alloc, &input.haves) else {
         return Err(EngineError::Memory);
     };
     let url = BString::new(Vec::new(alloc));
     let Ok(mut transport) = Bodies::new(alloc, answers, url, Vec::new(alloc)) else {
         return Err(EngineError::Memory);
     };
-    let ended = run(alloc, &Shared::new(&here), wishes, &mut transport);
+    let ended = run(alloc, &Shared::new(&here), input, &mut transport);
     step_of(alloc, bytes, ends, transport.sent(), ended)
 }

@@ -11,7 +11,7 @@ use Rattle.gixp_refs.specs.RefLine.{RefsRefusal}
 use Rattle.gixp_refs.specs.Refs.{with_ref}
 use Rattle.gixp_refs.specs.RefAdvertisement.{Symref, V1Line, peels, names, v1_line, NamedRef, pair, single, in_front, group_with, end_refusal, groups, symref_named, pair_by, not_preceded, other_base}
 use Rattle.gixp_capabilities.specs.Capabilities.{is_text}
-use Rattle.gixp_records.specs.declared.advertised.line.NamedLine.{NamedLine}
+use Rattle.gixp_records.specs.declared.advertised.ref_line.NamedLine.{NamedLine}
 use Rattle.gixp_records.specs.declared.advertised.opening.RefsOpening.{RefsOpening}
 use Rattle.gixp_records.specs.declared.advertised.refused.AdvertisedLineRefused.{AdvertisedLineRefused}
 use Rattle.gixp_records.specs.declared.advertised.refused.AdvertisedLineRefused.TheVariants.{Peeled}
@@ -23,7 +23,7 @@ use Rattle.gixp_records.specs.Span.{text_at, IsWithin}
 use Rattle.gixp_records.specs.Packets.{pieces_at}
 use Rattle.gixp_records.specs.V1RecordLine.{IsRefusedAs, named_in, symref_at}
 use Rattle.gixp_records.specs.RefsOpening.{cut_lines, cut_span, advertised_lines}
-use Rattle.gixp_records.specs.AdvertisedRecords.{refs_of_lines, refs_behind, StopsBefore, ReadsGroups}
+use Rattle.gixp_records.specs.AdvertisedRecords.{refs_of_lines, refs_following, StopsBefore, ReadsGroups}
 use Rattle.gixp_records.specs.Refs.{ref_in, refs_in, IsRecordWithin}
 use Rattle.std.specs.Prelude.{slice_set}
 use Rattle.std.proofs.lemmas.List.{take_more_set, drop-set-lt, drop-drop, map_push}
@@ -114,7 +114,7 @@ passed bytes o t at next last text l e v g = one_more bytes o t at next last tex
 pub opened : (bytes : List ℕ) (o : RefsOpening) (t : List Symref) (at next : ℕ) (n : NamedLine) (text : List ℕ)
     → advertised_lines bytes o at ≡ before (text ∷ []) (advertised_lines bytes o next)
     → v1_line text ≡ Ok (names n.object.bytes (text_at bytes n.name))
-    → refs_behind bytes o t at ≡ refs_of_lines t (Some n) bytes (advertised_lines bytes o next)
+    → refs_following bytes o t at ≡ refs_of_lines t (Some n) bytes (advertised_lines bytes o next)
 opened bytes o t at next n text e v =
     one_more bytes o t at next None text (Ok (names n.object.bytes (text_at bytes n.name))) e v
     ∙ front_none (refs_after bytes o t next (Some (named_in bytes n)))
@@ -124,7 +124,7 @@ pub closes : (bytes : List ℕ) (o : RefsOpening) (t : List Symref) (at next : �
     → advertised_lines bytes o at ≡ before (text ∷ []) (advertised_lines bytes o next)
     → v1_line text ≡ Ok (names n.object.bytes (text_at bytes n.name))
     → refs_of_lines t (Some b) bytes (advertised_lines bytes o at)
-    ≡ in_front (single t (named_in bytes b) ∷ []) (refs_behind bytes o t at)
+    ≡ in_front (single t (named_in bytes b) ∷ []) (refs_following bytes o t at)
 closes bytes o t at next b n text e v =
     one_more bytes o t at next (Some b) text (Ok (names n.object.bytes (text_at bytes n.name))) e v
     ∙ ap (in_front (single t (named_in bytes b) ∷ [])) (sym (opened bytes o t at next n text e v))
@@ -133,7 +133,7 @@ closes bytes o t at next b n text e v =
 pub pairs : (bytes : List ℕ) (o : RefsOpening) (t : List Symref) (at next : ℕ) (b : NamedLine) (left base text : List ℕ) (v : RefValue)
     → advertised_lines bytes o at ≡ before (text ∷ []) (advertised_lines bytes o next) → v1_line text ≡ Ok (peels left base)
     → pair t (Some (named_in bytes b)) left base ≡ Ok v
-    → refs_of_lines t (Some b) bytes (advertised_lines bytes o at) ≡ in_front (v ∷ []) (refs_behind bytes o t next)
+    → refs_of_lines t (Some b) bytes (advertised_lines bytes o at) ≡ in_front (v ∷ []) (refs_following bytes o t next)
 pairs bytes o t at next b left base text v e l p =
     one_more bytes o t at next (Some b) text (Ok (peels left base)) e l
     ∙ ap (λ x. with_ref x (refs_after bytes o t next None)) p ∙ front_one v (refs_after bytes o t next None)
@@ -180,23 +180,23 @@ pair_of_other bytes None p n left base e h f = (other_base, ap (λ q. pair_by q 
 
 pub reads_last : (bytes : List ℕ) (o : RefsOpening) (t : List Symref) (from place next count : ℕ) (old now : List RefRecord) (r : RefRecord)
     → count < length now → drop count now ≡ drop count old → All (IsRecordWithin bytes) (take count now)
-    → refs_behind bytes o t from ≡ in_front (refs_in bytes (take count now)) (refs_behind bytes o t place)
+    → refs_following bytes o t from ≡ in_front (refs_in bytes (take count now)) (refs_following bytes o t place)
     → (advertised_lines bytes o from).ending ≡ (advertised_lines bytes o place).ending
-    → refs_behind bytes o t place ≡ Ok (ref_in bytes r ∷ []) → IsRecordWithin bytes r → StopsBefore bytes o place next
+    → refs_following bytes o t place ≡ Ok (ref_in bytes r ∷ []) → IsRecordWithin bytes r → StopsBefore bytes o place next
     → length (slice_set now count r) ≡ length now
     → ReadsGroups bytes o t from old (record { count = count + 1; next = next; end = Stop }) (slice_set now count r)
-reads_last bytes o t from place next count old now r under rest within so ending last here behind_stop size =
+reads_last bytes o t from place next count old now r under rest within so ending last here follows_stop size =
     let first : take (count + 1) (slice_set now count r) ≡ take count now ++ r ∷ [] = take_more_set now count r under in
     let values = ap (refs_in bytes) first ∙ map_push (ref_in bytes) (take count now) r in
     let step : count < count + 1 = omega arith in
-    let behind : drop (count + 1) (slice_set now count r) ≡ drop (count + 1) now = drop-set-lt (count + 1) now count r step in
+    let following : drop (count + 1) (slice_set now count r) ≡ drop (count + 1) now = drop-set-lt (count + 1) now count r step in
     record {
       room = omega (arith, size);
       full = λ f. absurd cc;
-      rest = behind ∙ sym (drop-drop 1 count now) ∙ ap (drop 1) rest ∙ drop-drop 1 count old;
+      rest = following ∙ sym (drop-drop 1 count now) ∙ ap (drop 1) rest ∙ drop-drop 1 count old;
       within = All-same (IsRecordWithin bytes) _ _ first (All-push (IsRecordWithin bytes) (take count now) r within here);
       ends = (
         so ∙ ap (in_front (refs_in bytes (take count now))) last ∙ ap Ok (sym values),
-        (behind_stop.0, ending ∙ behind_stop.1, behind_stop.2),
+        (follows_stop.0, ending ∙ follows_stop.1, follows_stop.2),
       );
     }

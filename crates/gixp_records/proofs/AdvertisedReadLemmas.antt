@@ -1,7 +1,7 @@
 -- The end of a call that reads an advertisement.
 use Rattle.std.proofs.Common.{ℕ, List, refl, Err}
 use Rattle.gixp_capabilities.specs.Capabilities.{capabilities_of_words}
-use Rattle.gixp_wire.specs.CapabilityAdvertisement.{advertisement}
+use Rattle.gixp_transport.specs.CapabilityAdvertisement.{advertisement}
 use Rattle.gixp_refs.specs.RefAdvertisement.{symref_table}
 use Rattle.gixp_records.specs.declared.advertised.AdvertisedEnd.TheVariants.{Refused}
 use Rattle.gixp_records.specs.declared.advertised.opening.RefsOpening.{RefsOpening}

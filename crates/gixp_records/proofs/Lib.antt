@@ -8,5 +8,5 @@ pub mod AdvertisedLemmas
 pub mod SymrefSpanLemmas
 pub mod OpeningLemmas
 pub mod AdvertisedReadLemmas
-pub mod ToldLemmas
+pub mod WrittenEntriesLemmas
 pub mod SpecTextLemmas

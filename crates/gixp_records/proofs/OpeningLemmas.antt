@@ -8,8 +8,8 @@ use Rattle.gixp_packetline.specs.declared.protocol.Protocol.TheVariants.{V0}
 use Rattle.gixp_packetline.specs.Pieces.{line, Pieces, with_piece}
 use Rattle.gixp_packetline.specs.Lines.{next_of}
 use Rattle.gixp_capabilities.specs.Cut.{cut, parts_at}
-use Rattle.gixp_capabilities.specs.Capabilities.{capabilities_of_words, capabilities_behind, capabilities_of_line}
-use Rattle.gixp_wire.specs.CapabilityAdvertisement.{Named, one, two, another, unnamed, version_named, by_first, by_version, advertisement}
+use Rattle.gixp_capabilities.specs.Capabilities.{capabilities_of_words, capabilities_after, capabilities_of_line}
+use Rattle.gixp_transport.specs.CapabilityAdvertisement.{Named, one, two, another, unnamed, version_named, by_first, by_version, advertisement}
 use Rattle.gixp_records.specs.declared.advertised.opening.NamedVersion.TheVariants.{One, Two, Another, Unnamed}
 use Rattle.gixp_records.specs.declared.advertised.opening.Opened.{Opened}
 use Rattle.gixp_records.specs.declared.advertised.refused.AdvertisedRefused.{AdvertisedRefused}
@@ -17,21 +17,21 @@ use Rattle.gixp_records.specs.Packets.{pieces_at}
 use Rattle.gixp_records.specs.RefsOpening.{named_as, IsOpened}
 
 -- the capabilities after the first NUL, and its offset
-pub cut_capabilities : (text front behind : List ℕ) → cut 0 text ≡ (front, Some behind)
-    → capabilities_of_line text ≡ Some (capabilities_of_words (strip_last 10 behind), length front)
-cut_capabilities text front behind h = at (position (λ x. x == 0) text) refl h
+pub cut_capabilities : (text front following : List ℕ) → cut 0 text ≡ (front, Some following)
+    → capabilities_of_line text ≡ Some (capabilities_of_words (strip_last 10 following), length front)
+cut_capabilities text front following h = at (position (λ x. x == 0) text) refl h
   where
-    at : (o : Option ℕ) → position (λ x. x == 0) text ≡ o → parts_at text o ≡ (front, Some behind)
-        → capabilities_of_line text ≡ Some (capabilities_of_words (strip_last 10 behind), length front)
+    at : (o : Option ℕ) → position (λ x. x == 0) text ≡ o → parts_at text o ≡ (front, Some following)
+        → capabilities_of_line text ≡ Some (capabilities_of_words (strip_last 10 following), length front)
     at None p e = let k = ap (λ (x : List ℕ × Option (List ℕ)). x.1) e in absurd cc
     at (Some i) p e =
-        let k : Some (drop (i + 1) text) ≡ Some behind = ap (λ (x : List ℕ × Option (List ℕ)). x.1) e in
+        let k : Some (drop (i + 1) text) ≡ Some following = ap (λ (x : List ℕ × Option (List ℕ)). x.1) e in
         let first : take i text ≡ front = ap (λ (x : List ℕ × Option (List ℕ)). x.0) e in
-        let rest : drop (i + 1) text ≡ behind = cc in
+        let rest : drop (i + 1) text ≡ following = cc in
         let short : i < length text = (position-Some (λ x. x == 0) text i 0 p).0 in
         let size : length front ≡ i = ap length (sym first) ∙ length-take-le i text (omega arith) in
-        ap (capabilities_behind text) p ∙ ap (λ r. Some (capabilities_of_words (strip_last 10 r), i)) rest
-        ∙ ap (λ n. Some (capabilities_of_words (strip_last 10 behind), n)) (sym size)
+        ap (capabilities_after text) p ∙ ap (λ r. Some (capabilities_of_words (strip_last 10 r), i)) rest
+        ∙ ap (λ n. Some (capabilities_of_words (strip_last 10 following), n)) (sym size)
 
 pub names_one : (n : Named) → named_as n ≡ One → n ≡ one
 names_one one e = refl

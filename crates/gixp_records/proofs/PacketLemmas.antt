@@ -22,9 +22,9 @@ is_front bytes f fs h e = at f (subst (λ (k : Frames). AreFrames bytes k.list k
     at : (f : Frame) → AreFrames bytes (f ∷ fs.list) fs.end → IsFront f bytes
     at (payload p) g =
         let whole : bytes ≡ g.3.0 ++ (p ++ g.1) = g.2 ∙ ap (λ t. t ++ g.1) g.3.2 ∙ append_assoc g.3.0 p g.1 in
-        let behind : drop 4 bytes ≡ p ++ g.1 = ap (drop 4) whole ∙ drop_at g.3.0 (p ++ g.1) 4 g.3.1.0 in
+        let following : drop 4 bytes ≡ p ++ g.1 = ap (drop 4) whole ∙ drop_at g.3.0 (p ++ g.1) 4 g.3.1.0 in
         let long : length bytes ≡ length g.3.0 + length (p ++ g.1) = ap length whole ∙ length-append g.3.0 (p ++ g.1) in
-        (ap (take (length p)) behind ∙ take_at p g.1 (length p) refl, omega (arith, long, length-append p g.1, g.3.1.0))
+        (ap (take (length p)) following ∙ take_at p g.1 (length p) refl, omega (arith, long, length-append p g.1, g.3.1.0))
     at (special Flush) g = omega (arith, ap length g.2 ∙ length-append g.0 g.1, g.3.0)
     at (special Delimiter) g = omega (arith, ap length g.2 ∙ length-append g.0 g.1, g.3.0)
     at (special ResponseEnd) g = omega (arith, ap length g.2 ∙ length-append g.0 g.1, g.3.0)
@@ -60,8 +60,8 @@ placed bytes at text rest h =
     record {
       stands = ap (take (length text)) (sym (drop-drop 4 at bytes)) ∙ h.front.0;
       within = omega arith;
-      next = rest_at bytes rest at (4 + length text) h.place h.behind h.front.1;
-      same = rest_is bytes rest at (4 + length text) h.place h.behind h.front.1;
+      next = rest_at bytes rest at (4 + length text) h.place h.following h.front.1;
+      same = rest_is bytes rest at (4 + length text) h.place h.following h.front.1;
       pieces = ap pieces_of h.frames;
     }
 
@@ -71,10 +71,10 @@ line_next bytes at text rest h plain =
     let p = placed bytes at text rest h in
     let next = length bytes - length rest in
     let shown : take (length text) (drop (at + 4) bytes) ≡ text = p.stands in
-    let behind : stream_pieces rest ≡ pieces_at bytes next = ap stream_pieces p.same in
+    let following : stream_pieces rest ≡ pieces_at bytes next = ap stream_pieces p.same in
     let short = length-drop next bytes in (
       p.pieces ∙ cond-false _ _ _ plain ∙ ap (λ t. with_piece (line t) (stream_pieces rest)) (sym shown)
-          ∙ ap (λ q. with_piece (line (take (length text) (drop (at + 4) bytes))) q) behind,
+          ∙ ap (λ q. with_piece (line (take (length text) (drop (at + 4) bytes))) q) following,
       p.within,
       ap is_error shown ∙ plain,
       (omega (arith, p.next), omega (arith, p.next, p.within)),
@@ -83,15 +83,15 @@ line_next bytes at text rest h plain =
 pub server_next : (bytes : List ℕ) (at : ℕ) (text rest : List ℕ) (words : Span) → HasFront bytes at (payload text) rest
     → is_error text ≡ true → text_at bytes words ≡ error_message text → IsWithin bytes words
     → IsNextPacket bytes at (Err (Server words))
-server_next bytes at text rest words h wrong said within =
+server_next bytes at text rest words h wrong attributes within =
     let p = placed bytes at text rest h in
-    (p.pieces ∙ cond-true _ _ _ wrong ∙ ap (λ t. no_pieces (server t)) (sym said), within)
+    (p.pieces ∙ cond-true _ _ _ wrong ∙ ap (λ t. no_pieces (server t)) (sym attributes), within)
 
 pub mark_next : (bytes : List ℕ) (at : ℕ) (kind : MessageKind) (rest : List ℕ) → HasFront bytes at (special kind) rest
     → IsNextPacket bytes at (Ok (Mark kind (length bytes - length rest)))
 mark_next bytes at kind rest h =
-    let next = rest_at bytes rest at 4 h.place h.behind h.front in
-    let same = rest_is bytes rest at 4 h.place h.behind h.front in
+    let next = rest_at bytes rest at 4 h.place h.following h.front in
+    let same = rest_is bytes rest at 4 h.place h.following h.front in
     let d = length-drop at bytes in
     let size = h.front in
     let place = h.place in (
@@ -101,7 +101,7 @@ mark_next bytes at kind rest h =
 
 pub rest_short : (bytes : List ℕ) (at : ℕ) (f : Frame) (rest : List ℕ) → HasFront bytes at f rest → length rest ≤ length bytes
 rest_short bytes at f rest h =
-    let r : length rest ≡ length (drop at bytes) - frame_size f = ap length h.behind ∙ length-drop (frame_size f) (drop at bytes) in
+    let r : length rest ≡ length (drop at bytes) - frame_size f = ap length h.following ∙ length-drop (frame_size f) (drop at bytes) in
     omega (arith, r, length-drop at bytes)
 
 pub has_front : (bytes : List ℕ) (at : ℕ) (f : Frame) (rest : List ℕ) → at ≤ length bytes
@@ -109,7 +109,7 @@ pub has_front : (bytes : List ℕ) (at : ℕ) (f : Frame) (rest : List ℕ) → 
     → frames_of (drop at bytes) ≡ with_frame f (frames_of rest) → rest ≡ drop (frame_size f) (drop at bytes) → HasFront bytes at f rest
 has_front bytes at f rest place h e k = record {
   frames = e;
-  behind = k;
+  following = k;
   front = is_front (drop at bytes) f (frames_of rest) h e;
   place = place;
 }

@@ -65,31 +65,31 @@ pub attributes_two : (line rest third fourth : List ℕ) (first : AttributeValue
 attributes_two line rest third fourth first c h =
     ap (attributes_in line) c ∙ ap (λ x. and_then x (with_attribute line fourth)) h
 
-named_some : (line name : List ℕ) (object behind : Option (List ℕ)) → (length name ≡ 0 → ⊥)
-    → named line object (name, behind) ≡ and_then (attributes_of line behind) (value_of object name)
-named_some line [] object behind h = absurd (h refl)
-named_some line (x ∷ xs) object behind h = refl
+named_some : (line name : List ℕ) (object following : Option (List ℕ)) → (length name ≡ 0 → ⊥)
+    → named line object (name, following) ≡ and_then (attributes_of line following) (value_of object name)
+named_some line [] object following h = absurd (h refl)
+named_some line (x ∷ xs) object following h = refl
 
-named_none : (line name : List ℕ) (object behind : Option (List ℕ)) → length name ≡ 0
-    → named line object (name, behind) ≡ Err (malformed_v2 line)
-named_none line [] object behind h = refl
-named_none line (x ∷ xs) object behind h = absurd (omega arith)
+named_none : (line name : List ℕ) (object following : Option (List ℕ)) → length name ≡ 0
+    → named line object (name, following) ≡ Err (malformed_v2 line)
+named_none line [] object following h = refl
+named_none line (x ∷ xs) object following h = absurd (omega arith)
 
-pub named_empty : (line rest name : List ℕ) (object behind : Option (List ℕ)) → cut 32 rest ≡ (name, behind) → length name ≡ 0
+pub named_empty : (line rest name : List ℕ) (object following : Option (List ℕ)) → cut 32 rest ≡ (name, following) → length name ≡ 0
     → named line object (cut 32 rest) ≡ Err (malformed_v2 line)
-named_empty line rest name object behind c z = ap (named line object) c ∙ named_none line name object behind z
+named_empty line rest name object following c z = ap (named line object) c ∙ named_none line name object following z
 
-pub named_err : (line rest name : List ℕ) (object behind : Option (List ℕ)) (e : LineRefused) → cut 32 rest ≡ (name, behind)
-    → (length name ≡ 0 → ⊥) → Judges (attributes_of line behind) e → Judges (named line object (cut 32 rest)) e
-named_err line rest name object behind e c z j =
-    judged_same _ (and_then (attributes_of line behind) (value_of object name)) e
-    (ap (named line object) c ∙ named_some line name object behind z)
-    (judged_then (attributes_of line behind) (value_of object name) e j)
+pub named_err : (line rest name : List ℕ) (object following : Option (List ℕ)) (e : LineRefused) → cut 32 rest ≡ (name, following)
+    → (length name ≡ 0 → ⊥) → Judges (attributes_of line following) e → Judges (named line object (cut 32 rest)) e
+named_err line rest name object following e c z j =
+    judged_same _ (and_then (attributes_of line following) (value_of object name)) e
+    (ap (named line object) c ∙ named_some line name object following z)
+    (judged_then (attributes_of line following) (value_of object name) e j)
 
-pub named_then : (line rest name : List ℕ) (object behind : Option (List ℕ)) (a : AttributeValues) → cut 32 rest ≡ (name, behind)
-    → (length name ≡ 0 → ⊥) → attributes_of line behind ≡ Ok a → named line object (cut 32 rest) ≡ value_of object name a
-named_then line rest name object behind a c z h =
-    ap (named line object) c ∙ named_some line name object behind z ∙ ap (λ x. and_then x (value_of object name)) h
+pub named_then : (line rest name : List ℕ) (object following : Option (List ℕ)) (a : AttributeValues) → cut 32 rest ≡ (name, following)
+    → (length name ≡ 0 → ⊥) → attributes_of line following ≡ Ok a → named line object (cut 32 rest) ≡ value_of object name a
+named_then line rest name object following a c z h =
+    ap (named line object) c ∙ named_some line name object following z ∙ ap (λ x. and_then x (value_of object name)) h
 
 pub line_none : (text trimmed first : List ℕ) → trimmed ≡ trim_end_by is_whitespace text → cut 32 trimmed ≡ (first, None)
     → v2_line text ≡ Err (malformed_v2 trimmed)

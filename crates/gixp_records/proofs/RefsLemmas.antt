@@ -12,7 +12,7 @@ use Rattle.gixp_records.specs.declared.refs.RefRecord.{RefRecord}
 use Rattle.gixp_records.specs.declared.refs.RefsRefused.{RefsRefused}
 use Rattle.gixp_records.specs.declared.refs.RefsEnd.TheVariants.{Full, Stop, Refused}
 use Rattle.gixp_records.specs.Refs.{refs_in, lines_at, IsRecordWithin, IsRefusedAt, AreLinesTo, ReadsRecords}
-use Rattle.gixp_records.specs.Packets.{pieces_at, IsBehind}
+use Rattle.gixp_records.specs.Packets.{pieces_at, IsAfterPacket}
 
 pub refs_more : (texts : List (List ℕ)) (values : List RefValue) (text : List ℕ) (value : RefValue) → AreRefs texts values
     → v2_line text ≡ Ok value → AreRefs (texts ++ text ∷ []) (values ++ value ∷ [])
@@ -29,7 +29,7 @@ lines_none bytes from h = record { texts = []; lines = refl; refs = tt; in_order
 
 pub lines_more : (bytes : List ℕ) (from at next : ℕ) (values : List RefValue) (text : List ℕ) (value : RefValue)
     → AreLinesTo bytes from at values → lines_at bytes at ≡ before (text ∷ []) (lines_at bytes next) → v2_line text ≡ Ok value
-    → IsBehind bytes at next → AreLinesTo bytes from next (values ++ value ∷ [])
+    → IsAfterPacket bytes at next → AreLinesTo bytes from next (values ++ value ∷ [])
 lines_more bytes from at next values text value so e v b =
     let after = b.0 in
     let inside = b.1 in
@@ -61,7 +61,7 @@ refs_stopped bytes from at next values kind so e =
 pub reads_stop : (bytes : List ℕ) (from at next count : ℕ) (old new : List RefRecord) (kind : MessageKind) → count ≤ length new
     → drop count new ≡ drop count old → All (IsRecordWithin bytes) (take count new)
     → AreLinesTo bytes from at (refs_in bytes (take count new)) → lines_at bytes at ≡ no_lines (stop kind (pieces_at bytes next))
-    → IsBehind bytes at next → ReadsRecords bytes from old (record { count = count; next = next; end = Stop }) new
+    → IsAfterPacket bytes at next → ReadsRecords bytes from old (record { count = count; next = next; end = Stop }) new
 reads_stop bytes from at next count old new kind room rest within so e b = record {
   room = room;
   full = λ f. absurd cc;

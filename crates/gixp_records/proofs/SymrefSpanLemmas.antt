@@ -17,13 +17,13 @@ use Rattle.gixp_records.specs.Span.{text_at, IsWithin}
 use Rattle.gixp_records.proofs.SpanLemmas.{length-text_at, cut_parts}
 use Rattle.gixp_records.specs.V1RecordLine.{IsRefusedAs}
 
-abbrev pub parts_behind : ℕ → Option (List ℕ) → List (List ℕ)
-parts_behind b None = []
-parts_behind b (Some rest) = slice_split (λ x. x == b) rest
+abbrev pub parts_after : ℕ → Option (List ℕ) → List (List ℕ)
+parts_after b None = []
+parts_after b (Some rest) = slice_split (λ x. x == b) rest
 
 -- the first part ends before the first separator
 parts_by : (b : ℕ) (text : List ℕ) → (position_or_len (λ x. x == b) text < length text) ⊎ (length text ≤ position_or_len
-    (λ x. x == b) text) → slice_split (λ x. x == b) text ≡ (cut b text).0 ∷ parts_behind b (cut b text).1
+    (λ x. x == b) text) → slice_split (λ x. x == b) text ≡ (cut b text).0 ∷ parts_after b (cut b text).1
 parts_by b text (inl lt) =
     let p : ℕ → Bool = λ x. x == b in
     let some : nat_lt (position_or_len p text) (length text) ≡ true = lt-ltb _ _ lt in
@@ -34,7 +34,7 @@ parts_by b text (inr le) =
     false_from_ne_true _ (λ t. let x = ltb-true (position_or_len p text) (length text) t in absurd (omega arith)) in
     rw none (slice_split_none p text (All-from_get_or (λ x. p x ≡ false) text 0 (λ k lt. fails_before_first p text k 0 (omega arith))))
 
-parts_of_cut : (b : ℕ) (text : List ℕ) → slice_split (λ x. x == b) text ≡ (cut b text).0 ∷ parts_behind b (cut b text).1
+parts_of_cut : (b : ℕ) (text : List ℕ) → slice_split (λ x. x == b) text ≡ (cut b text).0 ∷ parts_after b (cut b text).1
 parts_of_cut b text = parts_by b text (cases_lt (position_or_len (λ x. x == b) text) (length text))
 
 -- the symrefs of the rest of the text
@@ -53,7 +53,7 @@ of_piece [] rest = rest
 of_piece (x ∷ xs) rest = with_symref (symref_in (capability_of (x ∷ xs))) rest
 
 of_parts : (word : List ℕ) (rest : Option (List ℕ))
-    → symref_table (map capability_of (filter has_bytes (word ∷ parts_behind 32 rest))) ≡ of_piece word (symrefs_left rest)
+    → symref_table (map capability_of (filter has_bytes (word ∷ parts_after 32 rest))) ≡ of_piece word (symrefs_left rest)
 unfolding capabilities_of_words
 of_parts [] None = refl
 of_parts [] (Some text) = refl
@@ -66,7 +66,7 @@ symrefs_of_cut : (text word : List ℕ) (rest : Option (List ℕ)) → cut 32 te
 unfolding capabilities_of_words
 symrefs_of_cut text word rest e =
     ap (λ ws. symref_table (map capability_of (filter has_bytes ws)))
-    (parts_of_cut 32 text ∙ ap (λ (c : List ℕ × Option (List ℕ)). c.0 ∷ parts_behind 32 c.1) e) ∙ of_parts word rest
+    (parts_of_cut 32 text ∙ ap (λ (c : List ℕ × Option (List ℕ)). c.0 ∷ parts_after 32 c.1) e) ∙ of_parts word rest
 
 piece_some : (word : List ℕ) (rest : Result (List Symref) RefsRefusal) → (length word ≡ 0 → ⊥)
     → of_piece word rest ≡ with_symref (symref_in (capability_of word)) rest
@@ -124,7 +124,7 @@ span_less bytes text word (Some s) h k e =
     let p = cut_parts 32 (text_at bytes text) word (text_at bytes s) e in
     let i = p.0 in
     let all = length-text_at bytes text.at text.len h in
-    let behind = length-text_at bytes s.at s.len k in
+    let following = length-text_at bytes s.at s.len k in
     let less : length (text_at bytes s) ≡ length (text_at bytes text) - (i + 1) =
     ap length p.3 ∙ length-drop (i + 1) (text_at bytes text) in
     omega (arith, p.1)

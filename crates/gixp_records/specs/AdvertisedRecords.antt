@@ -5,27 +5,27 @@ use Rattle.gixp_packetline.specs.declared.protocol.MessageKind.{MessageKind}
 use Rattle.gixp_packetline.specs.declared.protocol.Protocol.{Protocol}
 use Rattle.gixp_packetline.specs.Lines.{stop, Lines, no_lines, before, refusal}
 use Rattle.gixp_capabilities.specs.Capabilities.{capabilities_of_words}
-use Rattle.gixp_wire.specs.CapabilityAdvertisement.{advertisement, empty_advertisement}
+use Rattle.gixp_transport.specs.CapabilityAdvertisement.{advertisement, empty_advertisement}
 use Rattle.gixp_refs.specs.Ref.{RefValue}
 use Rattle.gixp_refs.specs.RefLine.{RefsRefusal, refusal_from}
 use Rattle.gixp_refs.specs.RefAdvertisement.{Symref, symref_table, v1_line, end_refusal, groups, in_front}
 use Rattle.gixp_records.specs.declared.advertised.AdvertisedEnd.{AdvertisedEnd}
 use Rattle.gixp_records.specs.declared.advertised.AdvertisedEnd.TheVariants.{Full, Stop, Refused}
 use Rattle.gixp_records.specs.declared.advertised.AdvertisedFound.{AdvertisedFound}
-use Rattle.gixp_records.specs.declared.advertised.line.AdvertisedLine.{AdvertisedLine}
-use Rattle.gixp_records.specs.declared.advertised.line.NamedLine.{NamedLine}
+use Rattle.gixp_records.specs.declared.advertised.ref_line.AdvertisedLine.{AdvertisedLine}
+use Rattle.gixp_records.specs.declared.advertised.ref_line.NamedLine.{NamedLine}
 use Rattle.gixp_records.specs.declared.advertised.groups.NextAdvertised.{NextAdvertised}
 use Rattle.gixp_records.specs.declared.advertised.groups.NextAdvertised.TheVariants.{Line, Stop as StopNext}
-use Rattle.gixp_records.specs.declared.advertised.groups.Reach.{Reach}
-use Rattle.gixp_records.specs.declared.advertised.groups.Step.{Step}
-use Rattle.gixp_records.specs.declared.advertised.groups.Step.TheVariants.{On, Record, Last, Stop as StopStep}
+use Rattle.gixp_records.specs.declared.advertised.groups.SymrefScope.{SymrefScope}
+use Rattle.gixp_records.specs.declared.advertised.groups.Scan.{Scan}
+use Rattle.gixp_records.specs.declared.advertised.groups.Scan.TheVariants.{On, Record, Last, Stop as StopStep}
 use Rattle.gixp_records.specs.declared.advertised.opening.RefsOpening.{RefsOpening}
 use Rattle.gixp_records.specs.declared.advertised.refused.AdvertisedRefused.{AdvertisedRefused}
 use Rattle.gixp_records.specs.declared.advertised.refused.AdvertisedRefused.TheVariants.{Packet, Line as LineRefused, Memory}
 use Rattle.gixp_records.specs.declared.advertised.refused.AdvertisedLineRefused.{AdvertisedLineRefused}
 use Rattle.gixp_records.specs.declared.refs.RefRecord.{RefRecord}
 use Rattle.gixp_records.specs.Span.{text_at, IsWithin}
-use Rattle.gixp_records.specs.Packets.{pieces_at, refusal_in, AreWordsWithin, IsBehind}
+use Rattle.gixp_records.specs.Packets.{pieces_at, refusal_in, AreWordsWithin, IsAfterPacket}
 use Rattle.gixp_records.specs.Refs.{ref_in, refs_in, IsRecordWithin}
 use Rattle.gixp_records.specs.V1RecordLine.{IsRefusedAs, named_in, line_in, IsAdvertisedWithin}
 use Rattle.gixp_records.specs.RefsOpening.{IsOpening, IsNotOpened, advertised_lines}
@@ -34,9 +34,9 @@ use Rattle.gixp_records.specs.RefsOpening.{IsOpening, IsNotOpened, advertised_li
 abbrev pub IsNextAdvertised : List ℕ → RefsOpening → ℕ → Result NextAdvertised AdvertisedRefused → Type 0
 IsNextAdvertised bytes o at (Ok (Line l next)) = (text : List ℕ)
     × (advertised_lines bytes o at ≡ before (text ∷ []) (advertised_lines bytes o next))
-    × (v1_line text ≡ Ok (line_in bytes l)) × IsAdvertisedWithin bytes l × IsBehind bytes at next
+    × (v1_line text ≡ Ok (line_in bytes l)) × IsAdvertisedWithin bytes l × IsAfterPacket bytes at next
 IsNextAdvertised bytes o at (Ok (StopNext next)) = (kind : MessageKind)
-    × (advertised_lines bytes o at ≡ no_lines (stop kind (pieces_at bytes next))) × IsBehind bytes at next
+    × (advertised_lines bytes o at ≡ no_lines (stop kind (pieces_at bytes next))) × IsAfterPacket bytes at next
 IsNextAdvertised bytes o at (Err (Packet e)) = (advertised_lines bytes o at ≡ no_lines (refusal (refusal_in bytes e)))
     × AreWordsWithin bytes e
 IsNextAdvertised bytes o at (Err (LineRefused e)) = (text : List ℕ) × (rest : Lines)
@@ -48,12 +48,12 @@ abbrev pub refs_of_lines : List Symref → Option NamedLine → List ℕ → Lin
 refs_of_lines t last bytes l = groups l.lines (end_refusal l.ending) t (option_map (named_in bytes) last)
 
 -- the refs from an offset on, or the first error
-abbrev pub refs_behind : List ℕ → RefsOpening → List Symref → ℕ → Result (List RefValue) RefsRefusal
-refs_behind bytes o t at = refs_of_lines t None bytes (advertised_lines bytes o at)
+abbrev pub refs_following : List ℕ → RefsOpening → List Symref → ℕ → Result (List RefValue) RefsRefusal
+refs_following bytes o t at = refs_of_lines t None bytes (advertised_lines bytes o at)
 
 -- the position of a reader: the refs from its offset on are those of the rest after the open ref line
-pub record IsReach (bytes : List ℕ) (o : RefsOpening) (t : List Symref) (r : Reach) : Type 0 where
-  pub refs : refs_behind bytes o t r.place ≡ refs_of_lines t r.last bytes (advertised_lines bytes o r.at)
+pub record IsSymrefScope (bytes : List ℕ) (o : RefsOpening) (t : List Symref) (r : SymrefScope) : Type 0 where
+  pub refs : refs_following bytes o t r.place ≡ refs_of_lines t r.last bytes (advertised_lines bytes o r.at)
   pub ending : (advertised_lines bytes o r.place).ending ≡ (advertised_lines bytes o r.at).ending
   pub last : IfSome r.last (λ n. IsWithin bytes n.name)
   pub place : o.first ≤ r.place
@@ -61,18 +61,18 @@ pub record IsReach (bytes : List ℕ) (o : RefsOpening) (t : List Symref) (r : R
   pub within : r.at ≤ length bytes
 
 -- the next line, and the offset after it
-pub record StandsNext (bytes : List ℕ) (o : RefsOpening) (t : List Symref) (r : Reach) (l : AdvertisedLine) (next : ℕ) : Type 0 where
-  pub reach : IsReach bytes o t r
+pub record IsNextLine (bytes : List ℕ) (o : RefsOpening) (t : List Symref) (r : SymrefScope) (l : AdvertisedLine) (next : ℕ) : Type 0 where
+  pub scope : IsSymrefScope bytes o t r
   pub text : List ℕ
   pub lines : advertised_lines bytes o r.at ≡ before (text ∷ []) (advertised_lines bytes o next)
   pub value : v1_line text ≡ Ok (line_in bytes l)
-  pub behind : IsBehind bytes r.at next
+  pub following : IsAfterPacket bytes r.at next
 
 -- the error of reading refs from an offset on
-abbrev pub IsRefusedBehind : List ℕ → RefsOpening → List Symref → ℕ → AdvertisedRefused → Type 0
-IsRefusedBehind bytes o t at (Packet e) = (refs_behind bytes o t at ≡ Err (refusal_from (refusal_in bytes e))) × AreWordsWithin bytes e
-IsRefusedBehind bytes o t at (LineRefused e) = IsRefusedAs (refs_behind bytes o t at) e
-IsRefusedBehind bytes o t at _ = ⊥
+abbrev pub IsRefusedAfter : List ℕ → RefsOpening → List Symref → ℕ → AdvertisedRefused → Type 0
+IsRefusedAfter bytes o t at (Packet e) = (refs_following bytes o t at ≡ Err (refusal_from (refusal_in bytes e))) × AreWordsWithin bytes e
+IsRefusedAfter bytes o t at (LineRefused e) = IsRefusedAs (refs_following bytes o t at) e
+IsRefusedAfter bytes o t at _ = ⊥
 
 -- the lines end with a stop, and this is the offset after it
 abbrev pub StopsBefore : List ℕ → RefsOpening → ℕ → ℕ → Type 0
@@ -80,26 +80,26 @@ StopsBefore bytes o at next = (kind : MessageKind) × ((advertised_lines bytes o
     × (next ≤ length bytes)
 
 -- one more line was read: it completed no ref, or a ref, or it was the stop, possibly after one last ref
-abbrev pub IsStep : List ℕ → RefsOpening → List Symref → Reach → Result Step AdvertisedRefused → Type 0
-IsStep bytes o t old (Ok (On new)) = (refs_behind bytes o t old.place ≡ refs_behind bytes o t new.place)
+abbrev pub IsStep : List ℕ → RefsOpening → List Symref → SymrefScope → Result Scan AdvertisedRefused → Type 0
+IsStep bytes o t old (Ok (On new)) = (refs_following bytes o t old.place ≡ refs_following bytes o t new.place)
     × ((advertised_lines bytes o old.place).ending ≡ (advertised_lines bytes o new.place).ending)
-    × IsReach bytes o t new × (old.at < new.at)
+    × IsSymrefScope bytes o t new × (old.at < new.at)
 IsStep bytes o t old (Ok (Record r new)) =
-    (refs_behind bytes o t old.place ≡ in_front (ref_in bytes r ∷ []) (refs_behind bytes o t new.place))
+    (refs_following bytes o t old.place ≡ in_front (ref_in bytes r ∷ []) (refs_following bytes o t new.place))
     × ((advertised_lines bytes o old.place).ending ≡ (advertised_lines bytes o new.place).ending)
-    × IsReach bytes o t new × IsRecordWithin bytes r × (old.at < new.at)
-IsStep bytes o t old (Ok (Last r next)) = (refs_behind bytes o t old.place ≡ Ok (ref_in bytes r ∷ []))
+    × IsSymrefScope bytes o t new × IsRecordWithin bytes r × (old.at < new.at)
+IsStep bytes o t old (Ok (Last r next)) = (refs_following bytes o t old.place ≡ Ok (ref_in bytes r ∷ []))
     × IsRecordWithin bytes r × StopsBefore bytes o old.place next
-IsStep bytes o t old (Ok (StopStep next)) = (refs_behind bytes o t old.place ≡ Ok []) × StopsBefore bytes o old.place next
-IsStep bytes o t old (Err e) = IsRefusedBehind bytes o t old.place e
+IsStep bytes o t old (Ok (StopStep next)) = (refs_following bytes o t old.place ≡ Ok []) × StopsBefore bytes o old.place next
+IsStep bytes o t old (Err e) = IsRefusedAfter bytes o t old.place e
 
 -- the end of a call that read these refs from an offset on
 abbrev pub ReadsGroupsTo : List ℕ → RefsOpening → List Symref → ℕ → ℕ → List RefValue → AdvertisedEnd → Type 0
 ReadsGroupsTo bytes o t from next values Full =
-    (refs_behind bytes o t from ≡ in_front values (refs_behind bytes o t next)) × (next ≤ length bytes)
-ReadsGroupsTo bytes o t from next values Stop = (refs_behind bytes o t from ≡ Ok values) × StopsBefore bytes o from next
+    (refs_following bytes o t from ≡ in_front values (refs_following bytes o t next)) × (next ≤ length bytes)
+ReadsGroupsTo bytes o t from next values Stop = (refs_following bytes o t from ≡ Ok values) × StopsBefore bytes o from next
 ReadsGroupsTo bytes o t from next values (Refused e) =
-    (refs_behind bytes o t from ≡ in_front values (refs_behind bytes o t next)) × IsRefusedBehind bytes o t next e × (next ≤ length bytes)
+    (refs_following bytes o t from ≡ in_front values (refs_following bytes o t next)) × IsRefusedAfter bytes o t next e × (next ≤ length bytes)
 
 -- the refs from an offset on are in the first records, and the other records are unchanged
 pub record ReadsGroups (bytes : List ℕ) (o : RefsOpening) (t : List Symref) (from : ℕ) (old : List RefRecord) (found : AdvertisedFound)

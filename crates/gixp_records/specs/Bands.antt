@@ -6,7 +6,7 @@ use Rattle.gixp_records.specs.declared.packets.PacketRefused.{PacketRefused}
 use Rattle.gixp_records.specs.declared.bands.BandPiece.{BandPiece}
 use Rattle.gixp_records.specs.declared.bands.BandPiece.TheVariants.{Content, Progress, Error, Stop}
 use Rattle.gixp_records.specs.Span.{text_at, IsWithin}
-use Rattle.gixp_records.specs.Packets.{pieces_at, refusal_in, AreWordsWithin, IsBehind}
+use Rattle.gixp_records.specs.Packets.{pieces_at, refusal_in, AreWordsWithin, IsAfterPacket}
 
 -- content before the rest; empty content adds nothing
 abbrev pub with_content : List ℕ → Pieces → Pieces
@@ -51,6 +51,6 @@ abbrev pub IsNextPiece : List ℕ → ℕ → Result (BandPiece × ℕ) PacketRe
 IsNextPiece bytes at (Ok (piece, next)) =
     (unband (pieces_at bytes at) ≡ content_before bytes piece (unband (pieces_at bytes next)))
     × (messages_of (pieces_at bytes at) ≡ messages_before bytes piece (messages_of (pieces_at bytes next)))
-    × IsPieceWithin bytes piece × IsBehind bytes at next
+    × IsPieceWithin bytes piece × IsAfterPacket bytes at next
 IsNextPiece bytes at (Err e) = (unband (pieces_at bytes at) ≡ no_pieces (refusal_in bytes e))
     × (messages_of (pieces_at bytes at) ≡ []) × AreWordsWithin bytes e

@@ -7,6 +7,6 @@ pub mod Place
 pub mod V1RecordLine
 pub mod RefsOpening
 pub mod AdvertisedRecords
-pub mod Told
+pub mod MappingEntry
 pub mod SpecText
 pub mod MapRecords

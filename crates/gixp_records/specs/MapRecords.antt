@@ -11,7 +11,7 @@ use Rattle.gixp_records.specs.declared.mapped_refs.MapRefused.{MapRefused}
 use Rattle.gixp_records.specs.declared.mapped_refs.MapRefused.TheVariants.{Place, Spec as RefusedSpec, Memory}
 use Rattle.gixp_records.specs.Span.{text_at, IsWithin}
 use Rattle.gixp_records.specs.SpecText.{specs_of_lines}
-use Rattle.gixp_records.specs.Told.{ToldValue, MapBuffers, TellsAll, TellsRoom}
+use Rattle.gixp_records.specs.MappingEntry.{EntryValue, MapBuffers, WritesEntries, LacksRoom}
 
 -- the names of the refs
 abbrev pub names_in : List ℕ → List RefRecord → List (List ℕ)
@@ -22,37 +22,37 @@ abbrev pub AreNamesWithin : List ℕ → List RefRecord → Type 0
 AreNamesWithin bytes refs = All (λ (r : RefRecord). IsWithin bytes r.name) refs
 
 -- the record of a mapping: the index of its ref, or the number of refs if the refspec names an object; its refspec; its local name
-abbrev pub told_mapping : ℕ → Mapped → ToldValue
-told_mapping refs m = record { item = unwrap_or m.item refs; spec = m.spec; local = m.local }
+abbrev pub mapping_entry : ℕ → Mapped → EntryValue
+mapping_entry refs m = record { item = unwrap_or m.item refs; spec = m.spec; local = m.local }
 
 -- the record of a removed mapping: its local name
-abbrev pub told_removed : ℕ → ℕ → Removed → ToldValue
-told_removed refs specs r = record { item = refs; spec = specs; local = r.name }
+abbrev pub removed_entry : ℕ → ℕ → Removed → EntryValue
+removed_entry refs specs r = record { item = refs; spec = specs; local = r.name }
 
 -- the record of a conflict: the number of mappings with this local name
-abbrev pub told_conflict : ℕ → Conflict → ToldValue
-told_conflict specs c = record { item = length c.sources; spec = specs; local = Some c.destination }
+abbrev pub conflict_entry : ℕ → Conflict → EntryValue
+conflict_entry specs c = record { item = length c.sources; spec = specs; local = Some c.destination }
 
 -- the records of the mappings that remain, then those of the removed ones
-abbrev pub mappings_told : ℕ → List Spec → List Mapped → List ToldValue
-mappings_told refs specs ms = map (told_mapping refs) (kept ms) ++ map (told_removed refs (length specs)) (fixes specs ms)
+abbrev pub mapping_entries : ℕ → List Spec → List Mapped → List EntryValue
+mapping_entries refs specs ms = map (mapping_entry refs) (kept ms) ++ map (removed_entry refs (length specs)) (fixes specs ms)
 
-abbrev pub conflicts_told : List Spec → List Mapped → List ToldValue
-conflicts_told specs ms = map (told_conflict (length specs)) (conflicts specs ms)
+abbrev pub conflict_entries : List Spec → List Mapped → List EntryValue
+conflict_entries specs ms = map (conflict_entry (length specs)) (conflicts specs ms)
 
 module _ (refs : ℕ) (specs : List Spec) (ms : List Mapped) (old new : MapBuffers) where
   -- the buffers have the mappings or else the conflicts, or the sizes that these need
-  abbrev pub TellsMap : MapEnd → Type 0
-  TellsMap AllMapped = (conflicts specs ms ≡ []) × TellsAll (mappings_told refs specs ms) (length (fixes specs ms)) old new
-  TellsMap Conflicts = (conflicts specs ms ≢ []) × TellsAll (conflicts_told specs ms) 0 old new
-  TellsMap NoRoom = ((conflicts specs ms ≡ []) × TellsRoom (mappings_told refs specs ms) (length (fixes specs ms)) old new)
-      ⊎ ((conflicts specs ms ≢ []) × TellsRoom (conflicts_told specs ms) 0 old new)
+  abbrev pub WritesMap : MapEnd → Type 0
+  WritesMap AllMapped = (conflicts specs ms ≡ []) × WritesEntries (mapping_entries refs specs ms) (length (fixes specs ms)) old new
+  WritesMap Conflicts = (conflicts specs ms ≢ []) × WritesEntries (conflict_entries specs ms) 0 old new
+  WritesMap NoRoom = ((conflicts specs ms ≡ []) × LacksRoom (mapping_entries refs specs ms) (length (fixes specs ms)) old new)
+      ⊎ ((conflicts specs ms ≢ []) × LacksRoom (conflict_entries specs ms) 0 old new)
 
 -- the refs are mapped by the refspecs of the lines; or a refspec or a span is invalid or an allocation failed, and nothing is
 -- changed
 abbrev pub MapsRecords : List ℕ → List RefRecord → List (List ℕ) → MapBuffers → MapBuffers → Result MapEnd MapRefused → Type 0
 MapsRecords bytes refs lines old new (Ok end) = (specs : List Spec) × (specs_of_lines lines ≡ Ok specs) × AreNamesWithin bytes refs
-    × TellsMap (length refs) specs (mappings specs (names_in bytes refs)) old new end
+    × WritesMap (length refs) specs (mappings specs (names_in bytes refs)) old new end
 MapsRecords bytes refs lines old new (Err (RefusedSpec e)) = (specs_of_lines lines ≡ Err e) × (new ≡ old)
 MapsRecords bytes refs lines old new (Err Place) = (¬ (AreNamesWithin bytes refs)) × (new ≡ old)
 MapsRecords bytes refs lines old new (Err Memory) = new ≡ old

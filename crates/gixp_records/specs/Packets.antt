@@ -28,8 +28,8 @@ AreWordsWithin bytes (Server words) = IsWithin bytes words
 AreWordsWithin bytes _ = Unit {0}
 
 -- the next offset is after this one, and within the bytes
-abbrev pub IsBehind : List ℕ → ℕ → ℕ → Type 0
-IsBehind bytes at next = (at < next) × (next ≤ length bytes)
+abbrev pub IsAfterPacket : List ℕ → ℕ → ℕ → Type 0
+IsAfterPacket bytes at next = (at < next) × (next ≤ length bytes)
 
 -- a frame is at the start of the bytes
 abbrev pub IsFront : Frame → List ℕ → Type 0
@@ -39,13 +39,13 @@ IsFront (special kind) bytes = 4 ≤ length bytes
 -- this frame is at the offset, and the rest follows it
 pub record HasFront (bytes : List ℕ) (at : ℕ) (frame : Frame) (rest : List ℕ) : Type 0 where
   pub frames : frames_of (drop at bytes) ≡ with_frame frame (frames_of rest)
-  pub behind : rest ≡ drop (frame_size frame) (drop at bytes)
+  pub following : rest ≡ drop (frame_size frame) (drop at bytes)
   pub front : IsFront frame (drop at bytes)
   pub place : at ≤ length bytes
 
 -- the packet line at an offset and the stream after it, or the error that the stream consists of
 abbrev pub IsNextPacket : List ℕ → ℕ → Result NextPacket PacketRefused → Type 0
 IsNextPacket bytes at (Ok (Line span next)) = (pieces_at bytes at ≡ with_piece (line (text_at bytes span)) (pieces_at bytes next))
-    × IsWithin bytes span × (is_error (text_at bytes span) ≡ false) × IsBehind bytes at next
-IsNextPacket bytes at (Ok (Mark kind next)) = (pieces_at bytes at ≡ with_piece (mark kind) (pieces_at bytes next)) × IsBehind bytes at next
+    × IsWithin bytes span × (is_error (text_at bytes span) ≡ false) × IsAfterPacket bytes at next
+IsNextPacket bytes at (Ok (Mark kind next)) = (pieces_at bytes at ≡ with_piece (mark kind) (pieces_at bytes next)) × IsAfterPacket bytes at next
 IsNextPacket bytes at (Err e) = (pieces_at bytes at ≡ no_pieces (refusal_in bytes e)) × AreWordsWithin bytes e

@@ -10,8 +10,8 @@ abbrev pub is_header : List ℕ → Bool
 is_header text = starts_with nat_eq text (codes "packfile")
 
 -- an acknowledgement or a shallow update
-abbrev pub is_told : List ℕ → Bool
-is_told text = starts_with nat_eq text (codes "NAK") || starts_with nat_eq text (codes "ACK ")
+abbrev pub precedes_pack : List ℕ → Bool
+precedes_pack text = starts_with nat_eq text (codes "NAK") || starts_with nat_eq text (codes "ACK ")
     || starts_with nat_eq text (codes "shallow ") || starts_with nat_eq text (codes "unshallow ")
 
 -- these pieces, then the others
@@ -24,9 +24,9 @@ IsNoHeader (line text) = is_header text ≡ false
 IsNoHeader (mark kind) = Unit {0}
 
 -- the piece isn't another line
-abbrev pub IsTold : Piece → Type 0
-IsTold (line text) = is_told text ≡ true
-IsTold (mark kind) = Unit {0}
+abbrev pub PrecedesPack : Piece → Type 0
+PrecedesPack (line text) = precedes_pack text ≡ true
+PrecedesPack (mark kind) = Unit {0}
 
 -- from one offset to another there are exactly these pieces
 pub record ArePiecesTo (bytes : List ℕ) (from next : ℕ) (taken : List Piece) : Type 0 where
@@ -43,14 +43,14 @@ pub record FollowsHeader (bytes : List ℕ) (from place : ℕ) : Type 0 where
   pub named : is_header header ≡ true
 
 -- the offset is that of the first line that is neither an acknowledgement nor a shallow update
-pub record FollowsTold (bytes : List ℕ) (from place : ℕ) : Type 0 where
+pub record FollowsAcknowledgements (bytes : List ℕ) (from place : ℕ) : Type 0 where
   pub taken : List Piece
   pub first : List ℕ
   pub rest : Pieces
   pub pieces : ArePiecesTo bytes from place taken
-  pub others : All IsTold taken
+  pub others : All PrecedesPack taken
   pub line : pieces_at bytes place ≡ pieces_before (line first ∷ []) rest
-  pub other : is_told first ≡ false
+  pub other : precedes_pack first ≡ false
 
 -- after some pieces the stream has only an error
 pub record RefusedFrom (bytes : List ℕ) (from : ℕ) (e : PacketRefused) : Type 0 where

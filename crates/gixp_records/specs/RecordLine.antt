@@ -6,7 +6,7 @@ use Rattle.gixp_refs.specs.RefLine.{RefsRefusal, bad_id, unknown_attribute, inva
 use Rattle.gixp_refs.specs.ParseError.{object_of}
 use Rattle.gixp_records.specs.declared.line.LineRefused.{LineRefused}
 use Rattle.gixp_records.specs.declared.line.LineRefused.TheVariants.{Id, Malformed, UnknownAttribute, Unborn}
-use Rattle.gixp_records.specs.declared.line.Said.{Said}
+use Rattle.gixp_records.specs.declared.line.LineAttributes.{LineAttributes}
 use Rattle.gixp_records.specs.declared.line.LineRef.{LineRef}
 use Rattle.gixp_records.specs.Span.{text_at, IsWithin}
 
@@ -22,15 +22,15 @@ abbrev pub Judges : {A : Type 0} → Result A RefsRefusal → LineRefused → Ty
 Judges o e = (r : RefsRefusal) × (o ≡ Err r) × (refused_as r ≡ e)
 
 -- the attributes as texts
-abbrev pub said_in : List ℕ → Said → AttributeValues
-said_in bytes a = record { target = option_map (text_at bytes) a.target; peeled = object_of a.peeled }
+abbrev pub attributes_in : List ℕ → LineAttributes → AttributeValues
+attributes_in bytes a = record { target = option_map (text_at bytes) a.target; peeled = object_of a.peeled }
 
-abbrev pub AreSaidWithin : List ℕ → Said → Type 0
-AreSaidWithin bytes a = IfSome a.target (IsWithin bytes)
+abbrev pub AreAttributesWithin : List ℕ → LineAttributes → Type 0
+AreAttributesWithin bytes a = IfSome a.target (IsWithin bytes)
 
 -- the ref of the line, or its error
 abbrev pub line_ref_value : List ℕ → LineRef → Result RefValue RefsRefusal
-line_ref_value bytes l = value_of (object_of l.object) (text_at bytes l.name) (said_in bytes l.said)
+line_ref_value bytes l = value_of (object_of l.object) (text_at bytes l.name) (attributes_in bytes l.attributes)
 
 abbrev pub IsLineWithin : List ℕ → LineRef → Type 0
-IsLineWithin bytes l = IsWithin bytes l.name × AreSaidWithin bytes l.said
+IsLineWithin bytes l = IsWithin bytes l.name × AreAttributesWithin bytes l.attributes

@@ -1,5 +1,5 @@
 -- The refs of an `ls-refs` response as records (gitprotocol-v2, "ls-refs").
-use Rattle.std.specs.Prelude.{◌≡◌, ℕ, ◌==◌, ◌≤◌, if◌then◌else◌, All, List, [], ◌∷◌, length, take, drop, map, Some, None, Result, Ok, Err}
+use Rattle.std.specs.Prelude.{◌≡◌, ◌≢◌, ℕ, ◌==◌, ◌≤◌, if◌then◌else◌, All, List, [], ◌∷◌, length, take, drop, map, replicate, Some, None, Result, Ok, Err}
 use Rattle.gixp_packetline.specs.declared.protocol.MessageKind.{MessageKind}
 use Rattle.gixp_packetline.specs.declared.protocol.Protocol.TheVariants.{V2}
 use Rattle.gixp_packetline.specs.Lines.{Lines, lines_of, no_lines, before, stop, refusal}
@@ -15,7 +15,7 @@ use Rattle.gixp_records.specs.declared.refs.RefsFound.{RefsFound}
 use Rattle.gixp_records.specs.declared.refs.NextRef.{NextRef}
 use Rattle.gixp_records.specs.declared.refs.NextRef.TheVariants.{Ref, Stop as StopNext}
 use Rattle.gixp_records.specs.Span.{text_at, IsWithin}
-use Rattle.gixp_records.specs.Packets.{pieces_at, refusal_in, AreWordsWithin, IsBehind}
+use Rattle.gixp_records.specs.Packets.{pieces_at, refusal_in, AreWordsWithin, IsAfterPacket}
 use Rattle.gixp_records.specs.RecordLine.{Judges}
 
 -- the ref of a record; a record of an unknown kind has an empty name, which no server's ref has
@@ -31,9 +31,13 @@ ref_in bytes r =
 abbrev pub refs_in : List ℕ → List RefRecord → List RefValue
 refs_in bytes records = map (ref_in bytes) records
 
--- the texts of the record are within the bytes
+-- zeros in place of the ids that the ref of a record doesn't have
+abbrev pub HasZeros : RefRecord → Type 0
+HasZeros r = (r.kind ≢ 2 → r.kind ≢ 4 → r.tag ≡ replicate 20 0) × (r.kind ≡ 5 → r.object ≡ replicate 20 0)
+
+-- the texts of the record are within the bytes, and missing ids are zeros
 abbrev pub IsRecordWithin : List ℕ → RefRecord → Type 0
-IsRecordWithin bytes r = IsWithin bytes r.name × IsWithin bytes r.target
+IsRecordWithin bytes r = IsWithin bytes r.name × IsWithin bytes r.target × HasZeros r
 
 -- the lines of the response from an offset on, up to its stop
 abbrev pub lines_at : List ℕ → ℕ → Lines
@@ -47,9 +51,9 @@ IsRefusedAt bytes at (Line e) = (text : List ℕ) × (rest : Lines) × (lines_at
 -- the ref at an offset, or the stop, or the error
 abbrev pub IsNextRef : List ℕ → ℕ → Result NextRef RefsRefused → Type 0
 IsNextRef bytes at (Ok (Ref found next)) = (text : List ℕ) × (lines_at bytes at ≡ before (text ∷ []) (lines_at bytes next))
-    × (v2_line text ≡ Ok (ref_in bytes found)) × IsRecordWithin bytes found × IsBehind bytes at next
+    × (v2_line text ≡ Ok (ref_in bytes found)) × IsRecordWithin bytes found × IsAfterPacket bytes at next
 IsNextRef bytes at (Ok (StopNext next)) = (kind : MessageKind) × (lines_at bytes at ≡ no_lines (stop kind (pieces_at bytes next)))
-    × IsBehind bytes at next
+    × IsAfterPacket bytes at next
 IsNextRef bytes at (Err e) = IsRefusedAt bytes at e
 
 -- the lines from one offset to another are these refs
@@ -64,7 +68,7 @@ pub record AreLinesTo (bytes : List ℕ) (from next : ℕ) (values : List RefVal
 abbrev pub ReadsUpTo : List ℕ → ℕ → ℕ → List RefValue → RefsEnd → Type 0
 ReadsUpTo bytes from next values Full = AreLinesTo bytes from next values
 ReadsUpTo bytes from next values Stop = (stream_refs (drop from bytes) ≡ Ok values) × (kind : MessageKind) × (at : ℕ)
-    × AreLinesTo bytes from at values × (lines_at bytes at ≡ no_lines (stop kind (pieces_at bytes next))) × IsBehind bytes at next
+    × AreLinesTo bytes from at values × (lines_at bytes at ≡ no_lines (stop kind (pieces_at bytes next))) × IsAfterPacket bytes at next
 ReadsUpTo bytes from next values (Refused e) = AreLinesTo bytes from next values × IsRefusedAt bytes next e
 
 -- the refs from an offset on are in the first records, and the other records are unchanged

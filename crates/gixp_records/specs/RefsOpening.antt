@@ -8,7 +8,7 @@ use Rattle.gixp_packetline.specs.Pieces.{line, Pieces, with_piece}
 use Rattle.gixp_packetline.specs.Lines.{Lines, lines_of}
 use Rattle.gixp_capabilities.specs.Capabilities.{capabilities_of_words, capabilities_of_line}
 use Rattle.gixp_capabilities.specs.Client.{ClientRefusal, client_from, no_null_byte, unsupported_version}
-use Rattle.gixp_wire.specs.CapabilityAdvertisement.{Advertised, Named, one, two, another, unnamed, empty_advertisement, from_capability_lines}
+use Rattle.gixp_transport.specs.CapabilityAdvertisement.{Advertised, Named, one, two, another, unnamed, empty_advertisement, from_capability_lines}
 use Rattle.gixp_refs.specs.RefLine.{RefsRefusal}
 use Rattle.gixp_refs.specs.RefAdvertisement.{Symref}
 use Rattle.gixp_records.specs.declared.advertised.opening.NamedVersion.{NamedVersion}
@@ -45,11 +45,11 @@ pub record HasCapabilities (bytes text : List ℕ) (version : Protocol) (first :
   pub within : IsWithin bytes o.capabilities
 
 -- the start of an advertisement up to its first ref line, with the capabilities of that line
-pub record IsOpening (bytes : List ℕ) (said : Result Advertised ClientRefusal) (o : RefsOpening) : Type 0 where
+pub record IsOpening (bytes : List ℕ) (attributes : Result Advertised ClientRefusal) (o : RefsOpening) : Type 0 where
   pub text : List ℕ
   pub rest : Pieces
   pub stands : pieces_at bytes o.first ≡ with_piece (line text) rest
-  pub answer : said ≡ Ok (record {
+  pub answer : attributes ≡ Ok (record {
     version = o.version;
     capabilities = capabilities_of_words (text_at bytes o.capabilities);
     has_refs = true;
@@ -61,18 +61,18 @@ pub record IsOpening (bytes : List ℕ) (said : Result Advertised ClientRefusal)
 
 -- the error if there is neither a first ref line nor a stop in its place
 abbrev pub IsNotOpened : List ℕ → Result Advertised ClientRefusal → AdvertisedRefused → Type 0
-IsNotOpened bytes said (Packet e) = (said ≡ Err (client_from (refusal_in bytes e))) × AreWordsWithin bytes e
-IsNotOpened bytes said NoCapabilities = said ≡ Err no_null_byte
-IsNotOpened bytes said UnknownVersion = (text : List ℕ) × (said ≡ Err (unsupported_version text))
-IsNotOpened bytes said VersionTwo = (p : Pieces) × (said ≡ from_capability_lines p)
-IsNotOpened bytes said _ = ⊥
+IsNotOpened bytes attributes (Packet e) = (attributes ≡ Err (client_from (refusal_in bytes e))) × AreWordsWithin bytes e
+IsNotOpened bytes attributes NoCapabilities = attributes ≡ Err no_null_byte
+IsNotOpened bytes attributes UnknownVersion = (text : List ℕ) × (attributes ≡ Err (unsupported_version text))
+IsNotOpened bytes attributes VersionTwo = (p : Pieces) × (attributes ≡ from_capability_lines p)
+IsNotOpened bytes attributes _ = ⊥
 
 -- the start of an advertisement: a first ref line, a stop in its place, or an error
 abbrev pub IsOpened : List ℕ → Result Advertised ClientRefusal → Result Opened AdvertisedRefused → Type 0
-IsOpened bytes said (Ok (Refs o)) = IsOpening bytes said o
-IsOpened bytes said (Ok (Empty next)) = (version : Protocol) × (kind : MessageKind)
-    × (said ≡ Ok (empty_advertisement version kind (pieces_at bytes next))) × (next ≤ length bytes)
-IsOpened bytes said (Err e) = IsNotOpened bytes said e
+IsOpened bytes attributes (Ok (Refs o)) = IsOpening bytes attributes o
+IsOpened bytes attributes (Ok (Empty next)) = (version : Protocol) × (kind : MessageKind)
+    × (attributes ≡ Ok (empty_advertisement version kind (pieces_at bytes next))) × (next ≤ length bytes)
+IsOpened bytes attributes (Err e) = IsNotOpened bytes attributes e
 
 -- the first line is shortened to this length
 abbrev pub with_first_cut : ℕ → List (List ℕ) → List (List ℕ)

@@ -44,7 +44,7 @@ abbrev pub prefix_lines : List Spec → List ℕ
 prefix_lines specs = flat_map ended_line (flat_map prefixes_of specs)
 
 -- the prefixes of the refspecs of lines, or the first error, or an allocation failed
-abbrev pub TellsPrefixes : List (List ℕ) → Result (Vec ℕ Global) SpecsRefused → Type 0
-TellsPrefixes lines (Ok text) = (specs : List Spec) × (specs_of_lines lines ≡ Ok specs) × (text.items ≡ prefix_lines specs)
-TellsPrefixes lines (Err (RefusedSpec e)) = specs_of_lines lines ≡ Err e
-TellsPrefixes lines (Err Memory) = ⊤
+abbrev pub WritesPrefixes : List (List ℕ) → Result (Vec ℕ Global) SpecsRefused → Type 0
+WritesPrefixes lines (Ok text) = (specs : List Spec) × (specs_of_lines lines ≡ Ok specs) × (text.items ≡ prefix_lines specs)
+WritesPrefixes lines (Err (RefusedSpec e)) = specs_of_lines lines ≡ Err e
+WritesPrefixes lines (Err Memory) = ⊤

@@ -5,9 +5,9 @@ use Rattle.gixp_refs.specs.RefLine.{RefsRefusal, bad_id, malformed_symref, invar
 use Rattle.gixp_refs.specs.RefAdvertisement.{Symref, V1Line, nothing, peels, names, shallows, NamedRef}
 use Rattle.gixp_records.specs.declared.advertised.refused.AdvertisedLineRefused.{AdvertisedLineRefused}
 use Rattle.gixp_records.specs.declared.advertised.refused.AdvertisedLineRefused.TheVariants.{Id, Malformed, Peeled, Symref as BadSymref}
-use Rattle.gixp_records.specs.declared.advertised.line.AdvertisedLine.{AdvertisedLine}
-use Rattle.gixp_records.specs.declared.advertised.line.AdvertisedLine.TheVariants.{Nothing, Peeled as PeeledLine, Named, Shallow}
-use Rattle.gixp_records.specs.declared.advertised.line.NamedLine.{NamedLine}
+use Rattle.gixp_records.specs.declared.advertised.ref_line.AdvertisedLine.{AdvertisedLine}
+use Rattle.gixp_records.specs.declared.advertised.ref_line.AdvertisedLine.TheVariants.{Nothing, Peeled as PeeledLine, Named, Shallow}
+use Rattle.gixp_records.specs.declared.advertised.ref_line.NamedLine.{NamedLine}
 use Rattle.gixp_records.specs.declared.advertised.symrefs.SymrefSpan.{SymrefSpan}
 use Rattle.gixp_records.specs.Span.{text_at, IsWithin}
 

@@ -7,12 +7,12 @@ use crate::refs::RefRecord;
 use std::alloc::Global;
 
 mod groups;
-mod line;
 mod opening;
+mod ref_line;
 mod refused;
 mod symrefs;
 
-use groups::{Reach, Step, read_step};
+use groups::{Scan, SymrefScope, read_step};
 use opening::{Opened, RefsOpening, open_advertisement};
 pub use refused::{AdvertisedLineRefused, AdvertisedRefused};
 use symrefs::{SymrefSpan, read_symrefs};
@@ -52,38 +52,38 @@ fn read_groups(
     requires from { from ≤ length bytes.now }
     ensures { ReadsGroups bytes.now opening.now (map (symref_at bytes.now) symrefs.now) from records.old result records.new }
 {
-    let mut reach = Reach {
+    let mut scope = SymrefScope {
         at: from,
         place: from,
         last: None,
     };
     let mut count = 0;
     while count < records.len() {
-        match read_step(bytes, opening, symrefs, reach) {
-            Ok(Step::On(behind)) => reach = behind,
-            Ok(Step::Record(record, behind)) => {
+        match read_step(bytes, opening, symrefs, scope) {
+            Ok(Scan::On(following)) => scope = following,
+            Ok(Scan::Record(record, following)) => {
                 records[count] = record;
                 count += 1;
-                reach = behind;
+                scope = following;
             }
-            Ok(Step::Last(record, next)) => {
+            Ok(Scan::Last(record, next)) => {
                 records[count] = record;
                 let count = count + 1;
                 let end = AdvertisedEnd::Stop;
                 return AdvertisedFound { count, next, end };
             }
-            Ok(Step::Stop(next)) => {
+            Ok(Scan::Stop(next)) => {
                 let end = AdvertisedEnd::Stop;
                 return AdvertisedFound { count, next, end };
             }
             Err(e) => {
-                let next = reach.place;
+                let next = scope.place;
                 let end = AdvertisedEnd::Refused(e);
                 return AdvertisedFound { count, next, end };
             }
         }
     }
-    let next = reach.place;
+    let next = scope.place;
     let end = AdvertisedEnd::Full;
     AdvertisedFound { count, next, end }
 }

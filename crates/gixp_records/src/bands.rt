@@ -3,7 +3,7 @@ ghost use Rattle.std.specs.Prelude.{◌≡◌, ◌≤◌, length};
 ghost use Rattle.gixp_records.specs.Span.{text_at, IsWithin};
 ghost use Rattle.gixp_records.specs.Bands.{IsPieceOf, IsNextPiece};
 
-use crate::packets::{NextPacket, PacketRefused, behind, next_packet, without_line_end};
+use crate::packets::{NextPacket, PacketRefused, following, next_packet, without_line_end};
 use crate::span::{Span, text_at};
 use gixp_packetline::MessageKind;
 
@@ -27,9 +27,9 @@ fn piece_of(bytes: &[u8], line: Span) -> Result<BandPiece, PacketRefused>
 {
     match text_at(bytes, line) {
         [] => Ok(BandPiece::Content(line)),
-        [1, ..] => Ok(BandPiece::Content(behind(bytes, line, 1))),
-        [2, ..] => Ok(BandPiece::Progress(without_line_end(bytes, behind(bytes, line, 1)))),
-        [3, ..] => Ok(BandPiece::Error(without_line_end(bytes, behind(bytes, line, 1)))),
+        [1, ..] => Ok(BandPiece::Content(following(bytes, line, 1))),
+        [2, ..] => Ok(BandPiece::Progress(without_line_end(bytes, following(bytes, line, 1)))),
+        [3, ..] => Ok(BandPiece::Error(without_line_end(bytes, following(bytes, line, 1)))),
         [band, ..] => Err(PacketRefused::UnknownBand(*band)),
     }
 }

@@ -5,12 +5,12 @@ mod advertised;
 mod bands;
 mod line;
 mod mapped_refs;
+mod mapping_entry;
 mod packets;
 mod place;
 mod refs;
 mod span;
 mod spec_text;
-mod told;
 
 pub use advertised::{
     AdvertisedEnd, AdvertisedFound, AdvertisedLineRefused, AdvertisedRefused, read_advertised,
@@ -18,9 +18,9 @@ pub use advertised::{
 pub use bands::{BandPiece, next_piece};
 pub use line::LineRefused;
 pub use mapped_refs::{MapEnd, MapRefused, map_records};
+pub use mapping_entry::{MappedRecord, MappingRecord};
 pub use packets::PacketRefused;
-pub use place::{behind_header, behind_told};
+pub use place::{pack_start_v0, pack_start_v2};
 pub use refs::{RefRecord, RefsEnd, RefsFound, RefsRefused, read_refs};
 pub use span::Span;
 pub use spec_text::{SpecsRefused, prefix_text, specs_in};
-pub use told::{MappedRecord, MappingRecord};

@@ -8,7 +8,7 @@ ghost use Rattle.gixp_capabilities.specs.Capabilities.{is_text};
 ghost use Rattle.gixp_refs.specs.ParseError.{object_of};
 ghost use Rattle.gixp_refs.specs.RefLine.{bad_id, id_value, first_piece, named_attribute, with_attribute, attributes_of, named, v2_line};
 ghost use Rattle.gixp_records.specs.Span.{text_at, IsWithin};
-ghost use Rattle.gixp_records.specs.RecordLine.{Judges, said_in, AreSaidWithin, line_ref_value, IsLineWithin};
+ghost use Rattle.gixp_records.specs.RecordLine.{Judges, attributes_in, AreAttributesWithin, line_ref_value, IsLineWithin};
 
 use crate::span::{Span, cut_at, text_at};
 use bstr::ByteSlice;
@@ -29,7 +29,7 @@ pub enum LineRefused {
 
 // The attributes of a line.
 #[derive(Clone, Copy)]
-pub(crate) struct Said {
+pub(crate) struct LineAttributes {
     pub(crate) target: Option<Span>,
     pub(crate) peeled: Option<ObjectId>,
 }
@@ -39,7 +39,7 @@ pub(crate) struct Said {
 pub(crate) struct LineRef {
     pub(crate) object: Option<ObjectId>,
     pub(crate) name: Span,
-    pub(crate) said: Said,
+    pub(crate) attributes: LineAttributes,
 }
 
 #[inline(always)]
@@ -74,17 +74,22 @@ fn read_first(text: &[u8]) -> Result<Option<ObjectId>, LineRefused>
 }
 
 // Adds an attribute to those read so far, by its name and its value.
-fn name_attribute(bytes: &[u8], name: &[u8], value: Span, had: Said) -> Result<Said, LineRefused>
+fn name_attribute(
+    bytes: &[u8],
+    name: &[u8],
+    value: Span,
+    had: LineAttributes,
+) -> Result<LineAttributes, LineRefused>
     requires value { IsWithin bytes.now value }
-    requires had { AreSaidWithin bytes.now had }
-    ensures said { (line : List ℕ) → MatchResult result
-        (λ said. named_attribute line name.now (text_at bytes.now value) (said_in bytes.now had) ≡ Ok (said_in bytes.now said))
-        (Judges (named_attribute line name.now (text_at bytes.now value) (said_in bytes.now had))) }
-    ensures within { IfOk result (AreSaidWithin bytes.now) }
+    requires had { AreAttributesWithin bytes.now had }
+    ensures attributes { (line : List ℕ) → MatchResult result
+        (λ attributes. named_attribute line name.now (text_at bytes.now value) (attributes_in bytes.now had) ≡ Ok (attributes_in bytes.now attributes))
+        (Judges (named_attribute line name.now (text_at bytes.now value) (attributes_in bytes.now had))) }
+    ensures within { IfOk result (AreAttributesWithin bytes.now) }
 {
     if name == b"peeled".as_slice() {
         return match read_id(text_at(bytes, value)) {
-            Ok(id) => Ok(Said {
+            Ok(id) => Ok(LineAttributes {
                 target: had.target,
                 peeled: Some(id),
             }),
@@ -92,7 +97,7 @@ fn name_attribute(bytes: &[u8], name: &[u8], value: Span, had: Said) -> Result<S
         };
     }
     if name == b"symref-target".as_slice() {
-        return Ok(Said {
+        return Ok(LineAttributes {
             target: Some(value),
             peeled: had.peeled,
         });
@@ -101,13 +106,17 @@ fn name_attribute(bytes: &[u8], name: &[u8], value: Span, had: Said) -> Result<S
 }
 
 // Adds an attribute to those read so far.
-fn read_attribute(bytes: &[u8], piece: Span, had: Said) -> Result<Said, LineRefused>
+fn read_attribute(
+    bytes: &[u8],
+    piece: Span,
+    had: LineAttributes,
+) -> Result<LineAttributes, LineRefused>
     requires piece { IsWithin bytes.now piece }
-    requires had { AreSaidWithin bytes.now had }
-    ensures said { (line : List ℕ) → MatchResult result
-        (λ said. with_attribute line (text_at bytes.now piece) (said_in bytes.now had) ≡ Ok (said_in bytes.now said))
-        (Judges (with_attribute line (text_at bytes.now piece) (said_in bytes.now had))) }
-    ensures within { IfOk result (AreSaidWithin bytes.now) }
+    requires had { AreAttributesWithin bytes.now had }
+    ensures attributes { (line : List ℕ) → MatchResult result
+        (λ attributes. with_attribute line (text_at bytes.now piece) (attributes_in bytes.now had) ≡ Ok (attributes_in bytes.now attributes))
+        (Judges (with_attribute line (text_at bytes.now piece) (attributes_in bytes.now had))) }
+    ensures within { IfOk result (AreAttributesWithin bytes.now) }
 {
     let (name, value) = cut_at(bytes, piece, b':');
     match value {
@@ -122,14 +131,14 @@ fn read_attribute(bytes: &[u8], piece: Span, had: Said) -> Result<Said, LineRefu
 }
 
 // Reads the attributes after a name.
-fn read_attributes(bytes: &[u8], rest: Option<Span>) -> Result<Said, LineRefused>
+fn read_attributes(bytes: &[u8], rest: Option<Span>) -> Result<LineAttributes, LineRefused>
     requires { IfSome rest (IsWithin bytes.now) }
-    ensures said { (line : List ℕ) → MatchResult result
-        (λ said. attributes_of line (option_map (text_at bytes.now) rest) ≡ Ok (said_in bytes.now said))
+    ensures attributes { (line : List ℕ) → MatchResult result
+        (λ attributes. attributes_of line (option_map (text_at bytes.now) rest) ≡ Ok (attributes_in bytes.now attributes))
         (Judges (attributes_of line (option_map (text_at bytes.now) rest))) }
-    ensures within { IfOk result (AreSaidWithin bytes.now) }
+    ensures within { IfOk result (AreAttributesWithin bytes.now) }
 {
-    let none = Said {
+    let none = LineAttributes {
         target: None,
         peeled: None,
     };
@@ -166,7 +175,7 @@ pub(crate) fn trimmed(bytes: &[u8], line: Span) -> Span
 #[inline(always)]
 fn read_named(bytes: &[u8], object: Option<ObjectId>, rest: Span) -> Result<LineRef, LineRefused>
     requires { IsWithin bytes.now rest }
-    ensures said { (line : List ℕ) → MatchResult result
+    ensures attributes { (line : List ℕ) → MatchResult result
         (λ l. named line (object_of object) (cut 32 (text_at bytes.now rest)) ≡ line_ref_value bytes.now l)
         (Judges (named line (object_of object) (cut 32 (text_at bytes.now rest)))) }
     ensures within { IfOk result (IsLineWithin bytes.now) }
@@ -176,7 +185,11 @@ fn read_named(bytes: &[u8], object: Option<ObjectId>, rest: Span) -> Result<Line
         return Err(LineRefused::Malformed);
     }
     match read_attributes(bytes, rest) {
-        Ok(said) => Ok(LineRef { object, name, said }),
+        Ok(attributes) => Ok(LineRef {
+            object,
+            name,
+            attributes,
+        }),
         Err(e) => Err(e),
     }
 }
@@ -184,7 +197,7 @@ fn read_named(bytes: &[u8], object: Option<ObjectId>, rest: Span) -> Result<Line
 #[inline(always)]
 pub(crate) fn read_line(bytes: &[u8], line: Span) -> Result<LineRef, LineRefused>
     requires { IsWithin bytes.now line }
-    ensures said { MatchResult result
+    ensures attributes { MatchResult result
         (λ l. v2_line (text_at bytes.now line) ≡ line_ref_value bytes.now l)
         (Judges (v2_line (text_at bytes.now line))) }
     ensures within { IfOk result (IsLineWithin bytes.now) }

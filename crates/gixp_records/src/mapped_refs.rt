@@ -1,18 +1,18 @@
 //! The mappings that refspecs make from refs, as records (git-fetch, "<refspec>").
 ghost use Rattle.std.specs.Prelude.{◌≡◌, ◌↔◌, ◌++◌, IsTrue, IfOk, OnOk, true, false, length, map};
-ghost use Rattle.gixp_text.specs.Lines.{text_lines};
+ghost use Rattle.gixp_utils.specs.Lines.{text_lines};
 ghost use Rattle.gixp_refspec.specs.RefSpec.{value_of};
 ghost use Rattle.gixp_matching.specs.Mappings.{mappings};
 ghost use Rattle.gixp_matching.specs.MatchGroup.{mapped_of, names};
 ghost use Rattle.gixp_matching.specs.Validate.{removed_of, conflict_of, Validates};
 ghost use Rattle.gixp_records.specs.Span.{IsWithin};
-ghost use Rattle.gixp_records.specs.Told.{told_value, buffers, TellsOrFails};
-ghost use Rattle.gixp_records.specs.MapRecords.{names_in, AreNamesWithin, told_mapping, told_removed, told_conflict, end_of, MapsRecords};
+ghost use Rattle.gixp_records.specs.MappingEntry.{entry_value, buffers, WritesOrFails};
+ghost use Rattle.gixp_records.specs.MapRecords.{names_in, AreNamesWithin, mapping_entry, removed_entry, conflict_entry, end_of, MapsRecords};
 
+use crate::mapping_entry::{MappedRecord, MappingEntry, MappingRecord, tell};
 use crate::refs::RefRecord;
 use crate::span::{Span, text_at};
 use crate::spec_text::{SpecsRefused, specs_in};
-use crate::told::{MappedRecord, MappingRecord, Told, tell};
 use bstr::BStr;
 use gixp_hash::ObjectId;
 use gixp_matching::match_group::validate::{Error as Conflicting, Fix, Issue};
@@ -85,10 +85,10 @@ fn items_of<'a>(
 }
 
 // The record of a mapping.
-fn told_of<'a>(mapping: &'a Mapping, refs: usize) -> Told<'a>
-    ensures { told_value result ≡ told_mapping refs (mapped_of mapping.now) }
+fn reported_of<'a>(mapping: &'a Mapping, refs: usize) -> MappingEntry<'a>
+    ensures { entry_value result ≡ mapping_entry refs (mapped_of mapping.now) }
 {
-    Told {
+    MappingEntry {
         item: mapping.item_index.unwrap_or(refs),
         spec: mapping.spec_index,
         local: match &mapping.rhs {
@@ -99,11 +99,11 @@ fn told_of<'a>(mapping: &'a Mapping, refs: usize) -> Told<'a>
 }
 
 // The record of a removed mapping.
-fn told_of_fix<'a>(fix: &'a Fix, refs: usize, specs: usize) -> Told<'a>
-    ensures { told_value result ≡ told_removed refs specs (removed_of fix.now) }
+fn entry_of_fix<'a>(fix: &'a Fix, refs: usize, specs: usize) -> MappingEntry<'a>
+    ensures { entry_value result ≡ removed_entry refs specs (removed_of fix.now) }
 {
     let Fix::MappingWithPartialDestinationRemoved { name, .. } = fix;
-    Told {
+    MappingEntry {
         item: refs,
         spec: specs,
         local: Some(name.as_bytes()),
@@ -111,15 +111,15 @@ fn told_of_fix<'a>(fix: &'a Fix, refs: usize, specs: usize) -> Told<'a>
 }
 
 // The record of a conflict.
-fn told_of_issue<'a>(issue: &'a Issue, specs: usize) -> Told<'a>
-    ensures { told_value result ≡ told_conflict specs (conflict_of issue.now) }
+fn entry_of_issue<'a>(issue: &'a Issue, specs: usize) -> MappingEntry<'a>
+    ensures { entry_value result ≡ conflict_entry specs (conflict_of issue.now) }
 {
     let Issue::Conflict {
         destination_full_ref_name,
         sources,
         ..
     } = issue;
-    Told {
+    MappingEntry {
         item: sources.len(),
         spec: specs,
         local: Some(destination_full_ref_name.as_bytes()),
@@ -131,28 +131,28 @@ fn tell_of_mappings<'a>(
     alloc: Global,
     found: &'a [Mapping],
     refs: usize,
-) -> Result<Vec<Told<'a>>, AllocError>
-    ensures { IfOk result (λ all. map told_value all.items ≡ map (told_mapping refs) (map mapped_of found.now)) }
+) -> Result<Vec<MappingEntry<'a>>, AllocError>
+    ensures { IfOk result (λ all. map entry_value all.items ≡ map (mapping_entry refs) (map mapped_of found.now)) }
 {
     let mut all = Vec::new(alloc);
     for mapping in found {
-        all.push(told_of(mapping, refs))?;
+        all.push(reported_of(mapping, refs))?;
     }
     Ok(all)
 }
 
 // Adds the records of removed mappings.
 fn push_fixes<'a>(
-    all: &mut Vec<Told<'a>>,
+    all: &mut Vec<MappingEntry<'a>>,
     fixes: &'a [Fix],
     refs: usize,
     specs: usize,
 ) -> Result<(), AllocError>
-    ensures { OnOk result (map told_value all.new.items
-        ≡ map told_value all.old.items ++ map (told_removed refs specs) (map removed_of fixes.now)) }
+    ensures { OnOk result (map entry_value all.new.items
+        ≡ map entry_value all.old.items ++ map (removed_entry refs specs) (map removed_of fixes.now)) }
 {
     for fix in fixes {
-        all.push(told_of_fix(fix, refs, specs))?;
+        all.push(entry_of_fix(fix, refs, specs))?;
     }
     Ok(())
 }
@@ -162,12 +162,12 @@ fn tell_of_issues<'a>(
     alloc: Global,
     issues: &'a [Issue],
     specs: usize,
-) -> Result<Vec<Told<'a>>, AllocError>
-    ensures { IfOk result (λ all. map told_value all.items ≡ map (told_conflict specs) (map conflict_of issues.now)) }
+) -> Result<Vec<MappingEntry<'a>>, AllocError>
+    ensures { IfOk result (λ all. map entry_value all.items ≡ map (conflict_entry specs) (map conflict_of issues.now)) }
 {
     let mut all = Vec::new(alloc);
     for issue in issues {
-        all.push(told_of_issue(issue, specs))?;
+        all.push(entry_of_issue(issue, specs))?;
     }
     Ok(all)
 }
@@ -181,8 +181,8 @@ fn tell_mappings(
     names: &mut [u8],
     counts: &mut MappedRecord,
 ) -> Result<bool, AllocError>
-    ensures { TellsOrFails (map (told_mapping given.0) (map mapped_of mapped.entry.0.now)
-        ++ map (told_removed given.0 given.1) (map removed_of mapped.entry.1.now)) (length mapped.entry.1.now)
+    ensures { WritesOrFails (map (mapping_entry given.0) (map mapped_of mapped.entry.0.now)
+        ++ map (removed_entry given.0 given.1) (map removed_of mapped.entry.1.now)) (length mapped.entry.1.now)
         (buffers records.old names.old counts.old) (buffers records.new names.new counts.new) result }
 {
     let (found, fixes) = mapped;
@@ -201,7 +201,7 @@ fn tell_conflicts(
     names: &mut [u8],
     counts: &mut MappedRecord,
 ) -> Result<bool, AllocError>
-    ensures { TellsOrFails (map (told_conflict specs) (map conflict_of issues.now)) 0
+    ensures { WritesOrFails (map (conflict_entry specs) (map conflict_of issues.now)) 0
         (buffers records.old names.old counts.old) (buffers records.new names.new counts.new) result }
 {
     let all = tell_of_issues(alloc, issues, specs)?;
@@ -224,11 +224,11 @@ fn validated<'s>(
     outcome.validated(alloc)
 }
 
-// The result of a call. `told` says whether the buffers were large enough.
-fn end_of(told: Result<bool, AllocError>, whole: MapEnd) -> Result<MapEnd, MapRefused>
-    ensures { result ≡ end_of told whole }
+// The result of a call. `entries` says whether the buffers were large enough.
+fn end_of(entries: Result<bool, AllocError>, whole: MapEnd) -> Result<MapEnd, MapRefused>
+    ensures { result ≡ end_of entries whole }
 {
-    match told {
+    match entries {
         Ok(true) => Ok(whole),
         Ok(false) => Ok(MapEnd::NoRoom),
         Err(_) => Err(MapRefused::Memory),
@@ -266,12 +266,12 @@ pub fn map_records(
     match validated(alloc, bytes, refs, &specs) {
         Ok(Ok((outcome, fixes))) => {
             let mapped = (outcome.mappings.as_slice(), fixes.as_slice());
-            let told = tell_mappings(alloc, mapped, given, records, names, counts);
-            end_of(told, MapEnd::Mapped)
+            let entries = tell_mappings(alloc, mapped, given, records, names, counts);
+            end_of(entries, MapEnd::Mapped)
         }
         Ok(Err(e)) => {
-            let told = tell_conflicts(alloc, &e.issues, given.1, records, names, counts);
-            end_of(told, MapEnd::Conflicts)
+            let entries = tell_conflicts(alloc, &e.issues, given.1, records, names, counts);
+            end_of(entries, MapEnd::Conflicts)
         }
         Err(_) => Err(MapRefused::Memory),
     }

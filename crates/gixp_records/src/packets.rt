@@ -61,7 +61,7 @@ pub(crate) fn without_line_end(bytes: &[u8], span: Span) -> Span
 
 // The span of a text without its first bytes.
 #[inline(always)]
-pub(crate) fn behind(bytes: &[u8], span: Span, amount: usize) -> Span
+pub(crate) fn following(bytes: &[u8], span: Span, amount: usize) -> Span
     requires within { IsWithin bytes.now span }
     requires amount { amount ≤ span.len }
     ensures text { text_at bytes.now result ≡ drop amount (text_at bytes.now span) }
@@ -93,7 +93,7 @@ fn packet_of(
                 len: text.len(),
             };
             if is_error(text) {
-                let words = without_line_end(bytes, behind(bytes, span, 4));
+                let words = without_line_end(bytes, following(bytes, span, 4));
                 return Err(PacketRefused::Server(words));
             }
             Ok(NextPacket::Line(span, next))

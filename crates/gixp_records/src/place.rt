@@ -1,6 +1,6 @@
 //! The offset of the pack in a response to a fetch (gitprotocol-v2, "fetch"; gitprotocol-pack, "Packfile Negotiation").
 ghost use Rattle.std.specs.Prelude.{◌≡◌, ◌≤◌, MatchResult, length};
-ghost use Rattle.gixp_records.specs.Place.{is_header, is_told, FollowsHeader, FollowsTold, RefusedFrom};
+ghost use Rattle.gixp_records.specs.Place.{is_header, precedes_pack, FollowsHeader, FollowsAcknowledgements, RefusedFrom};
 
 use crate::packets::{NextPacket, PacketRefused, next_packet};
 use crate::span::text_at;
@@ -15,8 +15,8 @@ fn is_header(line: &[u8]) -> bool
 
 // Whether the line is an acknowledgement or a shallow update.
 #[inline(always)]
-fn is_told(line: &[u8]) -> bool
-    ensures { result ≡ is_told line.now }
+fn precedes_pack(line: &[u8]) -> bool
+    ensures { result ≡ precedes_pack line.now }
 {
     line.starts_with(b"NAK")
         || line.starts_with(b"ACK ")
@@ -29,7 +29,7 @@ fn is_told(line: &[u8]) -> bool
 /// # Errors
 ///
 /// The error of a packet line before such a header. `Incomplete` if the header may follow after the end of `bytes`.
-pub fn behind_header(bytes: &[u8], from: usize) -> Result<usize, PacketRefused>
+pub fn pack_start_v2(bytes: &[u8], from: usize) -> Result<usize, PacketRefused>
     requires { from ≤ length bytes.now }
     ensures { MatchResult result (FollowsHeader bytes.now from) (RefusedFrom bytes.now from) }
 {
@@ -53,15 +53,15 @@ pub fn behind_header(bytes: &[u8], from: usize) -> Result<usize, PacketRefused>
 /// # Errors
 ///
 /// The error of a packet line before such a line. `Incomplete` if the line may follow after the end of `bytes`.
-pub fn behind_told(bytes: &[u8], from: usize) -> Result<usize, PacketRefused>
+pub fn pack_start_v0(bytes: &[u8], from: usize) -> Result<usize, PacketRefused>
     requires { from ≤ length bytes.now }
-    ensures { MatchResult result (FollowsTold bytes.now from) (RefusedFrom bytes.now from) }
+    ensures { MatchResult result (FollowsAcknowledgements bytes.now from) (RefusedFrom bytes.now from) }
 {
     let mut at = from;
     'packets: loop {
         match next_packet(bytes, at) {
             Ok(NextPacket::Line(payload, next)) => {
-                if !is_told(text_at(bytes, payload)) {
+                if !precedes_pack(text_at(bytes, payload)) {
                     return Ok(at);
                 }
                 at = next;

@@ -5,10 +5,10 @@ ghost use Rattle.gixp_packetline.specs.declared.protocol.Protocol.TheVariants.{V
 ghost use Rattle.gixp_packetline.specs.Items.{is_stop};
 ghost use Rattle.gixp_refs.specs.RefLine.{target_of, born, never_born, v2_line};
 ghost use Rattle.gixp_records.specs.Span.{text_at, IsWithin};
-ghost use Rattle.gixp_records.specs.RecordLine.{Judges, said_in, AreSaidWithin, line_ref_value, IsLineWithin};
+ghost use Rattle.gixp_records.specs.RecordLine.{Judges, attributes_in, AreAttributesWithin, line_ref_value, IsLineWithin};
 ghost use Rattle.gixp_records.specs.Refs.{ref_in, IsRecordWithin, IsNextRef, ReadsRecords};
 
-use crate::line::{LineRef, LineRefused, Said, is_null, read_line};
+use crate::line::{LineAttributes, LineRef, LineRefused, is_null, read_line};
 use crate::packets::{NextPacket, PacketRefused, next_packet};
 use crate::span::{Span, text_at};
 use gixp_hash::ObjectId;
@@ -94,15 +94,15 @@ fn shown(bytes: &[u8], target: Option<Span>) -> Option<Span>
 
 // The record of a line with an id.
 #[inline(always)]
-fn born(bytes: &[u8], object: ObjectId, name: Span, said: Said) -> RefRecord
+fn born(bytes: &[u8], object: ObjectId, name: Span, attributes: LineAttributes) -> RefRecord
     requires name { IsWithin bytes.now name }
-    requires said { AreSaidWithin bytes.now said }
+    requires attributes { AreAttributesWithin bytes.now attributes }
     ensures value { ref_in bytes.now result
-        ≡ born (text_at bytes.now name) object.bytes (target_of (said_in bytes.now said).target) (said_in bytes.now said).peeled }
+        ≡ born (text_at bytes.now name) object.bytes (target_of (attributes_in bytes.now attributes).target) (attributes_in bytes.now attributes).peeled }
     ensures within { IsRecordWithin bytes.now result }
 {
     let id = object.bytes;
-    match (shown(bytes, said.target), said.peeled) {
+    match (shown(bytes, attributes.target), attributes.peeled) {
         (None, None) => RefRecord {
             kind: 1,
             object: id,
@@ -142,15 +142,15 @@ fn born(bytes: &[u8], object: ObjectId, name: Span, said: Said) -> RefRecord
 
 // The record of a line without an id.
 #[inline(always)]
-fn unborn(bytes: &[u8], name: Span, said: Said) -> Result<RefRecord, LineRefused>
+fn unborn(bytes: &[u8], name: Span, attributes: LineAttributes) -> Result<RefRecord, LineRefused>
     requires name { IsWithin bytes.now name }
-    requires said { AreSaidWithin bytes.now said }
+    requires attributes { AreAttributesWithin bytes.now attributes }
     ensures value { MatchResult result
-        (λ r. never_born (text_at bytes.now name) (said_in bytes.now said).target (said_in bytes.now said).peeled ≡ Ok (ref_in bytes.now r))
-        (Judges (never_born (text_at bytes.now name) (said_in bytes.now said).target (said_in bytes.now said).peeled)) }
+        (λ r. never_born (text_at bytes.now name) (attributes_in bytes.now attributes).target (attributes_in bytes.now attributes).peeled ≡ Ok (ref_in bytes.now r))
+        (Judges (never_born (text_at bytes.now name) (attributes_in bytes.now attributes).target (attributes_in bytes.now attributes).peeled)) }
     ensures within { IfOk result (IsRecordWithin bytes.now) }
 {
-    match said.target {
+    match attributes.target {
         Some(target) => {
             if is_null(text_at(bytes, target)) {
                 return Err(LineRefused::Unborn);
@@ -175,8 +175,8 @@ fn record_of(bytes: &[u8], line: LineRef) -> Result<RefRecord, LineRefused>
     ensures within { IfOk result (IsRecordWithin bytes.now) }
 {
     match line.object {
-        Some(object) => Ok(born(bytes, object, line.name, line.said)),
-        None => unborn(bytes, line.name, line.said),
+        Some(object) => Ok(born(bytes, object, line.name, line.attributes)),
+        None => unborn(bytes, line.name, line.attributes),
     }
 }
 

@@ -44,11 +44,11 @@ pub(crate) fn cut_at(bytes: &[u8], span: Span, byte: u8) -> (Span, Option<Span>)
     };
     match rest {
         Some(rest) => {
-            let behind = Span {
+            let following = Span {
                 at: span.at + span.len - rest.len(),
                 len: rest.len(),
             };
-            (before, Some(behind))
+            (before, Some(following))
         }
         None => (before, None),
     }

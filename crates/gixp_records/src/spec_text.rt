@@ -3,16 +3,16 @@ ghost use Rattle.std.specs.Prelude.{◌≡◌, ◌++◌, IfOk, OnOk, map};
 ghost use Rattle.std.specs.List.{flat_map};
 ghost use Rattle.bstr.specs.BStr.{bstr_bytes};
 ghost use Rattle.bstr.specs.Owned.{bstring_bytes};
-ghost use Rattle.gixp_text.specs.Lines.{text_lines};
+ghost use Rattle.gixp_utils.specs.Lines.{text_lines};
 ghost use Rattle.gixp_refspec.specs.Matching.{prefixes_of};
 ghost use Rattle.gixp_refspec.specs.RefSpec.{value_of};
 ghost use Rattle.gixp_refspec.specs.Texts.{texts};
-ghost use Rattle.gixp_records.specs.SpecText.{AddsLineSpec, ReadsSpecLines, TellsPrefixes, ended_line};
+ghost use Rattle.gixp_records.specs.SpecText.{AddsLineSpec, ReadsSpecLines, WritesPrefixes, ended_line};
 
 use bstr::{BStr, BString};
 use gixp_refspec::RefSpecRef;
 use gixp_refspec::parse::{Error, Operation, parse};
-use gixp_text::text_lines;
+use gixp_utils::text_lines;
 use std::alloc::{AllocError, AllocFailed, Global};
 
 /// The error of reading refspecs.
@@ -125,7 +125,7 @@ fn text_of_lines(alloc: Global, lines: &[BString]) -> Result<Vec<u8>, AllocError
 ///
 /// As [`specs_in`].
 pub fn prefix_text(alloc: Global, text: &[u8]) -> Result<Vec<u8>, SpecsRefused>
-    ensures { TellsPrefixes (text_lines text.now) result }
+    ensures { WritesPrefixes (text_lines text.now) result }
 {
     let specs = match specs_in(alloc, text) {
         Ok(specs) => specs,
@@ -135,7 +135,7 @@ pub fn prefix_text(alloc: Global, text: &[u8]) -> Result<Vec<u8>, SpecsRefused>
         return Err(SpecsRefused::Memory);
     };
     match text_of_lines(alloc, &prefixes) {
-        Ok(told) => Ok(told),
+        Ok(entries) => Ok(entries),
         Err(_) => Err(SpecsRefused::Memory),
     }
 }

@@ -8,10 +8,10 @@ ghost use Rattle.gixp_records.specs.V1RecordLine.{IsRefusedAs, named_in, symref_
 ghost use Rattle.gixp_records.specs.declared.advertised.opening.RefsOpening.{RefsOpening};
 ghost use Rattle.gixp_records.specs.declared.advertised.refused.AdvertisedRefused.TheVariants.{Line};
 ghost use Rattle.gixp_records.specs.RefsOpening.{cut_span};
-ghost use Rattle.gixp_records.specs.AdvertisedRecords.{IsNextAdvertised, IsReach, StandsNext, IsRefusedBehind, IsStep};
+ghost use Rattle.gixp_records.specs.AdvertisedRecords.{IsNextAdvertised, IsSymrefScope, IsNextLine, IsRefusedAfter, IsStep};
 
-use crate::advertised::line::{AdvertisedLine, NamedLine, read_advertised_line, read_id};
 use crate::advertised::opening::{RefsOpening, is_stop};
+use crate::advertised::ref_line::{AdvertisedLine, NamedLine, read_advertised_line, read_id};
 use crate::advertised::refused::{AdvertisedLineRefused, AdvertisedRefused};
 use crate::advertised::symrefs::{SymrefSpan, find_symref};
 use crate::packets::{NextPacket, PacketRefused, next_packet};
@@ -28,7 +28,7 @@ pub(crate) enum NextAdvertised {
 
 // The position of the reader.
 #[derive(Clone, Copy)]
-pub(crate) struct Reach {
+pub(crate) struct SymrefScope {
     // The offset of the next line.
     pub(crate) at: usize,
     // The offset of the last ref line while its peeled line may still follow, otherwise the offset after the last ref.
@@ -39,11 +39,11 @@ pub(crate) struct Reach {
 
 // The result of reading one more line.
 #[derive(Clone, Copy)]
-pub(crate) enum Step {
+pub(crate) enum Scan {
     // No complete ref, and the new position.
-    On(Reach),
+    On(SymrefScope),
     // A complete ref, and the new position.
-    Record(RefRecord, Reach),
+    Record(RefRecord, SymrefScope),
     // The last ref, and the offset after the stop.
     Last(RefRecord, usize),
     // The stop without another ref, and the offset after it.
@@ -173,39 +173,39 @@ fn next_advertised(
 fn add_line(
     bytes: &[u8],
     symrefs: &[SymrefSpan],
-    reach: Reach,
+    scope: SymrefScope,
     line: AdvertisedLine,
     next: usize,
-) -> Result<Step, AdvertisedLineRefused>
+) -> Result<Scan, AdvertisedLineRefused>
     requires symrefs { All (IsSymrefWithin bytes.now) symrefs.now }
-    requires last { IfSome reach.last (λ n. IsWithin bytes.now n.name) }
+    requires last { IfSome scope.last (λ n. IsWithin bytes.now n.name) }
     requires line { IsAdvertisedWithin bytes.now line }
-    ensures { (o : RefsOpening) → StandsNext bytes.now o (map (symref_at bytes.now) symrefs.now) reach line next → MatchResult result
-        (λ s. IsStep bytes.now o (map (symref_at bytes.now) symrefs.now) reach (Ok s))
-        (λ e. IsRefusedBehind bytes.now o (map (symref_at bytes.now) symrefs.now) reach.place (Line e)) }
+    ensures { (o : RefsOpening) → IsNextLine bytes.now o (map (symref_at bytes.now) symrefs.now) scope line next → MatchResult result
+        (λ s. IsStep bytes.now o (map (symref_at bytes.now) symrefs.now) scope (Ok s))
+        (λ e. IsRefusedAfter bytes.now o (map (symref_at bytes.now) symrefs.now) scope.place (Line e)) }
 {
     match line {
-        AdvertisedLine::Nothing | AdvertisedLine::Shallow(_) => Ok(Step::On(Reach {
+        AdvertisedLine::Nothing | AdvertisedLine::Shallow(_) => Ok(Scan::On(SymrefScope {
             at: next,
-            place: reach.place,
-            last: reach.last,
+            place: scope.place,
+            last: scope.last,
         })),
         AdvertisedLine::Named(named) => {
-            let behind = Reach {
+            let following = SymrefScope {
                 at: next,
-                place: reach.at,
+                place: scope.at,
                 last: Some(named),
             };
-            match reach.last {
-                Some(before) => Ok(Step::Record(single_record(bytes, symrefs, before), behind)),
-                None => Ok(Step::On(behind)),
+            match scope.last {
+                Some(before) => Ok(Scan::Record(single_record(bytes, symrefs, before), following)),
+                None => Ok(Scan::On(following)),
             }
         }
-        AdvertisedLine::Peeled { left, base } => match reach.last {
+        AdvertisedLine::Peeled { left, base } => match scope.last {
             Some(before) => match pair_record(bytes, symrefs, before, left, base) {
-                Ok(record) => Ok(Step::Record(
+                Ok(record) => Ok(Scan::Record(
                     record,
-                    Reach {
+                    SymrefScope {
                         at: next,
                         place: next,
                         last: None,
@@ -224,22 +224,22 @@ pub(crate) fn read_step(
     bytes: &[u8],
     opening: &RefsOpening,
     symrefs: &[SymrefSpan],
-    reach: Reach,
-) -> Result<Step, AdvertisedRefused>
+    scope: SymrefScope,
+) -> Result<Scan, AdvertisedRefused>
     requires symrefs { All (IsSymrefWithin bytes.now) symrefs.now }
-    requires reach { IsReach bytes.now opening.now (map (symref_at bytes.now) symrefs.now) reach }
-    ensures { IsStep bytes.now opening.now (map (symref_at bytes.now) symrefs.now) reach result }
+    requires scope { IsSymrefScope bytes.now opening.now (map (symref_at bytes.now) symrefs.now) scope }
+    ensures { IsStep bytes.now opening.now (map (symref_at bytes.now) symrefs.now) scope result }
 {
-    match next_advertised(bytes, opening, reach.at) {
+    match next_advertised(bytes, opening, scope.at) {
         Ok(NextAdvertised::Line(line, next)) => {
-            match add_line(bytes, symrefs, reach, line, next) {
+            match add_line(bytes, symrefs, scope, line, next) {
                 Ok(made) => Ok(made),
                 Err(e) => Err(AdvertisedRefused::Line(e)),
             }
         }
-        Ok(NextAdvertised::Stop(next)) => match reach.last {
-            Some(before) => Ok(Step::Last(single_record(bytes, symrefs, before), next)),
-            None => Ok(Step::Stop(next)),
+        Ok(NextAdvertised::Stop(next)) => match scope.last {
+            Some(before) => Ok(Scan::Last(single_record(bytes, symrefs, before), next)),
+            None => Ok(Scan::Stop(next)),
         },
         Err(e) => Err(e),
     }

@@ -2,7 +2,7 @@
 ghost use Rattle.std.specs.Prelude.{◌≡◌, ◌≤◌, None, MatchResult, length};
 ghost use Rattle.gixp_packetline.specs.Items.{is_stop};
 ghost use Rattle.gixp_capabilities.specs.Capabilities.{capabilities_of_line};
-ghost use Rattle.gixp_wire.specs.CapabilityAdvertisement.{version_named, from_ref_line, by_version, advertisement};
+ghost use Rattle.gixp_transport.specs.CapabilityAdvertisement.{version_named, from_ref_line, by_version, advertisement};
 ghost use Rattle.gixp_records.specs.declared.advertised.refused.AdvertisedRefused.TheVariants.{NoCapabilities};
 ghost use Rattle.gixp_records.specs.Span.{text_at, IsWithin};
 ghost use Rattle.gixp_records.specs.Packets.{pieces_at, IsNextPacket};
@@ -81,8 +81,8 @@ fn cut_ref_line(
     ensures { MatchResult result (HasCapabilities bytes.now (text_at bytes.now line) version first)
         (λ e. (e ≡ NoCapabilities) × (capabilities_of_line (text_at bytes.now line) ≡ None)) }
 {
-    let (front, behind) = cut_at(bytes, line, 0);
-    match behind {
+    let (front, following) = cut_at(bytes, line, 0);
+    match following {
         Some(text) => Ok(RefsOpening {
             version,
             first,

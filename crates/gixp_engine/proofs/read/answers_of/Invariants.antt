@@ -1,5 +1,5 @@
 use Rattle.std.proofs.Common.{◌≡◌, ℕ, List, map, drop}
-use Rattle.gixp_wire.specs.Bodies.{answer_of}
+use Rattle.gixp_transport.specs.Bodies.{answer_of}
 use Rattle.gixp_engine.specs.Handed.{answer_in}
 use Rattle.gixp_engine.proofs.HandedLemmas.{AnswersSoFar}
 use Rattle.gixp_engine.proofs.read.answers_of.Given as goal

@@ -1,5 +1,5 @@
 use Rattle.std.proofs.Common.{◌≡◌, map, take}
-use Rattle.gixp_engine.specs.Handed.{id_from}
+use Rattle.gixp_response.specs.AnswerLine.{id_from}
 use Rattle.gixp_engine.proofs.read.ids_from.Given as goal
 
 abbrev pub invariant-loop-id : goal.invariant-loop-id

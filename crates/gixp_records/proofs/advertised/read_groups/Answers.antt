@@ -7,9 +7,9 @@ use Rattle.gixp_records.proofs.advertised.read_groups.Goals as goal
 pub returns-in-Ok-Last : goal.returns-in-Ok-Last
 returns-in-Ok-Last c =
     let bytes = c.args.bytes.now in
-    let came = rw c.in-Ok-Last.field-0-is at c.in-Ok-Last.ensures in
+    let received = rw c.in-Ok-Last.field-0-is at c.in-Ok-Last.ensures in
     let loop = c.loop-count in
     let so = loop.invariant in
     rw c.in-Ok-Last.field-0-is (reads_last bytes c.args.opening.now (map (symref_at bytes) c.args.symrefs.now) c.args.from
-    loop.reach.place c.in-Ok-Last.next loop.count c.args.records.now loop.records c.in-Ok-Last.record c.loop-count-test.true
-    so.rest so.within so.so_far so.ending came.0 came.1 came.2 (length-set loop.records loop.count c.in-Ok-Last.record))
+    loop.scope.place c.in-Ok-Last.next loop.count c.args.records.now loop.records c.in-Ok-Last.record c.loop-count-test.true
+    so.rest so.within so.so_far so.ending received.0 received.1 received.2 (length-set loop.records loop.count c.in-Ok-Last.record))

@@ -10,7 +10,7 @@ returns-then-is_error c =
     let front = rw c.in-Data.is at c.requires in
     let stands = (placed bytes c.args.at text c.args.rest.now front).stands in
     server_next bytes c.args.at text c.args.rest.now c.without_line_end-words.result front (sym c.is_error.ensures ∙ c.if-is_error.true)
-    (c.without_line_end-words.ensures.text ∙ ap (strip_last 10) (c.behind.ensures.text ∙ ap (drop 4) stands))
+    (c.without_line_end-words.ensures.text ∙ ap (strip_last 10) (c.following.ensures.text ∙ ap (drop 4) stands))
     c.without_line_end-words.ensures.within
 
 pub returns-else-is_error : goal.returns-else-is_error

@@ -8,9 +8,9 @@ use Rattle.gixp_records.proofs.refs.next_ref.Goals as goal
 pub returns-in-Err-line_record : goal.returns-in-Err-line_record
 returns-in-Err-line_record c =
     let bytes = c.args.bytes.now in
-    let came = rw c.in-Ok-Line.field-0-is at c.in-Ok-Line.ensures in (
+    let received = rw c.in-Ok-Line.field-0-is at c.in-Ok-Line.ensures in (
       text_at bytes c.in-Ok-Line.payload,
       lines_at bytes c.in-Ok-Line.next,
-      ap (lines_of V2) came.0,
+      ap (lines_of V2) received.0,
       c.in-Err-line_record.ensures.value,
     )

@@ -7,10 +7,10 @@ use Rattle.gixp_records.proofs.refs.read_refs.Goals as goal
 
 pub returns-in-Ok-Stop : goal.returns-in-Ok-Stop
 returns-in-Ok-Stop c =
-    let came = rw c.in-Ok-Stop.field-0-is at c.in-Ok-Stop.ensures in
+    let received = rw c.in-Ok-Stop.field-0-is at c.in-Ok-Stop.ensures in
     reads_stop c.args.bytes.now c.args.from c.loop-count.at c.in-Ok-Stop.next c.loop-count.count c.args.records.now
-    c.loop-count.records came.0 (omega arith) c.loop-count.invariant.rest c.loop-count.invariant.within
-    c.loop-count.invariant.so_far came.1 came.2
+    c.loop-count.records received.0 (omega arith) c.loop-count.invariant.rest c.loop-count.invariant.within
+    c.loop-count.invariant.so_far received.1 received.2
 
 pub loop-count-preserved : goal.loop-count-preserved
 loop-count-preserved c =
@@ -20,7 +20,7 @@ loop-count-preserved c =
     let i = c.loop-count.count in
     let r = c.in-Ok-Ref.record in
     let so = c.loop-count.invariant in
-    let came = rw c.in-Ok-Ref.field-0-is at c.in-Ok-Ref.ensures in
+    let received = rw c.in-Ok-Ref.field-0-is at c.in-Ok-Ref.ensures in
     let under : i < length now = omega arith in
     let first : take (i + 1) (slice_set now i r) ≡ take i now ++ r ∷ [] = take_more_set now i r under in
     let values = ap (refs_in bytes) first ∙ map_push (ref_in bytes) (take i now) r in
@@ -29,8 +29,8 @@ loop-count-preserved c =
     record {
       so_far =
           subst (AreLinesTo bytes c.args.from c.in-Ok-Ref.next) (sym values)
-          (lines_more bytes c.args.from c.loop-count.at c.in-Ok-Ref.next (refs_in bytes (take i now)) came.0 (ref_in bytes r) so.so_far
-          came.1 came.2 came.4);
+          (lines_more bytes c.args.from c.loop-count.at c.in-Ok-Ref.next (refs_in bytes (take i now)) received.0 (ref_in bytes r) so.so_far
+          received.1 received.2 received.4);
       rest = last ∙ sym (drop-drop 1 i now) ∙ ap (drop 1) so.rest ∙ drop-drop 1 i old;
-      within = All-same (IsRecordWithin bytes) _ _ first (All-push (IsRecordWithin bytes) (take i now) r so.within came.3);
+      within = All-same (IsRecordWithin bytes) _ _ first (All-push (IsRecordWithin bytes) (take i now) r so.within received.3);
     }

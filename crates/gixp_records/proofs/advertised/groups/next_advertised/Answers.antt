@@ -13,10 +13,10 @@ returns-in-Err-read_advertised_line c =
     let at = c.args.at in
     let payload = c.in-Ok-Line.payload in
     let text = text_at bytes payload in
-    let came = rw c.in-Ok-Line.field-0-is at c.in-Ok-Line.ensures in
-    let cut = ap (text_at bytes) c.cut_first.ensures ∙ shown_at (at == o.first) o.cut bytes payload came.1 in (
+    let received = rw c.in-Ok-Line.field-0-is at c.in-Ok-Line.ensures in
+    let cut = ap (text_at bytes) c.cut_first.ensures ∙ shown_at (at == o.first) o.cut bytes payload received.1 in (
       shown_text (at == o.first) o.cut text,
       advertised_lines bytes o c.in-Ok-Line.next,
-      line_comes bytes o at c.in-Ok-Line.next text c.requires.first came.3.0 came.0,
+      line_comes bytes o at c.in-Ok-Line.next text c.requires.first received.3.0 received.0,
       refused_same _ _ c.in-Err-read_advertised_line.e (ap v1_line (sym cut)) c.in-Err-read_advertised_line.ensures.value,
     )

@@ -8,9 +8,9 @@ use Rattle.gixp_records.proofs.advertised.opening.cut_ref_line.Goals as goal
 pub returns-in-Some : goal.returns-in-Some
 returns-in-Some c =
     let bytes = c.args.bytes.now in
-    let front = c.cut_at-behind.result.0 in
-    let whole = rw c.in-Some.is at c.cut_at-behind.ensures.parts in
-    let size = length-text_at bytes front.at front.len c.cut_at-behind.ensures.first in
+    let front = c.cut_at-following.result.0 in
+    let whole = rw c.in-Some.is at c.cut_at-following.ensures.parts in
+    let size = length-text_at bytes front.at front.len c.cut_at-following.ensures.first in
     record {
       same_version = refl;
       place = refl;

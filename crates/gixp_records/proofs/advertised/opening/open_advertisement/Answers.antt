@@ -5,5 +5,5 @@ use Rattle.gixp_records.proofs.advertised.opening.open_advertisement.Goals as go
 pub returns-in-Ok-Line : goal.returns-in-Ok-Line
 returns-in-Ok-Line c =
     let bytes = c.args.bytes.now in
-    let came = rw c.in-Ok-Line.field-0-is at c.in-Ok-Line.ensures in
-    opened_first bytes (text_at bytes c.in-Ok-Line.line) _ c.open_first_line.result came.0 c.open_first_line.ensures
+    let received = rw c.in-Ok-Line.field-0-is at c.in-Ok-Line.ensures in
+    opened_first bytes (text_at bytes c.in-Ok-Line.line) _ c.open_first_line.result received.0 c.open_first_line.ensures

@@ -1,5 +1,5 @@
 use Rattle.std.proofs.Common.{sym, ap, ◌∙◌}
-use Rattle.gixp_wire.specs.CapabilityAdvertisement.{one, unnamed, version_named, by_version}
+use Rattle.gixp_transport.specs.CapabilityAdvertisement.{one, unnamed, version_named, by_version}
 use Rattle.gixp_records.specs.Span.{text_at}
 use Rattle.gixp_records.specs.Packets.{pieces_at}
 use Rattle.gixp_records.specs.RefsOpening.{named_as}

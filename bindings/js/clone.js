@@ -1,0 +1,52 @@
+#!/usr/bin/env -S node --experimental-wasm-memory64 --no-warnings
+/** Clones a repository over HTTP or HTTPS: clone.js URL FOLDER. It needs git and the module. */
+import { spawn, spawnSync } from "node:child_process";
+import { once } from "node:events";
+import { Band, map, refs } from "./gixp.js";
+import { Progress, fetchPack } from "./http.js";
+
+const SPECS = ["+refs/heads/*:refs/remotes/origin/*", "+refs/tags/*:refs/tags/*"];
+
+function git(words, input) {
+  const stdio = [input === undefined ? "ignore" : "pipe", "inherit", "inherit"];
+  const run = spawnSync("git", words, { input, stdio });
+  if (run.status !== 0) throw new Error("git " + words[0] + " failed");
+}
+
+/** Passes the pack to git, and shows the progress. */
+async function receive(folder, pack) {
+  const words = ["-C", folder, "index-pack", "--stdin", "--fix-thin"];
+  const index = spawn("git", words, { stdio: ["pipe", "ignore", "inherit"] });
+  const ended = once(index, "exit"), progress = new Progress();
+  for await (const piece of pack) {
+    const line = progress.add(piece);
+    const isFull = piece.band === Band.CONTENT && !index.stdin.write(piece.text);
+    if (isFull) await once(index.stdin, "drain");
+    process.stderr.write("\r" + line + "\x1b[K");
+  }
+  process.stderr.write("\n");
+  index.stdin.end();
+  if ((await ended)[0] !== 0) throw new Error("git index-pack failed");
+}
+
+/** Writes the refs that the refspecs map, as `git update-ref --stdin` reads them. */
+function updates(listed) {
+  const found = [...refs(listed)], { mappings } = map(found.map((ref) => ref.name), SPECS);
+  return mappings.map((one) => `create ${one.local} ${found[one.item].id}\n`).join("");
+}
+
+const [url, folder] = process.argv.slice(2);
+if (!folder) {
+  console.error("usage: clone.js URL FOLDER");
+  process.exit(2);
+}
+try {
+  let listed = null;
+  const onStep = (_, session) => (listed = session.answers[1] ?? null);
+  git(["init", "--quiet", folder]);
+  await receive(folder, fetchPack(url, SPECS, { onStep }));
+  git(["-C", folder, "update-ref", "--stdin"], updates(listed));
+} catch (e) {
+  console.error("clone.js: " + e.message);
+  process.exit(1);
+}

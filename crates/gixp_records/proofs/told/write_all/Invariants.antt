@@ -1,7 +1,0 @@
-use Rattle.std.proofs.Common.{map}
-use Rattle.gixp_records.specs.Told.{told_value}
-use Rattle.gixp_records.proofs.ToldLemmas.{WroteSome}
-use Rattle.gixp_records.proofs.told.write_all.Given as goal
-
-abbrev pub invariant-loop-place : goal.invariant-loop-place
-invariant-loop-place l = WroteSome (map told_value l.all) l.place l.fn.records l.fn.names l.records l.names l.at
