@@ -1,5 +1,5 @@
 -- What the options of a command line ask for.
-use Rattle.std.specs.Prelude.{◌≡◌, ◌<◌, ◌&&◌, ◌||◌, ℕ, ℤ, Bool, true, false, is_some, if◌then◌else◌, List, [], ◌∷◌, length, map, codes, Option, Some, None, unwrap_or, Ok}
+use Rattle.std.specs.Prelude.{◌≡◌, ◌<◌, ◌&&◌, ◌||◌, ℕ, ℤ, Bool, true, false, not, is_some, if◌then◌else◌, List, [], ◌∷◌, length, map, codes, Option, Some, None, unwrap_or, Ok}
 use Rattle.std.specs.Int.{w64}
 use Rattle.std.specs.Option.{option_map}
 use Rattle.std.specs.Str.{bytes_eq}
@@ -17,11 +17,11 @@ use Rattle.gixp_fetch_common.specs.declared.haves.Haves.TheVariants.{By, InOrder
 use Rattle.gixp_fetch_cli.specs.declared.options.Server.{Server}
 use Rattle.gixp_fetch_cli.specs.declared.options.Files.{Files}
 use Rattle.gixp_fetch_cli.specs.declared.options.Questions.{Questions}
-use Rattle.gixp_fetch_cli.specs.declared.options.Output.{Output}
+use Rattle.gixp_fetch_cli.specs.declared.options.OutputOptions.{OutputOptions}
 use Rattle.gixp_fetch_cli.specs.declared.options.FetchArgs.{FetchArgs}
 use Rattle.gixp_fetch_cli.specs.declared.options.Task.{Task}
 use Rattle.gixp_fetch_cli.specs.declared.options.Task.TheVariants.{Help, Version, List as ListRefs, Fetch}
-use Rattle.gixp_fetch_cli.specs.declared.options.Options.{Options}
+use Rattle.gixp_fetch_cli.specs.declared.options.ProgramOptions.{ProgramOptions}
 use Rattle.gixp_fetch_cli.specs.OptionNames.{value_in, values_in}
 use Rattle.gixp_fetch_cli.specs.CommandLine.{LineParts}
 
@@ -124,10 +124,14 @@ pub record AsksFiles (line : LineParts) (files : Files) : Type 0 where
   pub shallow : option_map (λ w. w.now) files.shallow ≡ value line (codes "--shallow")
 
 -- what is printed, and where; without progress where errors alone are printed
-pub record AsksOutput (line : LineParts) (output : Output) : Type 0 where
+pub record AsksOutput (line : LineParts) (output : OutputOptions) : Type 0 where
   pub report : option_map (λ w. w.now) output.report ≡ value line (codes "--report")
   pub quiet : output.is_quiet ≡ has line (codes "--quiet")
   pub progress : output.shows_progress ≡ (if has line (codes "--quiet") then false else has line (codes "--progress"))
+
+-- the report would follow the requests on standard output, which the server reads
+abbrev pub mixes_report : LineParts → List ℕ → Bool
+mixes_report line to = bytes_eq to (codes "-") && not (has line (codes "--report")) && not (has line (codes "--quiet"))
 
 -- a fetch; a shallow server is refused, and no depth is asked for, where no boundary can be kept
 pub record AsksFetch (line : LineParts) (fetch_args : FetchArgs) : Type 0 where
@@ -165,9 +169,10 @@ pub record AsksServer (line : LineParts) (server : Server) : Type 0 where
   pub agent : server.agent.now ≡ unwrap_or (value line (codes "--agent")) (codes "gixp")
 
 -- all options of a command line
-pub record AsksOptions (line : LineParts) (options : Options) : Type 0 where
+pub record AsksOptions (line : LineParts) (options : ProgramOptions) : Type 0 where
   pub task : AsksTask line options.server.from.now options.server.to.now options.task
   pub server : AsksServer line options.server
   pub filter : option_map (λ w. w.now) options.filter ≡ value line (codes "--filter")
   pub files : AsksFiles line options.files
   pub output : AsksOutput line options.output
+  pub apart : mixes_report line options.server.to.now ≡ false

@@ -9,5 +9,6 @@ pub mod Refspecs
 pub mod Refusals
 pub mod Report
 pub mod ReportedChanges
+pub mod Streams
 pub mod UnreadFiles
 pub mod Usage

@@ -3,11 +3,11 @@ use Rattle.std.specs.Prelude.{◌≡◌, ◌&&◌, ◌||◌, ℕ, ℤ, ⊤, Bool
 use Rattle.std.specs.Str.{bytes_eq}
 use Rattle.gixp_refspec.specs.Name.{is_partial_name}
 use Rattle.gixp_fetch_common.specs.declared.haves.Haves.{Haves}
-use Rattle.gixp_fetch_cli.specs.declared.options.Options.{Options}
+use Rattle.gixp_fetch_cli.specs.declared.options.ProgramOptions.{ProgramOptions}
 use Rattle.gixp_fetch_cli.specs.declared.options.OptionError.{OptionError}
 use Rattle.gixp_fetch_cli.specs.declared.options.OptionError.TheVariants.{Line as BadLine, Value as BadValue, Conflict, Needs, Operands, Memory}
 use Rattle.gixp_fetch_cli.specs.CommandLine.{LineParts, LineFault, IsLineFault}
-use Rattle.gixp_fetch_cli.specs.Choices.{value, has, has_conflict, has_history, version_of, tags_of, IsHaves, IsNumber, IsSeconds, AsksOptions}
+use Rattle.gixp_fetch_cli.specs.Choices.{value, has, has_conflict, has_history, version_of, tags_of, IsHaves, IsNumber, IsSeconds, mixes_report, AsksOptions}
 
 -- ---- values
 
@@ -71,6 +71,8 @@ pub data LacksOther (line : LineParts) (one other : List ℕ) : Type 0 where
       → LacksOther line one other
   no_boundary : one ≡ codes "a depth" → other ≡ codes "--shallow" → has_history line ≡ true → has line (codes "--shallow") ≡ false
       → LacksOther line one other
+  no_report : one ≡ codes "standard output as TO" → other ≡ codes "--report or --quiet" → (to : List ℕ) → mixes_report line to ≡ true
+      → LacksOther line one other
 
 -- ---- a refusal
 
@@ -98,7 +100,7 @@ IsLineRefusal fault Memory = ⊤
 IsLineRefusal fault _ = ⊥
 
 -- a call that reads a command line
-abbrev pub ReadsOptions : Result LineParts LineFault → Result Options OptionError → Type 0
+abbrev pub ReadsOptions : Result LineParts LineFault → Result ProgramOptions OptionError → Type 0
 ReadsOptions (Ok line) (Ok options) = AsksOptions line options
 ReadsOptions (Ok line) (Err e) = RefusesOptions line e
 ReadsOptions (Err fault) (Ok options) = ⊥

@@ -18,7 +18,7 @@ use Rattle.gixp_refmap.specs.Mapping.{source_id, source_name}
 use Rattle.gixp_refs.specs.declared.handshake.Ref.{Ref}
 use Rattle.gixp_refs.specs.Ref.{RefValue, peeled, direct, symbolic, unborn, ref_value}
 use Rattle.gixp_pack.specs.declared.check.PackSummary.{PackSummary}
-use Rattle.gixp_text.specs.Pieces.{joined}
+use Rattle.gixp_utils.specs.Pieces.{joined}
 use Rattle.gixp_refmap.specs.MappingNames.{name_or_dash}
 use Rattle.gixp_fetch_cli.specs.declared.change.Change.{Change}
 use Rattle.gixp_fetch_cli.specs.declared.change.Change.TheVariants.{New, FastForward, Forced, Same, Refused}

@@ -1,5 +1,7 @@
 //! The files that the command line names: the texts of the repository, the questions about objects, and the boundary.
-ghost use Rattle.std.specs.Prelude.{◌≡◌, [], unwrap_or, option_map, is_some, IfOk};
+ghost use Rattle.std.specs.Prelude.{◌≡◌, [], unwrap_or, option_map, is_some, IfOk, IfSome};
+ghost use Rattle.gix_protocol.specs.Repository.{peeled_ids};
+ghost use Rattle.gixp_fetch_common.specs.Tips.{HasTips};
 ghost use Rattle.gixp_fetch_cli.specs.UnreadFiles.{FailureIsTextError, FailureIsUnanswered};
 
 use crate::options::{Files, Questions};
@@ -84,7 +86,8 @@ pub fn read_repository(
     files: &Files<'_>,
     haves: Haves,
 ) -> Result<KnownRepository, Failure>
-    ensures tips { IfOk result (λ r. is_some r.tips ≡ is_some files.now.refs) }
+    ensures known { IfOk result (λ r. is_some r.tips ≡ is_some files.now.refs) }
+    ensures tips { IfOk result (λ r. IfSome r.tips (HasTips r.objects (peeled_ids r.refs))) }
 {
     let objects = objects_in(rt, files, haves)?;
     let mut refs = refs_in(rt, files.refs)?;
@@ -138,20 +141,16 @@ fn questions_failure(alloc: Global, questions: Questions<'_>, e: BatchCheckError
     }
 }
 
-/// Writes the new boundary, if it differs from the old one, to the path with `.new` appended.
+/// Writes the new boundary to the path with `.new` appended, if a path is named.
 pub fn write_boundary(
     rt: &HostRuntime,
     path: Option<&str>,
-    old: &[ObjectId],
     new: &[ObjectId],
 ) -> Result<(), Failure> {
     let Some(path) = path else {
         return Ok(());
     };
     let alloc = rt.alloc();
-    if new == old {
-        return Ok(());
-    }
     let text = shallow_text(alloc, new)?;
     let path = format!(in alloc; "{path}.new")?;
     fs::write(rt, path.as_str(), text.as_slice()).map_err(|e| Failure::of_file(

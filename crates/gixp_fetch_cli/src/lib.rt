@@ -9,7 +9,6 @@ mod history;
 mod missing;
 mod options;
 mod program;
-mod progress;
 mod report;
 mod request;
 mod streams;

@@ -1,10 +1,10 @@
 //! The options of a command line.
-ghost use Rattle.std.specs.Prelude.{◌≡◌, true, if◌then◌else◌, Some, None, codes, map, string_bytes, IfOk, IfErr, IfSome, IfNone};
+ghost use Rattle.std.specs.Prelude.{◌≡◌, true, if◌then◌else◌, Some, None, codes, false, map, string_bytes, IsOk, IfOk, IfErr, IfSome, IfNone};
 ghost use Rattle.std.specs.Option.{option_map};
 ghost use Rattle.bstr.specs.Owned.{bstring_bytes};
 ghost use Rattle.gixp_fetch_cli.specs.CommandLine.{line_of, line_value, LineParts};
 ghost use Rattle.gixp_fetch_cli.specs.declared.options.OptionError.TheVariants.{Memory};
-ghost use Rattle.gixp_fetch_cli.specs.Choices.{version_of, tags_of, value, has, IsHaves};
+ghost use Rattle.gixp_fetch_cli.specs.Choices.{version_of, tags_of, value, has, IsHaves, mixes_report};
 ghost use Rattle.gixp_fetch_cli.specs.Choices.{AsksQuestions, AsksFiles, AsksOutput, AsksFetch, AsksWork, AsksTask, AsksOptions};
 ghost use Rattle.gixp_fetch_cli.specs.Refusals.{IsNoHaves, RefusesOptions, ReadsOptions};
 
@@ -57,7 +57,7 @@ pub struct Files<'a> {
 
 /// What is printed, and where.
 #[derive(Clone, Copy)]
-pub struct Output<'a> {
+pub struct OutputOptions<'a> {
     /// The file of the report, instead of standard output.
     pub report: Option<&'a str>,
     /// Whether the server's progress is shown.
@@ -96,13 +96,13 @@ pub enum Task<'a> {
 
 /// All options of a command line.
 #[derive(Drop)]
-pub struct Options<'a> {
+pub struct ProgramOptions<'a> {
     pub task: Task<'a>,
     pub server: Server<'a>,
     /// The filter of a fetch (git-rev-list, `--filter`), for servers that support filters.
     pub filter: Option<&'a str>,
     pub files: Files<'a>,
-    pub output: Output<'a>,
+    pub output: OutputOptions<'a>,
 }
 
 /// Why a command line is refused.
@@ -300,12 +300,25 @@ fn work_of<'a>(
     }
 }
 
+// Fails if the report would follow the requests on standard output, which the server reads.
+fn expect_report_apart<'a>(line: &CommandLine<'a>, to: &str) -> Result<(), OptionError<'a>>
+    ensures ok { IsOk result → mixes_report (line_value line.now) to.now ≡ false }
+    ensures err { IfErr result (λ e. (mixes_report (line_value line.now) to.now ≡ true) × RefusesOptions (line_value line.now) e) }
+{
+    if to == "-" && !line.has("--report") && !line.has("--quiet") {
+        Err(OptionError::Needs("standard output as TO", "--report or --quiet"))
+    } else {
+        Ok(())
+    }
+}
+
 // The task, and the operands FROM and TO.
 fn task_of<'a>(
     alloc: Global,
     line: &CommandLine<'a>,
 ) -> Result<(Task<'a>, &'a str, &'a str), OptionError<'a>>
     ensures ok { IfOk result (λ found. AsksTask (line_value line.now) found.1.now found.2.now found.0) }
+    ensures apart { IfOk result (λ found. mixes_report (line_value line.now) found.2.now ≡ false) }
     ensures err { IfErr result (λ e. RefusesOptions (line_value line.now) e) }
 {
     if line.has("--help") {
@@ -314,21 +327,23 @@ fn task_of<'a>(
     if line.has("-V") {
         return Ok((Task::Version, "", ""));
     }
-    work_of(alloc, line)
+    let found = work_of(alloc, line)?;
+    expect_report_apart(line, found.2)?;
+    Ok(found)
 }
 
-impl<'a> Options<'a> {
+impl<'a> ProgramOptions<'a> {
     /// The options in the words after the program's name.
     ///
     /// # Errors
     ///
     /// The first word that can't be parsed. Otherwise an option that can't have its value, two options that can't be used together,
     /// an option that needs another, or operands that fit neither usage.
-    pub fn read(alloc: Global, words: &'a [String]) -> Result<Options<'a>, OptionError<'a>>
+    pub fn read(alloc: Global, words: &'a [String]) -> Result<ProgramOptions<'a>, OptionError<'a>>
         ensures { ReadsOptions (line_of (map string_bytes words.now)) result }
     {
         match CommandLine::read(alloc, words) {
-            Ok(line) => Options::of(alloc, &line),
+            Ok(line) => ProgramOptions::of(alloc, &line),
             Err(LineError::Unknown(word)) => Err(OptionError::Line(LineError::Unknown(word))),
             Err(LineError::NoValue(name)) => Err(OptionError::Line(LineError::NoValue(name))),
             Err(LineError::Memory) => Err(OptionError::Memory),
@@ -336,7 +351,7 @@ impl<'a> Options<'a> {
     }
 
     // The options of a parsed command line.
-    fn of(alloc: Global, line: &CommandLine<'a>) -> Result<Options<'a>, OptionError<'a>>
+    fn of(alloc: Global, line: &CommandLine<'a>) -> Result<ProgramOptions<'a>, OptionError<'a>>
         ensures ok { IfOk result (λ options. AsksOptions (line_value line.now) options) }
         ensures err { IfErr result (λ e. RefusesOptions (line_value line.now) e) }
     {
@@ -350,7 +365,7 @@ impl<'a> Options<'a> {
             host: line.value("--host"),
             agent: line.value("--agent").unwrap_or("gixp"),
         };
-        Ok(Options {
+        Ok(ProgramOptions {
             task,
             server,
             filter: line.value("--filter"),
@@ -385,11 +400,11 @@ fn files_of<'a>(line: &CommandLine<'a>) -> Result<Files<'a>, OptionError<'a>>
     })
 }
 
-fn output_of<'a>(line: &CommandLine<'a>) -> Output<'a>
+fn output_of<'a>(line: &CommandLine<'a>) -> OutputOptions<'a>
     ensures { AsksOutput (line_value line.now) result }
 {
     let is_quiet = line.has("--quiet");
-    Output {
+    OutputOptions {
         report: line.value("--report"),
         shows_progress: line.has("--progress") && !is_quiet,
         is_quiet,

@@ -10,17 +10,17 @@ use crate::change::{Change, changes};
 use crate::connection::connect;
 use crate::files::{ask_objects, read_repository, write_boundary};
 use crate::missing::missing_name;
-use crate::options::{FetchArgs, OptionError, Options, Output, Server, Task};
-use crate::progress::TerminalProgress;
+use crate::options::{FetchArgs, OptionError, OutputOptions, ProgramOptions, Server, Task};
 use crate::report::{listing, report};
 use crate::request::request_of;
-use crate::streams::{Source, Target};
+use crate::streams::{ClientStream, ServerStream};
 use crate::usage::{USAGE, VERSION, print_refusal};
-use gix_protocol::client::{Fetched, Session, Silent};
+use gix_protocol::client::{Fetched, Session};
 use gix_protocol::fetch::RefMap;
 use gix_protocol::fetch::negotiate::{Find, Graph, RefStore, Shared, StoredObjects, StoredRefs};
-use gix_protocol::transport::{Connection, ObjectId, Transport};
+use gix_protocol::transport::{Connection, Discard, ObjectId, Transport};
 use gixp_fetch_common::failure::{Failure, unless_failed};
+use gixp_fetch_common::messages::MessagePrinter;
 use gixp_fetch_common::negotiate::negotiate;
 use gixp_fetch_common::receive::PackReceiver;
 use gixp_fetch_common::repository::KnownRepository;
@@ -45,30 +45,30 @@ fn read_words(rt: &HostRuntime) -> Result<Vec<String>, Failure> {
 }
 
 // The stream to the server. It is buffered, since each line is written in three pieces.
-type ServerInput<'a> = BufWriter<Target<File, Printer<'a, HostRuntime>>>;
+type ServerInput<'a> = BufWriter<ClientStream<File, Printer<'a, HostRuntime>>>;
 
-type ServerOutput = Source<File, StdinLock<'static>>;
+type ServerOutput = ServerStream<File, StdinLock<'static>>;
 
 fn open_target<'a>(rt: &'a HostRuntime, path: &str) -> Result<ServerInput<'a>, Failure> {
     let alloc = rt.alloc();
     let target = if path == "-" {
-        Target::Standard(io::writer(rt))
+        ClientStream::Standard(io::writer(rt))
     } else {
         let file = OpenOptions::new()
             .write(true)
             .open(rt, path)
             .map_err(|e| Failure::of_file(alloc, path, e.kind()))?;
-        Target::File(file)
+        ClientStream::File(file)
     };
     BufWriter::new(alloc, target).map_err(|_| Failure::Memory)
 }
 
 fn open_source(rt: &HostRuntime, path: &str) -> Result<ServerOutput, Failure> {
     if path == "-" {
-        return Ok(Source::Standard(rt.reader()));
+        return Ok(ServerStream::Standard(rt.reader()));
     }
     let file = File::open(rt, path).map_err(|e| Failure::of_file(rt.alloc(), path, e.kind()))?;
-    Ok(Source::File(file))
+    Ok(ServerStream::File(file))
 }
 
 // Opens the server's input first: the server may wait for that before it opens its output.
@@ -82,7 +82,7 @@ fn open_transport<'a>(
 }
 
 // Writes a text to the file of the report, or to standard output unless the output is quiet.
-fn write_output(rt: &HostRuntime, output: &Output<'_>, text: &[u8]) -> Result<(), Failure> {
+fn write_output(rt: &HostRuntime, output: &OutputOptions<'_>, text: &[u8]) -> Result<(), Failure> {
     if let Some(path) = output.report {
         return fs::write(rt, path, text).map_err(|e| Failure::of_file(rt.alloc(), path, e.kind()));
     }
@@ -93,27 +93,20 @@ fn write_output(rt: &HostRuntime, output: &Output<'_>, text: &[u8]) -> Result<()
     writer.write_all(text).map_err(|e| Failure::Io(e.kind()))
 }
 
-fn progress_of<'a>(
+fn printer<'a>(
     rt: &'a HostRuntime,
-    output: &Output<'_>,
     has_failed: &'a Cell<bool>,
-) -> TerminalProgress<'a>
-    ensures { result.shows_progress ≡ output.now.shows_progress }
-{
-    TerminalProgress {
-        rt,
-        shows_progress: output.shows_progress,
-        has_failed,
-    }
+) -> Result<MessagePrinter<'a>, Failure> {
+    MessagePrinter::new(rt, false, has_failed).map_err(|_| Failure::Memory)
 }
 
 // Lists the refs of the server, and ends the session unless `keeps_open`.
-fn list(rt: &HostRuntime, options: &Options<'_>, keeps_open: bool) -> Result<(), Failure> {
+fn list(rt: &HostRuntime, options: &ProgramOptions<'_>, keeps_open: bool) -> Result<(), Failure> {
     let alloc = rt.alloc();
     let transport = open_transport(rt, &options.server)?;
     let has_failed = Cell::new(false);
-    let progress = progress_of(rt, &options.output, &has_failed);
-    let mut session = open(alloc, transport, options.server.agent, Silent, progress)?;
+    let printer = printer(rt, &has_failed)?;
+    let mut session = open(alloc, transport, options.server.agent, printer, Discard)?;
     let text = listing(alloc, refs(alloc, &mut session)?)?;
     if keeps_open {
         let _ = session.into_transport();
@@ -126,7 +119,7 @@ fn list(rt: &HostRuntime, options: &Options<'_>, keeps_open: bool) -> Result<(),
 // Fetches the mapped refs, writes the new boundary, and then keeps the pack.
 fn fetch_pack<T: Transport + Drop>(
     rt: &HostRuntime,
-    session: &mut Session<T, Silent, TerminalProgress<'_>>,
+    session: &mut Session<T, MessagePrinter<'_>, Discard>,
     repository: &mut KnownRepository,
     asked: MappedFetch<'_>,
     path: &str,
@@ -141,7 +134,7 @@ fn fetch_pack<T: Transport + Drop>(
     }
     let mut pack = PackReceiver::new(alloc, PackFile::new(rt, alloc, path)?);
     let fetched = negotiate(rt, session, repository, asked, &mut pack);
-    let fetched = unless_failed(fetched, session.progress().has_failed.get());
+    let fetched = unless_failed(fetched, session.listener().has_failed());
     let written = write_new_boundary(rt, shallow, &repository.boundary, fetched);
     keep_pack(alloc, path, written, &mut pack)
 }
@@ -169,7 +162,27 @@ fn keep_pack<P: PackPlace>(
     }
 }
 
-// Writes the boundary of a fetch that succeeded.
+// The boundary of a fetch that succeeded, where it differs from the old one.
+fn changed_boundary(
+    alloc: Global,
+    old: &[ObjectId],
+    fetched: Result<Fetched, Failure>,
+) -> Result<Option<Vec<ObjectId>>, Failure>
+    ensures failed { IfErr fetched (λ e. result ≡ Err e) }
+{
+    match fetched {
+        Ok(fetched) => {
+            let boundary = fetched.boundary.with_unasked(alloc)?;
+            if boundary.as_slice() == old {
+                return Ok(None);
+            }
+            Ok(Some(boundary))
+        }
+        Err(unfetched) => Err(unfetched),
+    }
+}
+
+// Writes the boundary of a fetch that succeeded, if it differs from the old one.
 fn write_new_boundary(
     rt: &HostRuntime,
     path: Option<&str>,
@@ -178,26 +191,24 @@ fn write_new_boundary(
 ) -> Result<(), Failure>
     ensures { IfErr fetched (λ e. result ≡ Err e) }
 {
-    match fetched {
-        Ok(fetched) => {
-            let boundary = fetched.boundary.with_unasked(rt.alloc())?;
-            write_boundary(rt, path, old, &boundary)
-        }
-        Err(why) => Err(why),
+    match changed_boundary(rt.alloc(), old, fetched) {
+        Ok(Some(boundary)) => write_boundary(rt, path, &boundary),
+        Ok(None) => Ok(()),
+        Err(e) => Err(e),
     }
 }
 
 fn fetch(
     rt: &HostRuntime,
-    options: &Options<'_>,
+    options: &ProgramOptions<'_>,
     fetch_args: &FetchArgs<'_>,
 ) -> Result<(), Failure> {
     let alloc = rt.alloc();
     let mut repository = read_repository(rt, &options.files, fetch_args.haves)?;
     let transport = open_transport(rt, &options.server)?;
     let has_failed = Cell::new(false);
-    let progress = progress_of(rt, &options.output, &has_failed);
-    let mut session = open(alloc, transport, options.server.agent, Silent, progress)?;
+    let printer = printer(rt, &has_failed)?;
+    let mut session = open(alloc, transport, options.server.agent, printer, Discard)?;
     let mut request = request_of(alloc, fetch_args, options.output.shows_progress)?;
     let map = map(alloc, &mut session, &request)?;
     ask_filter(rt, &session, &mut request, options.filter)?;
@@ -232,7 +243,7 @@ fn changes_in(
     alloc: Global,
     map: &RefMap,
     repository: &KnownRepository,
-    options: &Options<'_>,
+    options: &ProgramOptions<'_>,
     fetch_args: &FetchArgs<'_>,
 ) -> Result<Vec<Option<Change>>, Failure>
     ensures changes { IfOk result (λ changes. ReportsChanges (is_some options.now.files.refs && knows_commits fetch_args.now.haves)
@@ -259,7 +270,7 @@ fn changes_in(
 }
 
 // Whether the report has the changes of the local refs.
-fn reports_changes(options: &Options<'_>, fetch_args: &FetchArgs<'_>) -> bool
+fn reports_changes(options: &ProgramOptions<'_>, fetch_args: &FetchArgs<'_>) -> bool
     ensures { result ≡ (is_some options.now.files.refs && knows_commits fetch_args.now.haves) }
 {
     match (options.files.refs, fetch_args.haves) {
@@ -268,7 +279,7 @@ fn reports_changes(options: &Options<'_>, fetch_args: &FetchArgs<'_>) -> bool
     }
 }
 
-fn run_task(rt: &HostRuntime, options: &Options<'_>) -> Result<(), Failure> {
+fn run_task(rt: &HostRuntime, options: &ProgramOptions<'_>) -> Result<(), Failure> {
     match &options.task {
         Task::Help => write_output(rt, &options.output, USAGE.as_bytes()),
         Task::Version => write_output(rt, &options.output, VERSION.as_bytes()),
@@ -296,7 +307,7 @@ pub fn run(rt: &HostRuntime) -> ExitCode {
         Ok(words) => words,
         Err(e) => return status(rt, Err(e)),
     };
-    match Options::read(rt.alloc(), &words) {
+    match ProgramOptions::read(rt.alloc(), &words) {
         Ok(options) => status(rt, run_task(rt, &options)),
         Err(OptionError::Memory) => status(rt, Err(Failure::Memory)),
         Err(e) => {

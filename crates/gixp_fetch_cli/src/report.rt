@@ -13,7 +13,7 @@ use gixp_refmap::RefMap;
 use gixp_refmap::mapping_names::{local_name, remote_name};
 use gixp_refmap::refmap::{Mapping, SpecIndex};
 use gixp_refs::handshake::Ref;
-use gixp_text::append;
+use gixp_utils::append;
 use std::alloc::{AllocError, Global};
 
 // The first word of a mapping's line: the change of its local ref, where it is known.

@@ -1,42 +1,48 @@
 //! The streams of a server: files, or the standard streams.
+ghost use Rattle.gixp_fetch_cli.specs.Streams.{server_remaining, client_contents};
+
 use std::io;
 use std::io::{Read, Write};
 
 /// The server's output: a file, or standard input.
 #[derive(Drop)]
-pub enum Source<F, S> {
+pub enum ServerStream<F, S> {
     File(F),
     Standard(S),
 }
 
-impl<F: Read, S: Read> Read for Source<F, S> {
+impl<F: Read, S: Read> Read for ServerStream<F, S> {
+    ghost remaining = { server_remaining F.remaining S.remaining };
+
     fn read(&mut self, buf: &mut [u8]) -> io::Result<usize> {
         match self {
-            Source::File(file) => file.read(buf),
-            Source::Standard(stream) => stream.read(buf),
+            ServerStream::File(file) => file.read(buf),
+            ServerStream::Standard(stream) => stream.read(buf),
         }
     }
 }
 
 /// The server's input: a file, or standard output.
 #[derive(Drop)]
-pub enum Target<F, S> {
+pub enum ClientStream<F, S> {
     File(F),
     Standard(S),
 }
 
-impl<F: Write, S: Write> Write for Target<F, S> {
+impl<F: Write, S: Write> Write for ClientStream<F, S> {
+    ghost contents = { client_contents F.contents S.contents };
+
     fn write(&mut self, buf: &[u8]) -> io::Result<usize> {
         match self {
-            Target::File(file) => file.write(buf),
-            Target::Standard(stream) => stream.write(buf),
+            ClientStream::File(file) => file.write(buf),
+            ClientStream::Standard(stream) => stream.write(buf),
         }
     }
 
     fn flush(&mut self) -> io::Result<()> {
         match self {
-            Target::File(file) => file.flush(),
-            Target::Standard(stream) => stream.flush(),
+            ClientStream::File(file) => file.flush(),
+            ClientStream::Standard(stream) => stream.flush(),
         }
     }
 }

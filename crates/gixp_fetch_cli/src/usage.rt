@@ -12,7 +12,8 @@ pub(crate) const VERSION: &str = "gixp_fetch_pack 1.0";
 pub(crate) const USAGE: &str = "usage: gixp_fetch_pack [OPTION..] FROM TO PACK SPEC..
        gixp_fetch_pack --list [OPTION..] FROM TO
 
-Fetches from the server whose output is FROM and whose input is TO. A dash is standard input or output.
+Fetches from the server whose output is FROM and whose input is TO. A dash is standard input or output. If TO is
+standard output, --report or --quiet is needed, since the server would read the report.
 Writes the pack to PACK, and the report to standard output. A value may be joined to its option: --depth=1.
 
   --version 0|1|2        the version of the protocol to request (2)

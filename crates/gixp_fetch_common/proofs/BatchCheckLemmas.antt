@@ -67,12 +67,12 @@ answered_one id line old new before after read h k =
     record {
       lines = line ∷ [];
       read = subst (Consumes before after) (sym (append-nil line)) read;
-      told = told_one old new id
+      reported = told_one old new id
           (answer_to id line) h k;
     }
 
-pub answered_none : (objects : Objects) (heard : Option (List ℕ)) → AnswersIds [] objects objects heard heard
-answered_none objects heard = record { lines = []; read = Consumes-nil heard; told = refl }
+pub answered_none : (objects : Objects) (answers : Option (List ℕ)) → AnswersIds [] objects objects answers answers
+answered_none objects answers = record { lines = []; read = Consumes-nil answers; reported = refl }
 
 and_then_more : {K : Type 0} (f g : K → Option Objects) (mid : Objects) (to : Option Objects) (a : Option K)
     → ((k : K) → f k ≡ Some mid → g k ≡ to) → option_and_then f a ≡ Some mid → option_and_then g a ≡ to
@@ -96,15 +96,15 @@ answered_more ids more old mid new a b c first second =
       lines = first.lines ++ second.lines;
       read = subst (Consumes a c) (sym (flat_map-append (λ (line : List ℕ). line) first.lines second.lines))
           (Consumes-trans a b c _ _ first.read second.read);
-      told = told_more ids more first.lines second.lines old mid first.told ∙ second.told;
+      reported = told_more ids more first.lines second.lines old mid first.reported ∙ second.reported;
     }
 
 pub some_answered : (ids done left : List ObjectId) (old now : Objects) (a b : Option (List ℕ)) → AnswersIds done old now a b
     → ids ≡ done ++ left → AnswersSome ids old now
-some_answered ids done left old now a b h e = record { done = done; left = left; lines = h.lines; whole = e; told = h.told }
+some_answered ids done left old now a b h e = record { done = done; left = left; lines = h.lines; whole = e; reported = h.reported }
 
 pub none_answered : (ids : List ObjectId) (objects : Objects) → AnswersSome ids objects objects
-none_answered ids objects = record { done = []; left = ids; lines = []; whole = refl; told = refl }
+none_answered ids objects = record { done = []; left = ids; lines = []; whole = refl; reported = refl }
 
 -- ---- lines that are no answers
 
@@ -131,7 +131,7 @@ first_unanswered lines number id line old new before after read none e n = recor
   answers = [];
   line = line;
   whole = refl;
-  told = ap Some (sym e);
+  reported = ap Some (sym e);
   read = read;
   none = none_of (answer_to id line) none;
   is_number = n;
@@ -149,7 +149,7 @@ later_unanswered lines lines' number ids done rest more old mid new a b c first 
   line = next.line;
   whole = whole ∙ ap (λ l. done ++ (l ++ more)) next.whole ∙ ap (λ l. done ++ l) (append_assoc next.done (next.id ∷ next.left) more)
       ∙ sym (append_assoc done next.done (next.id ∷ (next.left ++ more)));
-  told = told_more done next.done first.lines next.answers old mid first.told ∙ next.told;
+  reported = told_more done next.done first.lines next.answers old mid first.reported ∙ next.reported;
   read = subst (Consumes a c) (sym (ap (λ l. l ++ next.line) (flat_map-append (λ (line : List ℕ). line) first.lines next.answers)
       ∙ append_assoc (flat_map (λ (line : List ℕ). line) first.lines) (flat_map (λ (line : List ℕ). line) next.answers) next.line))
       (Consumes-trans a b c _ _ first.read next.read);
@@ -197,59 +197,59 @@ answers_fail_at lines lines' k ids d old mid new a b c e h first count next =
 -- ---- questions and their answers
 
 -- some of the ids were asked for and answered, and the rest remains
-pub record AskedSoFar (ids left : List ObjectId) (old now : Objects) (asked asked' heard heard' : Option (List ℕ))
+pub record AskedSoFar (ids left : List ObjectId) (old now : Objects) (asked asked' answers answers' : Option (List ℕ))
     (lines lines' : ℕ) : Type 0 where
   pub done : List ObjectId
   pub whole : ids ≡ done ++ left
   pub asks : Appends asked asked' (questions done)
-  pub told : AnswersIds done old now heard heard'
+  pub reported : AnswersIds done old now answers answers'
   pub count : lines' ≡ line_number lines (length done)
 
-pub asked_none : (ids : List ObjectId) (objects : Objects) (asked heard : Option (List ℕ)) (lines : ℕ)
-    → AskedSoFar ids ids objects objects asked asked heard heard lines lines
-asked_none ids objects asked heard lines =
-    record { done = []; whole = refl; asks = Appends-nil asked; told = answered_none objects heard; count = refl }
+pub asked_none : (ids : List ObjectId) (objects : Objects) (asked answers : Option (List ℕ)) (lines : ℕ)
+    → AskedSoFar ids ids objects objects asked asked answers answers lines lines
+asked_none ids objects asked answers lines =
+    record { done = []; whole = refl; asks = Appends-nil asked; reported = answered_none objects answers; count = refl }
 
-pub asked_more : (ids left few later : List ObjectId) (old now new : Objects) (asked asked' asked'' heard heard' heard'' : Option (List ℕ))
-    (lines lines' lines'' : ℕ) → AskedSoFar ids left old now asked asked' heard heard' lines lines' → left ≡ few ++ later
-    → Appends asked' asked'' (questions few) → AnswersIds few now new heard' heard'' → lines'' ≡ line_number lines' (length few)
-    → AskedSoFar ids later old new asked asked'' heard heard'' lines lines''
-asked_more ids left few later old now new asked asked' asked'' heard heard' heard'' lines lines' lines'' h e a t n =
+pub asked_more : (ids left few later : List ObjectId) (old now new : Objects) (asked asked' asked'' answers answers' answers'' : Option (List ℕ))
+    (lines lines' lines'' : ℕ) → AskedSoFar ids left old now asked asked' answers answers' lines lines' → left ≡ few ++ later
+    → Appends asked' asked'' (questions few) → AnswersIds few now new answers' answers'' → lines'' ≡ line_number lines' (length few)
+    → AskedSoFar ids later old new asked asked'' answers answers'' lines lines''
+asked_more ids left few later old now new asked asked' asked'' answers answers' answers'' lines lines' lines'' h e a t n =
     record {
       done = h.done ++ few;
       whole = h.whole ∙ ap (λ l. h.done ++ l) e ∙ sym (append_assoc h.done few later);
       asks = subst (Appends asked asked'') (sym (flat_map-append question h.done few)) (Appends-trans asked asked' asked'' _ _ h.asks a);
-      told = answered_more h.done few old now new heard heard' heard'' h.told t;
+      reported = answered_more h.done few old now new answers answers' answers'' h.reported t;
       count = n ∙ ap (λ m. line_number m (length few)) h.count ∙ number_more lines (length h.done) (length few)
           ∙ ap (line_number lines) (sym (length-append h.done few));
     }
 
-pub some_more : (ids left few later : List ObjectId) (old now new : Objects) (asked asked' heard heard' : Option (List ℕ))
+pub some_more : (ids left few later : List ObjectId) (old now new : Objects) (asked asked' answers answers' : Option (List ℕ))
     (lines lines' : ℕ)
-    → AskedSoFar ids left old now asked asked' heard heard' lines lines' → left ≡ few ++ later → AnswersSome few now new
+    → AskedSoFar ids left old now asked asked' answers answers' lines lines' → left ≡ few ++ later → AnswersSome few now new
     → AnswersSome ids old new
-some_more ids left few later old now new asked asked' heard heard' lines lines' h e s =
+some_more ids left few later old now new asked asked' answers answers' lines lines' h e s =
     record {
       done = h.done ++ s.done;
       left = s.left ++ later;
-      lines = h.told.lines ++ s.lines;
+      lines = h.reported.lines ++ s.lines;
       whole = h.whole ∙ ap (λ l. h.done ++ l) (e ∙ ap (λ l. l ++ later) s.whole ∙ append_assoc s.done s.left later)
           ∙ sym (append_assoc h.done s.done (s.left ++ later));
-      told = told_more h.done s.done h.told.lines s.lines old now h.told.told ∙ s.told;
+      reported = told_more h.done s.done h.reported.lines s.lines old now h.reported.reported ∙ s.reported;
     }
 
-pub fails_more : (ids left few later : List ObjectId) (old now new : Objects) (asked asked' heard heard' heard'' : Option (List ℕ))
-    (lines lines' : ℕ) (e : BatchCheckError) → AskedSoFar ids left old now asked asked' heard heard' lines lines' → left ≡ few ++ later
-    → CheckFails lines' few now new heard' heard'' e → CheckFails lines ids old new heard heard'' e
-fails_more ids left few later old now new asked asked' heard heard' heard'' lines lines' (Line number) h e f =
-    later_unanswered lines lines' number ids h.done few later old now new heard heard' heard'' h.told h.count f
+pub fails_more : (ids left few later : List ObjectId) (old now new : Objects) (asked asked' answers answers' answers'' : Option (List ℕ))
+    (lines lines' : ℕ) (e : BatchCheckError) → AskedSoFar ids left old now asked asked' answers answers' lines lines' → left ≡ few ++ later
+    → CheckFails lines' few now new answers' answers'' e → CheckFails lines ids old new answers answers'' e
+fails_more ids left few later old now new asked asked' answers answers' answers'' lines lines' (Line number) h e f =
+    later_unanswered lines lines' number ids h.done few later old now new answers answers' answers'' h.reported h.count f
     (h.whole ∙ ap (λ l. h.done ++ l) e)
-fails_more ids left few later old now new asked asked' heard heard' heard'' lines lines' (Ask kind) h e f = tt
-fails_more ids left few later old now new asked asked' heard heard' heard'' lines lines' (Answer kind) h e f = tt
-fails_more ids left few later old now new asked asked' heard heard' heard'' lines lines' Memory h e f = tt
+fails_more ids left few later old now new asked asked' answers answers' answers'' lines lines' (Ask kind) h e f = tt
+fails_more ids left few later old now new asked asked' answers answers' answers'' lines lines' (Answer kind) h e f = tt
+fails_more ids left few later old now new asked asked' answers answers' answers'' lines lines' Memory h e f = tt
 
-pub asked_all : (ids left : List ObjectId) (old now : Objects) (asked asked' heard heard' : Option (List ℕ)) (lines lines' : ℕ)
-    → AskedSoFar ids left old now asked asked' heard heard' lines lines' → left ≡ []
-    → AskedSoFar ids [] old now asked asked' heard heard' lines lines'
-asked_all ids left old now asked asked' heard heard' lines lines' h e =
-    subst (λ l. AskedSoFar ids l old now asked asked' heard heard' lines lines') e h
+pub asked_all : (ids left : List ObjectId) (old now : Objects) (asked asked' answers answers' : Option (List ℕ)) (lines lines' : ℕ)
+    → AskedSoFar ids left old now asked asked' answers answers' lines lines' → left ≡ []
+    → AskedSoFar ids [] old now asked asked' answers answers' lines lines'
+asked_all ids left old now asked asked' answers answers' lines lines' h e =
+    subst (λ l. AskedSoFar ids l old now asked asked' answers answers' lines lines') e h

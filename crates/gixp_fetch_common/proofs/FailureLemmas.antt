@@ -15,21 +15,22 @@ use Rattle.gix_protocol.specs.RefMapType.{RefMap}
 use Rattle.gix_protocol.specs.RefType.{Ref}
 use Rattle.gix_protocol.specs.SessionErrorType.{Error}
 use Rattle.gix_protocol.specs.SessionErrorType.TheVariants.{UnterminatedRefs}
+use Rattle.gix_protocol.specs.SessionStateType.{State}
 use Rattle.gixp_fetch_common.specs.Mapped.{ListsIf, IsUnlisted, IsUnmapped}
 use Rattle.gixp_fetch_common.specs.Unfetched.{FailsWithin}
 use Rattle.gixp_fetch_common.specs.declared.failure.Failure.{Failure}
 use Rattle.gixp_fetch_common.specs.declared.failure.Phase.{Phase}
 
-by_list : (caps : List CapabilityValue) (e : Error) → IsUnlisted caps e → IsUnmapped caps e
-by_list caps e h = elim h [
+by_list : (state : State) (caps : List CapabilityValue) (e : Error) → IsUnlisted state caps e → IsUnmapped state caps e
+by_list state caps e h = elim h [
   | inl unasked ↦ inl unasked
   | inr h' ↦ elim h' [ inl unended ↦ inr (inl unended) | inr x ↦ inr (inr (ListRefs x.0, x.1)) ]
 ]
 
 -- an error of the list is an error of the ref map
-pub unmapped : (caps : List CapabilityValue) (phase : Phase) (f : Failure) → FailsWithin phase (IsUnlisted caps) f
-    → FailsWithin phase (IsUnmapped caps) f
-unmapped caps phase f h = record { error = h.error; holds = by_list caps h.error h.holds; told = h.told }
+pub unmapped : (state : State) (caps : List CapabilityValue) (phase : Phase) (f : Failure) → FailsWithin phase (IsUnlisted state caps) f
+    → FailsWithin phase (IsUnmapped state caps) f
+unmapped state caps phase f h = record { error = h.error; holds = by_list state caps h.error h.holds; reported = h.reported }
 
 -- a list that fails
 pub unlisted_of : (listed : Result (Vec Ref Global) ListError) (is_ended : Bool) (e : Error) → whole_refs listed is_ended ≡ Err e
@@ -55,7 +56,9 @@ kept_capabilities : (lists : Bool) (agent : FeatureValue) (shaken kept : Handsha
 kept_capabilities true agent shaken kept plain old new h = ap (λ (x : Handshake). x.capabilities) h.2
 kept_capabilities false agent shaken kept plain old new h = ap (λ (x : Handshake). x.capabilities) h.1
 
-pub unasked_then : (lists : Bool) (agent : FeatureValue) (shaken kept : Handshake) (plain : Bool) (old new : Reading) (e : Error)
-    → ListsIf lists agent shaken plain old new kept → IsUnasked kept.capabilities e → IsUnasked shaken.capabilities e
-unasked_then lists agent shaken kept plain old new e h u =
-    subst (λ (caps : List CapabilityValue). IsUnasked caps e) (kept_capabilities lists agent shaken kept plain old new h) u
+pub unasked_then : (lists : Bool) (agent : FeatureValue) (shaken kept : Handshake) (plain : Bool) (old new : Reading) (first then : State)
+    (e : Error) → ListsIf lists agent shaken plain old new kept → then ≡ first → IsUnasked then kept.capabilities e
+    → IsUnasked first shaken.capabilities e
+unasked_then lists agent shaken kept plain old new first then e h s u =
+    subst (λ (state : State). IsUnasked state shaken.capabilities e) s
+    (subst (λ (caps : List CapabilityValue). IsUnasked then caps e) (kept_capabilities lists agent shaken kept plain old new h) u)

@@ -8,7 +8,7 @@ use Rattle.std.proofs.lemmas.List.Elements.{All-head, All-tail}
 use Rattle.std.proofs.lemmas.List.Splits.{slice_split-cons_yes, slice_split-cons_no}
 use Rattle.std.proofs.lemmas.Grind.{common_steps}
 use borrow.Author.Tests.{eqb-true}
-use Rattle.gixp_text.specs.Lines.{text_lines, text_pieces}
+use Rattle.gixp_utils.specs.Lines.{text_lines, text_pieces}
 
 -- a byte before others isn't the last
 ends_alike : (x y : ℕ) (ys : List ℕ) → ends_with_byte 10 (x ∷ y ∷ ys) ≡ ends_with_byte 10 (y ∷ ys)

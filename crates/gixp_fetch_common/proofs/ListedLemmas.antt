@@ -20,7 +20,7 @@ use Rattle.gixp_graph.proofs.MarkLemmas.{same_id}
 use Rattle.gixp_graph.specs.Object.{Objects, Object, Commit, commit_at}
 use Rattle.gixp_graph.specs.declared.objects.ObjectKind.TheVariants as kind
 use Rattle.gixp_updates.specs.Ancestors.{IsReachedFrom}
-use Rattle.gixp_text.specs.Lines.{text_lines, line_words}
+use Rattle.gixp_utils.specs.Lines.{text_lines, line_words}
 use Rattle.gixp_memory.specs.Text.{after_lines, BeginsUnread}
 use Rattle.gixp_memory.specs.Repository.{named_id, named_ids, seconds, commit_of_words, commit_line, with_commit}
 use Rattle.gixp_fetch_common.specs.declared.listed_commits.CommitText.{CommitText}
@@ -46,9 +46,9 @@ counted (suc k) n m h e = omega (arith, e)
 pub line_read : (before after : Option (List ℕ)) (old line : List ℕ) → old ≡ [] → 0 < length line
     → IfSome before (λ xs. line ≡ old ++ take_through 10 xs) → DropsThrough before after 10
     → ReadsTextLines before (strip_last 10 line ∷ []) after
-line_read None after old line none some is behind = tt
-line_read (Some xs) None old line none some is behind = absurd (none-some _ behind)
-line_read (Some xs) (Some rest) old line none some is behind =
+line_read None after old line none some is following = tt
+line_read (Some xs) None old line none some is following = absurd (none-some _ following)
+line_read (Some xs) (Some rest) old line none some is following =
     let whole : line ≡ take_through 10 xs = is ∙ ap (λ l. l ++ take_through 10 xs) none in
     let left : rest ≡ drop_through 10 xs = cc in
     first_line_of xs (some_first xs (subst (λ l. 0 < length l) whole some))
@@ -257,9 +257,9 @@ shares_nothing old new id r c l u = record {
 }
 
 -- the same after a step that makes no commit common
-pub shares_behind : (old mid new : KnownCommits) (id : ObjectId) → mid.read ≡ old.read → mid.common ≡ old.common → LosesNone old mid
+pub shares_after : (old mid new : KnownCommits) (id : ObjectId) → mid.read ≡ old.read → mid.common ≡ old.common → LosesNone old mid
     → (AwaitsUnknown old → AwaitsUnknown mid) → SharesSome mid id new → SharesSome old id new
-shares_behind old mid new id r c l u h =
+shares_after old mid new id r c l u h =
     record {
       read = h.read ∙ r;
       keeps = λ q e. h.keeps q (subst (λ s. contains id_cmp s q ≡ true) (sym c) e);

@@ -12,11 +12,11 @@ use Rattle.gixp_packetline.specs.Reading.{Reading, AtStop, Fails}
 use Rattle.gixp_sidebands.specs.Bands.{Side, IsFirstOf, side_content, side_reading, shown, content_bound, Passes, ShowsContent, EndsContent, RefusesContent, ReadsBytes, KeepsEndUncounted}
 use Rattle.gixp_sidebands.specs.Ends.{end-stays, end-joins}
 use Rattle.gixp_sidebands.proofs.PassLemmas.{passes_none, passes_more}
-use Rattle.gixp_fetch_common.specs.PackCopied.{CameNext, CopiedNext, CopiedAll, RefusedAfter, ShownAfter}
+use Rattle.gixp_fetch_common.specs.PackCopied.{ReceivesNext, CopiedNext, CopiedAll, RefusedAfter, ShownAfter}
 
 pub copied_none : (w : Option (List ℕ)) (s : Side) → CopiedNext w s [] w s
 copied_none w s = record {
-  came = record { content = passes_none s; ending = λ _. end-stays s.reading; held = refl };
+  received = record { content = passes_none s; ending = λ _. end-stays s.reading; held = refl };
   failures = refl;
   written = Appends-nil w;
 }
@@ -30,11 +30,11 @@ ends_more start now end h s k u =
 
 came_more : (old w : Option (List ℕ)) (start now end : Side) (read more : List ℕ) → CopiedNext old start read w now
     → Passes now end more → KeepsEndUncounted now.reading end.reading → (side_reading end).held ≡ (side_reading now).held
-    → CameNext start (read ++ more) end
+    → ReceivesNext start (read ++ more) end
 came_more old w start now end read more h p k e = record {
-  content = passes_more start now end read more h.came.content p;
-  ending = ends_more start now end h.came.ending h.failures k;
-  held = e ∙ h.came.held;
+  content = passes_more start now end read more h.received.content p;
+  ending = ends_more start now end h.received.ending h.failures k;
+  held = e ∙ h.received.held;
 }
 
 module _ (now mid next : Side) (piece : List ℕ) (n : ℕ) (s : ShowsContent now mid) (r : ReadsBytes mid next
@@ -48,7 +48,7 @@ module _ (now mid next : Side) (piece : List ℕ) (n : ℕ) (s : ShowsContent no
   copied_piece old w w' start read h a =
       let whole = subst (λ x. ReadsBytes mid next x) whole_piece r in
       record {
-        came = came_more old w start now next read piece h (passes_more now mid next [] piece s.content whole.content)
+        received = came_more old w start now next read piece h (passes_more now mid next [] piece s.content whole.content)
             (λ _. end-joins now.reading mid.reading next.reading s.ending r.ending) (r.held ∙ s.held);
         failures = r.failures ∙ s.failures ∙ h.failures;
         written = Appends-trans old w w' read piece h.written a;
@@ -81,15 +81,15 @@ pub copied_all : (old w : Option (List ℕ)) (start now end : Side) (read : List
     → EndsContent now end → CopiedAll old start read w end
 copied_all old w start now end read h t = record {
   copied = record {
-    came = record {
-      content = subst (λ x. Passes start end x) (append-nil read) (passes_more start now end read [] h.came.content t.rest);
-      ending = ends_more start now end h.came.ending h.failures (λ _. t.ending);
-      held = at_stop_held (side_reading now) (side_reading end) t.at_stop ∙ h.came.held;
+    received = record {
+      content = subst (λ x. Passes start end x) (append-nil read) (passes_more start now end read [] h.received.content t.rest);
+      ending = ends_more start now end h.received.ending h.failures (λ _. t.ending);
+      held = at_stop_held (side_reading now) (side_reading end) t.at_stop ∙ h.received.held;
     };
     failures = at_stop_failures (side_reading now) (side_reading end) t.at_stop ∙ h.failures;
     written = h.written;
   };
-  all = at start.reading.to_come now.reading.to_come h.came.content t.content;
+  all = at start.reading.to_come now.reading.to_come h.received.content t.content;
 }
   where
     at : (o n : Option Pieces) → IfSome o (λ p. IsFirstOf start p → (q : Pieces) × (n ≡ Some q) × IsFirstOf now q
@@ -105,22 +105,22 @@ copied_all old w start now end read h t = record {
 -- a read failed
 pub refused_read : (old w : Option (List ℕ)) (start now end : Side) (read : List ℕ) (e : io_error) (kind : ErrorKind)
     → CopiedNext old start read w now → RefusesContent now end e → kind ≡ error_kind e
-    → (more : List ℕ) × CameNext start more end × RefusedAfter old start w end kind
+    → (more : List ℕ) × ReceivesNext start more end × RefusedAfter old start w end kind
 refused_read old w start now end read e kind h t is = (
   read
       ++ t.lost,
   came_more old w start now end read t.lost h t.rest t.ending (fails_held (side_reading now) (side_reading end) t.refusal t.fails),
-  record { read = read; now = now; why = e; copied = h; refuses = t; told = is },
+  record { read = read; now = now; why = e; copied = h; refuses = t; reported = is },
 )
 
 -- a borrowed piece remains
 pub lent_alone : (old w : Option (List ℕ)) (start now mid : Side) (read : List ℕ) → CopiedNext old start read w now
-    → ShowsContent now mid → (more : List ℕ) × CameNext start more mid
+    → ShowsContent now mid → (more : List ℕ) × ReceivesNext start more mid
 lent_alone old w start now mid read h s = (read ++ [], came_more old w start now mid read [] h s.content (λ _. s.ending) s.held)
 
 -- and is still to be written
 pub lent_unwritten : (old w : Option (List ℕ)) (start now mid : Side) (read : List ℕ) → CopiedNext old start read w now
-    → ShowsContent now mid → (more : List ℕ) × CameNext start more mid × ShownAfter old start mid
+    → ShowsContent now mid → (more : List ℕ) × ReceivesNext start more mid × ShownAfter old start mid
 lent_unwritten old w start now mid read h s =
     let alone = lent_alone old w start now mid read h s in (
       alone.0,

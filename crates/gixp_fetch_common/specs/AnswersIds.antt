@@ -47,7 +47,7 @@ with_answers objects _ _ = None
 pub record AnswersIds (ids : List ObjectId) (old new : Objects) (before after : Option (List ℕ)) : Type 0 where
   pub lines : List (List ℕ)
   pub read : Consumes before after (flat_map (λ (line : List ℕ). line) lines)
-  pub told : with_answers old ids lines ≡ Some new
+  pub reported : with_answers old ids lines ≡ Some new
 
 -- some of the first ids were answered, and their objects were added
 pub record AnswersSome (ids : List ObjectId) (old new : Objects) : Type 0 where
@@ -55,4 +55,4 @@ pub record AnswersSome (ids : List ObjectId) (old new : Objects) : Type 0 where
   pub left : List ObjectId
   pub lines : List (List ℕ)
   pub whole : ids ≡ done ++ left
-  pub told : with_answers old done lines ≡ Some new
+  pub reported : with_answers old done lines ≡ Some new

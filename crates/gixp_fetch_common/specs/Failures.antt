@@ -16,7 +16,7 @@ use Rattle.gixp_fetch_common.specs.declared.failure.Phase.TheVariants.{Update}
 
 -- the message of a server as a terminal shows it, without the line end after it
 abbrev pub sanitized_message : Option (List ℕ) → Option (List ℕ)
-sanitized_message message = option_map (λ words. sanitized_after false 0 (strip_last 10 words)) message
+sanitized_message message = option_map (λ words. sanitized_after 0 (strip_last 10 words)) message
 
 -- a phase failed with this message of the server; or an allocation failed
 abbrev pub FailureIsPhase : Phase → Option (List ℕ) → Failure → Type 0

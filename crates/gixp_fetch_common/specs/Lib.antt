@@ -1,4 +1,5 @@
 pub mod AnswersIds
+pub mod ChangedBoundary
 pub mod ErrorKindText
 pub mod Failures
 pub mod HangUp

@@ -7,7 +7,7 @@ use Rattle.gixp_hash.specs.ObjectId.{id_cmp}
 use Rattle.gixp_graph.specs.declared.negotiator.NegotiatorError.{NegotiatorError}
 use Rattle.gixp_graph.specs.declared.negotiator.NegotiatorError.TheVariants.{Lookup, Memory as NoMemory}
 use Rattle.gixp_graph.specs.declared.objects.ObjectError.TheVariants.{Corrupt, Io}
-use Rattle.gixp_text.specs.Lines.{text_lines, line_words}
+use Rattle.gixp_utils.specs.Lines.{text_lines, line_words}
 use Rattle.gixp_memory.specs.Text.{after_lines}
 use Rattle.gixp_memory.specs.Repository.{named_id, commit_of_words, commit_line}
 use Rattle.gixp_fetch_common.specs.declared.listed_commits.Refusal.{Refusal}

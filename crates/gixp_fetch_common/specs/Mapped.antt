@@ -15,6 +15,7 @@ use Rattle.gix_protocol.specs.RefType.{Ref}
 use Rattle.gix_protocol.specs.RequestType.{Request}
 use Rattle.gix_protocol.specs.SessionErrorType.{Error}
 use Rattle.gix_protocol.specs.SessionErrorType.TheVariants.{UnterminatedRefs}
+use Rattle.gix_protocol.specs.SessionStateType.{State}
 
 -- whether all refs are listed for so many refspecs: where there are more than this, and the refs aren't here
 abbrev pub lists_all : (most count : ℕ) → Handshake → Bool
@@ -35,9 +36,9 @@ pub record MapsListed (lists : Bool) (request : Request) (agent : FeatureValue) 
   pub maps : MapsInSession request agent kept plain middle new r
 
 -- why a server that can do this doesn't list its refs: it isn't asked, the list isn't ended, or it can't be read
-abbrev pub IsUnlisted : List CapabilityValue → Error → Type 0
-IsUnlisted caps e = IsUnasked caps e ⊎ (e ≡ UnterminatedRefs) ⊎ ((x : ListError) × (e ≡ of_list x))
+abbrev pub IsUnlisted : State → List CapabilityValue → Error → Type 0
+IsUnlisted state caps e = IsUnasked state caps e ⊎ (e ≡ UnterminatedRefs) ⊎ ((x : ListError) × (e ≡ of_list x))
 
 -- why there is no ref map
-abbrev pub IsUnmapped : List CapabilityValue → Error → Type 0
-IsUnmapped caps e = IsUnasked caps e ⊎ (e ≡ UnterminatedRefs) ⊎ ((x : MapError) × (e ≡ of_init x))
+abbrev pub IsUnmapped : State → List CapabilityValue → Error → Type 0
+IsUnmapped state caps e = IsUnasked state caps e ⊎ (e ≡ UnterminatedRefs) ⊎ ((x : MapError) × (e ≡ of_init x))

@@ -33,7 +33,7 @@ pub record IsNoAnswer (lines : ℕ) (ids : List ObjectId) (old new : Objects) (b
   pub answers : List (List ℕ)
   pub line : List ℕ
   pub whole : ids ≡ done ++ id ∷ left
-  pub told : with_answers old done answers ≡ Some new
+  pub reported : with_answers old done answers ≡ Some new
   pub read : Consumes before after (flat_map (λ (answer : List ℕ). answer) answers ++ line)
   pub none : answer_to id line ≡ None
   pub is_number : number ≡ line_number lines (length done + 1)

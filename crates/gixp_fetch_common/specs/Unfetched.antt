@@ -40,10 +40,10 @@ FailureIsUnlessHungUp true phase e f = f ≡ hang_up_failure phase
 FailureIsUnlessHungUp false phase e f = FailureIsReason (reason e) phase e f
 
 pub record FailureIsSessionError (phase : Phase) (e : Error) (f : Failure) : Type 0 where
-  pub tells : FailureIsUnlessHungUp (is_hang_up e) phase e f
+  pub reports : FailureIsUnlessHungUp (is_hang_up e) phase e f
 
 -- a call failed in a phase, with an error for which `P` holds
 pub record FailsWithin (phase : Phase) (P : Error → Type 0) (f : Failure) : Type 0 where
   pub error : Error
   pub holds : P error
-  pub told : FailureIsSessionError phase error f
+  pub reported : FailureIsSessionError phase error f

@@ -173,7 +173,7 @@ impl<W: Write + Drop, R: BufRead> BatchCheck<W, R> {
         id: &ObjectId,
         objects: &mut StoredObjects,
     ) -> Result<(), BatchCheckError>
-        ensures told { OnOk result (AnswersIds (id.now ∷ []) objects.old objects.new
+        ensures reported { OnOk result (AnswersIds (id.now ∷ []) objects.old objects.new
             (R.remaining self.old.answers) (R.remaining self.new.answers)) }
         ensures kept { OnErr result (objects.new ≡ objects.old) }
         ensures asks { self.new.asks ≡ self.old.asks }
@@ -193,7 +193,7 @@ impl<W: Write + Drop, R: BufRead> BatchCheck<W, R> {
         ids: &[ObjectId],
         objects: &mut StoredObjects,
     ) -> Result<(), BatchCheckError>
-        ensures told { OnOk result (AnswersIds ids.now objects.old objects.new
+        ensures reported { OnOk result (AnswersIds ids.now objects.old objects.new
             (R.remaining self.old.answers) (R.remaining self.new.answers)) }
         ensures some { AnswersSome ids.now objects.old objects.new }
         ensures asks { self.new.asks ≡ self.old.asks }
@@ -214,7 +214,7 @@ impl<W: Write + Drop, R: BufRead> BatchCheck<W, R> {
     ) -> Result<(), BatchCheckError>
         ensures asked { OnOk result (Appends (writer_contents W.contents self.old.asks)
             (writer_contents W.contents self.new.asks) (questions ids.now)) }
-        ensures told { OnOk result (AnswersIds ids.now objects.old objects.new
+        ensures reported { OnOk result (AnswersIds ids.now objects.old objects.new
             (R.remaining self.old.answers) (R.remaining self.new.answers)) }
         ensures some { AnswersSome ids.now objects.old objects.new }
         ensures flushed { OnOk result (writer_buffer self.new.asks ≡ []) }
@@ -239,7 +239,7 @@ impl<W: Write + Drop, R: BufRead> BatchCheck<W, R> {
     ) -> Result<(), BatchCheckError>
         ensures asked { OnOk result (Appends (writer_contents W.contents self.old.asks)
             (writer_contents W.contents self.new.asks) (questions ids.now)) }
-        ensures told { OnOk result (AnswersIds ids.now objects.old objects.new
+        ensures reported { OnOk result (AnswersIds ids.now objects.old objects.new
             (R.remaining self.old.answers) (R.remaining self.new.answers)) }
         ensures some { AnswersSome ids.now objects.old objects.new }
         ensures flushed { OnOk result (writer_buffer self.old.asks ≡ [] → writer_buffer self.new.asks ≡ []) }

@@ -2,29 +2,12 @@
 ghost use Rattle.gixp_sidebands.specs.Sidebands.{side};
 ghost use Rattle.gixp_fetch_common.specs.PackCopied.{ChecksPack};
 
-use gixp_pack::{PackCheck, PackError, PackSummary};
+use crate::receive_error::ReceiveError;
+use gixp_pack::{PackCheck, PackSummary};
 use gixp_packetline::ExtendedBufRead;
 use gixp_sidebands::{BandText, Interrupt, WithSidebands};
 use std::alloc::Global;
-use std::io::{BufRead, ErrorKind, Write};
-use thiserror::Error;
-
-/// Why a pack isn't received whole.
-#[derive(Debug, Drop, Error)]
-pub enum StreamError {
-    /// A read of the server's stream failed, with this kind.
-    #[error("the pack can't be read: {0:?}")]
-    Read(ErrorKind),
-    /// A write failed, with this kind.
-    #[error("the pack can't be written: {0:?}")]
-    Write(ErrorKind),
-    /// The bytes are no whole pack.
-    #[error("what came is no whole pack: {0}")]
-    Pack(PackError),
-    /// An allocation failed.
-    #[error("out of memory")]
-    Memory,
-}
+use std::io::{BufRead, Write};
 
 /// Copies a pack up to the flush packet after it, and checks it.
 ///
@@ -35,7 +18,7 @@ pub fn copy_pack<T: ExtendedBufRead, B: BandText + Drop, I: Interrupt, W: Write>
     alloc: Global,
     reader: &mut WithSidebands<'_, '_, T, B, I>,
     writer: &mut W,
-) -> Result<PackSummary, StreamError>
+) -> Result<PackSummary, ReceiveError>
     ensures { ChecksPack (W.contents writer.old) (side T.reading reader.old) result (W.contents writer.new) (side T.reading reader.new) }
 {
     let mut check = PackCheck::new(alloc);
@@ -44,19 +27,19 @@ pub fn copy_pack<T: ExtendedBufRead, B: BandText + Drop, I: Interrupt, W: Write>
             Ok(true) => {}
             Ok(false) => match check.finish() {
                 Ok(summary) => return Ok(summary),
-                Err(e) => return Err(StreamError::Pack(e)),
+                Err(e) => return Err(ReceiveError::Incomplete(alloc, e)),
             },
-            Err(e) => return Err(StreamError::Read(e.kind())),
+            Err(e) => return Err(ReceiveError::Read(alloc, e.kind())),
         }
         let piece = reader.buffer();
         let count = piece.len();
         match check.take(piece) {
             Ok(()) => {}
-            Err(_) => return Err(StreamError::Memory),
+            Err(_) => return Err(ReceiveError::Memory),
         }
         match writer.write_all(piece) {
             Ok(()) => {}
-            Err(e) => return Err(StreamError::Write(e.kind())),
+            Err(e) => return Err(ReceiveError::Write(alloc, e.kind())),
         }
         reader.consume(count);
     }

@@ -25,7 +25,7 @@ pub(crate) fn kind_text(kind: ErrorKind) -> &'static str
         ErrorKind::TimedOut => "Connection timed out",
         ErrorKind::ResourceBusy => "Device or resource busy",
         ErrorKind::CrossesDevices => "Invalid cross-device link",
-        ErrorKind::InvalidData => "its content isn't readable",
+        ErrorKind::InvalidData => "its content is malformed",
         ErrorKind::UnexpectedEof => "it ends too early",
         ErrorKind::WriteZero => "it takes no more",
         ErrorKind::Interrupted => "Interrupted system call",

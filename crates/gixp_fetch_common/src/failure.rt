@@ -11,7 +11,7 @@ use bstr::BString;
 use gix_protocol::client::Fetched;
 use gix_protocol::fetch::refs::update;
 use gix_protocol::transport::{ObjectId, ServerMessage};
-use gixp_text::without_line_end;
+use gixp_utils::without_line_end;
 use std::alloc::{AllocError, AllocFailed, Global};
 use std::fmt;
 use std::fmt::Display;
@@ -179,7 +179,7 @@ fn error_texts<E: Display + ServerMessage>(
 {
     let why = format!(in alloc; "{error}")?;
     let message = match error.server_message() {
-        Some(words) => Some(sanitized(alloc, without_line_end(words.as_bytes()), false)?),
+        Some(words) => Some(sanitized(alloc, without_line_end(words.as_bytes()))?),
         None => None,
     };
     Ok((why, message))
@@ -233,7 +233,7 @@ impl Display for Failure {
             Failure::ServerFailed => write!(f, "the server reported an error"),
             Failure::UnknownUnshallow { id } => write!(f, "no shallow found: unshallow {id}"),
             Failure::File { path, kind } => write!(f, "{path}: {}", kind_text(*kind)),
-            Failure::Line { path, line } => write!(f, "{path}: line {line} isn't readable"),
+            Failure::Line { path, line } => write!(f, "{path}: line {line} is malformed"),
             Failure::PackRefused => write!(f, "git refused the pack"),
             Failure::Missing { name } => write!(f, "couldn't find remote ref {name}"),
             Failure::Io(kind) => { write!(f, "standard input or output: {}", kind_text(*kind)) },

@@ -6,7 +6,7 @@ ghost use Rattle.std.specs.Io.BufRead.{strip_last};
 ghost use Rattle.std.specs.Io.KnownBytes.{IsAtEnd};
 ghost use Rattle.gixp_hash.specs.declared.object_id.ObjectId.{ObjectId};
 ghost use Rattle.gixp_hash.specs.ObjectId.{id_cmp};
-ghost use Rattle.gixp_text.specs.Lines.{text_lines};
+ghost use Rattle.gixp_utils.specs.Lines.{text_lines};
 ghost use Rattle.gixp_memory.specs.Repository.{commit_line};
 ghost use Rattle.gixp_fetch_common.specs.KnownCommits.{parents_of, AreAwaitedOrKnown, AwaitsUnknown, AwaitsUnknownBut, LosesNone};
 ghost use Rattle.gixp_fetch_common.specs.SharedCommits.{IsSharedBut, IsSharedWhole, Shares, SharesSome};
@@ -17,7 +17,7 @@ use crate::known_commits::KnownCommits;
 use gixp_graph::{Graph, Negotiator, NegotiatorError, ObjectError, Objects};
 use gixp_hash::ObjectId;
 use gixp_memory::TextError;
-use gixp_text::{line_words, without_line_end};
+use gixp_utils::{line_words, without_line_end};
 use std::alloc::{AllocError, Global};
 use std::collections::BTreeSet;
 use std::io;
@@ -104,7 +104,7 @@ impl<R: BufRead> CommitText<R> {
     // Stores the refusal, and returns its error.
     fn refuse(&mut self, refusal: Refusal) -> NegotiatorError
         ensures refusal { self.new.refusal ≡ Some refusal }
-        ensures told { result ≡ error_of_refusal refusal }
+        ensures reported { result ≡ error_of_refusal refusal }
         ensures text { self.new.text ≡ self.old.text }
         ensures line { self.new.line ≡ self.old.line }
         ensures lines { self.new.lines ≡ self.old.lines }

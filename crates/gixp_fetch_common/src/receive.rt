@@ -1,67 +1,16 @@
 //! The receiver of a pack: it checks the pack as it comes, and keeps it if it is whole.
 ghost use Rattle.std.specs.Prelude.{◌≡◌, None, IfOk, OnErr};
 ghost use Rattle.gix_protocol.specs.Sidebands.{side};
-ghost use Rattle.gixp_fetch_common.specs.Received.{ReceivesPack, receives_owes, reason_of, KeepsHeld, DropsHeld};
+ghost use Rattle.gixp_fetch_common.specs.Received.{ReceivesPack, receives_owes, KeepsHeld, DropsHeld};
 
-use crate::copy::{StreamError, copy_pack};
-use crate::error_kind::kind_text;
+use crate::copy::copy_pack;
 use crate::pack_place::PackPlace;
-use gix_protocol::client::{Error, PackError};
+use crate::receive_error::ReceiveError;
 use gix_protocol::fetch::{ConsumePack, WithSidebands};
 use gix_protocol::transport::{ExtendedBufRead, Interrupt, Progress};
 use gixp_pack::PackSummary;
 use std::alloc::Global;
-use std::fmt::Display;
-use std::io::ErrorKind;
-use std::{fmt, io};
-
-/// Why a pack isn't received. What was written is removed.
-#[derive(Debug, Drop)]
-pub enum ReceiveError {
-    /// The place can't be begun, with this kind.
-    Begin(ErrorKind),
-    /// The pack didn't come whole.
-    Stream(StreamError),
-}
-
-impl Display for ReceiveError {
-    fn fmt<W: fmt::Write>(&self, f: &mut fmt::Formatter<W>) -> fmt::Result {
-        match self {
-            ReceiveError::Begin(kind) => {
-                write!(f, "the pack's file can't be made: {}", kind_text(*kind))
-            }
-            ReceiveError::Stream(StreamError::Read(kind)) => {
-                write!(f, "the pack can't be read: {}", kind_text(*kind))
-            }
-            ReceiveError::Stream(StreamError::Write(kind)) => {
-                write!(f, "the pack can't be written: {}", kind_text(*kind))
-            }
-            ReceiveError::Stream(StreamError::Pack(e)) => {
-                write!(f, "what came is no whole pack: {e}")
-            }
-            ReceiveError::Stream(StreamError::Memory) => f.write_str("out of memory"),
-        }
-    }
-}
-
-/// The error of the consumer, which becomes the client's error.
-#[derive(Debug, Drop)]
-pub struct Unreceived {
-    alloc: Global,
-    why: ReceiveError,
-}
-
-impl From<Unreceived> for Error {
-    fn from(e: Unreceived) -> Error {
-        match e.why {
-            ReceiveError::Stream(StreamError::Memory) => Error::Memory,
-            why => match format!(in e.alloc; "{why}") {
-                Ok(why) => Error::Pack(PackError::Refused(why)),
-                Err(_) => Error::Memory,
-            },
-        }
-    }
-}
+use std::io;
 
 /// A pack that was written, and is whole.
 #[derive(Drop)]
@@ -89,15 +38,6 @@ impl<P: PackPlace> PackReceiver<P> {
             alloc,
             place,
             whole: None,
-        }
-    }
-
-    fn unreceived(&self, why: ReceiveError) -> Unreceived
-        ensures { result.why ≡ why }
-    {
-        Unreceived {
-            alloc: self.alloc,
-            why,
         }
     }
 
@@ -133,19 +73,19 @@ impl<P: PackPlace> PackReceiver<P> {
 }
 
 impl<P: PackPlace, N> ConsumePack<N> for PackReceiver<P> {
-    type Error = Unreceived;
+    type Error = ReceiveError;
 
-    ghost consumes = { λ c s p r d t q. ReceivesPack P.begins P.gives_up P.Writer.contents c.place s (reason_of r) d.whole d.place t };
+    ghost consumes = { λ c s p r d t q. ReceivesPack P.begins P.gives_up P.Writer.contents c.place s r d.whole d.place t };
 
     fn consume_pack<T: ExtendedBufRead, Q: Progress + Drop, I: Interrupt>(
         &mut self,
         reader: &mut WithSidebands<'_, T, Q, I>,
         _progress: &mut N,
-    ) -> Result<bool, Unreceived> {
+    ) -> Result<bool, ReceiveError> {
         self.whole = None;
         let mut writer = match self.place.begin() {
             Ok(writer) => writer,
-            Err(e) => return Err(self.unreceived(ReceiveError::Begin(e.kind()))),
+            Err(e) => return Err(ReceiveError::Begin(self.alloc, e.kind())),
         };
         match copy_pack(self.alloc, reader, &mut writer) {
             Ok(summary) => {
@@ -154,10 +94,10 @@ impl<P: PackPlace, N> ConsumePack<N> for PackReceiver<P> {
             }
             Err(e) => {
                 self.place.give_up(writer);
-                Err(self.unreceived(ReceiveError::Stream(e)))
+                Err(e)
             }
         }
     }
 
-    ghost owes = { λ c s p r d t q h. receives_owes P.begins P.gives_up P.Writer.contents c.place d.place s t (reason_of r) d.whole h };
+    ghost owes = { λ c s p r d t q h. receives_owes P.begins P.gives_up P.Writer.contents c.place d.place s t r d.whole h };
 }

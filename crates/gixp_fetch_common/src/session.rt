@@ -12,8 +12,8 @@ ghost use Rattle.gix_protocol.specs.Filters.{offers_filter};
 ghost use Rattle.gix_protocol.specs.ObjectIdType.{ObjectId as Id};
 ghost use Rattle.gix_protocol.specs.ServiceType.TheVariants.{UploadPack};
 ghost use Rattle.gix_protocol.specs.SessionStateType.TheVariants.{AtStop};
-ghost use Rattle.gix_protocol.specs.SessionStates.{behind_outcome, IsRefusedFetch};
-ghost use Rattle.gix_protocol.specs.ShakeProgress.{TellsShake};
+ghost use Rattle.gix_protocol.specs.SessionStates.{state_after_outcome, IsRefusedFetch};
+ghost use Rattle.gix_protocol.specs.ShakeProgress.{ReportsHandshake};
 ghost use Rattle.gix_protocol.specs.Unshallowed.{KnowsAll};
 ghost use Rattle.gixp_fetch_common.specs.RequestFilter.{SetsFilterIf, SetsFilterWhere};
 ghost use Rattle.gixp_fetch_common.specs.Failures.{FailureIsUnsaid};
@@ -26,6 +26,7 @@ use crate::hang_up::is_hang_up;
 use crate::haves::Haves;
 use crate::pack_place::PackPlace;
 use crate::receive::PackReceiver;
+use crate::receive_error::ReceiveError;
 use crate::repository::KnownRepository;
 use gix_protocol::client::{
     self, Error, Fetched, Listener, PackError, Request, Session, SessionNegotiation,
@@ -150,7 +151,7 @@ pub fn open<T: Transport + Drop, L: Listener + Drop, S: NestedProgress + Drop>(
     ensures named { IfOk result (λ s. string_bytes s.name.agent ≡ agent.now) }
     ensures nameless { IfOk result (λ s. s.name.session_id ≡ None) }
     ensures state { IfOk result (λ s. s.state ≡ AtStop) }
-    ensures told { IfOk result (λ s. TellsShake S.told UploadPack [] (T.reading transport) shown (Ok s.shaken) s.progress) }
+    ensures reported { IfOk result (λ s. ReportsHandshake S.reported UploadPack [] (T.reading transport) shown (Ok s.shaken) s.progress) }
     ensures refused { IfErr result (FailsWithin Phase.Handshake (λ _. ⊤)) }
 {
     match Session::open_with(
@@ -174,7 +175,7 @@ pub fn refs<T: Transport + Drop, L: Listener + Drop, S: NestedProgress + Drop>(
 ) -> Result<&[Ref], Failure>
     ensures given { IfOk result (λ refs. GivesRefs (named_by session.old.name) session.old.shaken T.is_plain
         (T.reading session.old.transport.inner) session.old.shaken.refs refs.now) }
-    ensures refused { IfErr result (FailsWithin Phase.Listing (IsUnlisted session.old.shaken.capabilities)) }
+    ensures refused { IfErr result (FailsWithin Phase.Listing (IsUnlisted session.old.state session.old.shaken.capabilities)) }
 {
     match session.refs() {
         Ok(refs) => Ok(refs),
@@ -192,8 +193,9 @@ fn list_for<T: Transport + Drop, L: Listener + Drop, S: NestedProgress + Drop>(
     ensures listed { OnOk result (ListsIf (lists_all MOST_PREFIXED count session.old.shaken)
         (named_by session.old.name) session.old.shaken T.is_plain (T.reading session.old.transport.inner)
         (T.reading session.new.transport.inner) session.new.shaken) }
+    ensures stays { OnOk result (session.new.state ≡ session.old.state) }
     ensures name { session.new.name ≡ session.old.name }
-    ensures refused { IfErr result (FailsWithin Phase.Listing (IsUnlisted session.old.shaken.capabilities)) }
+    ensures refused { IfErr result (FailsWithin Phase.Listing (IsUnlisted session.old.state session.old.shaken.capabilities)) }
 {
     if count <= MOST_PREFIXED {
         return Ok(());
@@ -214,7 +216,7 @@ pub fn map<T: Transport + Drop, L: Listener + Drop, S: NestedProgress + Drop>(
     ensures mapped { IfOk result (λ m. MapsListed (lists_all MOST_PREFIXED (length request.now.refspecs.items) session.old.shaken)
         request.now (named_by session.old.name) session.old.shaken T.is_plain
         (T.reading session.old.transport.inner) (T.reading session.new.transport.inner) (Ok m)) }
-    ensures refused { IfErr result (FailsWithin Phase.Listing (IsUnmapped session.old.shaken.capabilities)) }
+    ensures refused { IfErr result (FailsWithin Phase.Listing (IsUnmapped session.old.state session.old.shaken.capabilities)) }
 {
     match list_for(alloc, session, request.refspecs.len()) {
         Ok(()) => {}
@@ -248,8 +250,9 @@ where
         × (session.new ≡ session.old) × (pack.new ≡ pack.old) × IsLeftBoundary before [] [] f.boundary)
         ⊎ ((after : List Id) × FetchesInSession
         (parties_of ⟦<SessionNegotiation<'a, StoredObjects, StoredRefs, N> as Negotiate>⟧.calls
-        ⟦<ShallowMemory as ShallowStore>⟧.calls ⟦<NeverInterrupt as Interrupt>⟧.says
+        ⟦<ShallowMemory as ShallowStore>⟧.calls ⟦<NeverInterrupt as Interrupt>⟧.polls
         ⟦<PackReceiver<P> as ConsumePack<S>>⟧.consumes T.is_plain)
+        ⟦<ReceiveError as Into<Error>>⟧.converts
         ⟦<SessionNegotiation<'a, StoredObjects, StoredRefs, N> as NegotiatesMap>⟧.map_of
         ⟦<SessionNegotiation<'a, StoredObjects, StoredRefs, N> as NegotiatesMap>⟧.knows
         (session_call session.old.shaken (named_by session.old.name)
@@ -260,14 +263,16 @@ where
         before after (T.reading session.old.transport.inner) pack.old (Ok f.outcome) (T.reading session.new.transport.inner) pack.new
         × IsBoundaryAfter (is_change (shallow_value asked.entry.request.now.shallow)) before after f.boundary))
         repository.old.boundary.items) }
-    ensures stands { IfOk result (λ f. session.new.state ≡ behind_outcome session.old.shaken.server_protocol_version f.outcome) }
+    ensures stands { IfOk result (λ f. session.new.state ≡ state_after_outcome session.old.shaken.server_protocol_version f.outcome) }
     ensures known { IfOk result (λ f. KnowsAll repository.old.boundary.items f.outcome) }
-    ensures refused { IfErr result (FailsWithin Phase.Fetch (λ e. OfBoundary (λ before. (IsUnsent e × (session.new ≡ session.old)
+    ensures refused { IfErr result (FailsWithin Phase.Fetch (λ e. OfBoundary (λ before. (IsUnsent session.old.state
+        asked.entry.request.now session.old.shaken e × (session.new ≡ session.old)
         × (pack.new ≡ pack.old))
-        ⊎ ((told : Result (Option FetchOutcome) Error) × (after : List Id) × (f : FetchesInSession
+        ⊎ ((reported : Result (Option FetchOutcome) Error) × (after : List Id) × (f : FetchesInSession
         (parties_of ⟦<SessionNegotiation<'a, StoredObjects, StoredRefs, N> as Negotiate>⟧.calls
-        ⟦<ShallowMemory as ShallowStore>⟧.calls ⟦<NeverInterrupt as Interrupt>⟧.says
+        ⟦<ShallowMemory as ShallowStore>⟧.calls ⟦<NeverInterrupt as Interrupt>⟧.polls
         ⟦<PackReceiver<P> as ConsumePack<S>>⟧.consumes T.is_plain)
+        ⟦<ReceiveError as Into<Error>>⟧.converts
         ⟦<SessionNegotiation<'a, StoredObjects, StoredRefs, N> as NegotiatesMap>⟧.map_of
         ⟦<SessionNegotiation<'a, StoredObjects, StoredRefs, N> as NegotiatesMap>⟧.knows
         (session_call session.old.shaken (named_by session.old.name)
@@ -275,8 +280,8 @@ where
         asked.entry.map.now
         (session_knowledge asked.entry.request.now (⟦<StoredObjects as Find>⟧.contents repository.old.objects)
         (⟦<StoredRefs as RefStore>⟧.refs repository.old.refs))
-        before after (T.reading session.old.transport.inner) pack.old told (T.reading session.new.transport.inner) pack.new)
-        × IsRefusedFetch f.fetches.last.negotiated session.old.shaken.server_protocol_version told e session.new.state
+        before after (T.reading session.old.transport.inner) pack.old reported (T.reading session.new.transport.inner) pack.new)
+        × IsRefusedFetch f.fetches.last.negotiated session.old.shaken.server_protocol_version reported e session.new.state
         × (f.fetches.last.negotiated ≡ false → session.new.shaken ≡ session.old.shaken)))
         repository.old.boundary.items)) }
     ensures boundary { repository.new.boundary ≡ repository.old.boundary }

@@ -1,1 +1,3 @@
 pub mod WordLemmas
+pub mod RelayLemmas
+pub mod RelayRunLemmas

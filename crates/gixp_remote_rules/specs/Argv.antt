@@ -7,9 +7,10 @@ use Rattle.gixp_remote_rules.specs.HelperOptions.{HelperOptionsValue, wants_conn
 abbrev pub remote_name : List ℕ → List ℕ
 remote_name name = if starts_with nat_eq name (codes "gixp::") then drop 6 name else name
 
--- git's program that speaks HTTP
-abbrev pub web_argv : List ℕ → List ℕ → List ℕ → List (List ℕ)
-web_argv scheme name url = codes "-c" ∷ codes "protocol.version=2" ∷ (codes "remote-" ++ scheme) ∷ remote_name name ∷ url ∷ []
+-- git's program that speaks HTTP, and requests this version
+abbrev pub web_argv : (version scheme name url : List ℕ) → List (List ℕ)
+web_argv version scheme name url =
+    codes "-c" ∷ (codes "protocol.version=" ++ version) ∷ (codes "remote-" ++ scheme) ∷ remote_name name ∷ url ∷ []
 
 -- a server on this machine
 abbrev pub upload_pack_argv : List ℕ → List (List ℕ)

@@ -11,6 +11,7 @@ use Rattle.gixp_remote_rules.specs.declared.options.OptionReply.TheVariants.{Ok 
 use Rattle.gixp_remote_rules.specs.declared.options.Family.{Family}
 use Rattle.gixp_remote_rules.specs.declared.options.Family.TheVariants.{All}
 use Rattle.gixp_remote_rules.specs.OptionValues.{depth_of, family_of, set_flag}
+use Rattle.gixp_remote_rules.specs.CQuoting.{text_value}
 
 pub record HelperOptionsValue : Type 0 where
   pub is_quiet : Bool
@@ -92,13 +93,26 @@ abbrev pub with_depth : HelperOptionsValue → Option Depth → HelperOptionsVal
 with_depth c None = (c, Error)
 with_depth c (Some depth) = (record c { depth = depth }, OkReply)
 
+-- a time, the name of a ref and a filter, if the value isn't malformed
+abbrev pub with_since : HelperOptionsValue → Option (List ℕ) → HelperOptionsValue × OptionReply
+with_since c None = (c, Error)
+with_since c (Some since) = (record c { since = Some since }, OkReply)
+
+abbrev pub with_excluded : HelperOptionsValue → Option (List ℕ) → HelperOptionsValue × OptionReply
+with_excluded c None = (c, Error)
+with_excluded c (Some name) = (record c { excluded = c.excluded ++ name ∷ [] }, OkReply)
+
+abbrev pub with_filter : HelperOptionsValue → Option (List ℕ) → HelperOptionsValue × OptionReply
+with_filter c None = (c, Error)
+with_filter c (Some filter) = (record c { filter = Some filter }, OkReply)
+
 -- an option about the history or the objects
 abbrev pub with_history : HelperOptionsValue → List ℕ → List ℕ → Option (HelperOptionsValue × OptionReply)
 with_history c name value =
     if bytes_eq name (codes "depth") then Some (with_depth c (depth_of value))
-    else if bytes_eq name (codes "deepen-since") then Some (record c { since = Some value }, OkReply)
-    else if bytes_eq name (codes "deepen-not") then Some (record c { excluded = c.excluded ++ value ∷ [] }, OkReply)
-    else if bytes_eq name (codes "filter") then Some (record c { filter = Some value }, OkReply)
+    else if bytes_eq name (codes "deepen-since") then Some (with_since c (text_value value))
+    else if bytes_eq name (codes "deepen-not") then Some (with_excluded c (text_value value))
+    else if bytes_eq name (codes "filter") then Some (with_filter c (text_value value))
     else None
 
 -- the hash function: it is to be listed, or must be SHA-1

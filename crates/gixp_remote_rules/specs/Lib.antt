@@ -16,8 +16,13 @@ pub mod ShellAnswer
 pub mod Proxy
 pub mod Batch
 pub mod Questions
-pub mod ShallowLine
 pub mod Conversation
+pub mod Relay
+pub mod RelayAnswer
+pub mod RelayRun
 pub mod Unpacking
 pub mod Printable
 pub mod Uris
+pub mod CQuoting
+pub mod Environment
+pub mod GitAnswers

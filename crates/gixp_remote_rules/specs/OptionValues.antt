@@ -12,7 +12,7 @@ use Rattle.gixp_remote_rules.specs.declared.options.Family.TheVariants.{All as F
 abbrev pub reply_text : OptionReply → List ℕ
 reply_text OkReply = codes "ok\n"
 reply_text Unsupported = codes "unsupported\n"
-reply_text Error = codes "error the value can't be read\n"
+reply_text Error = codes "error the value is malformed\n"
 
 -- a boolean
 abbrev pub switch_of : List ℕ → Option Bool

@@ -1,10 +1,12 @@
 -- Texts without control characters, as git shows them.
-use Rattle.std.specs.Prelude.{ℕ, ◌==◌, ◌||◌, ◌&&◌, not, nat_lt, if◌then◌else◌, List, map}
+use Rattle.std.specs.Prelude.{ℕ, ◌==◌, if◌then◌else◌, List, [], ◌∷◌}
+use Rattle.gixp_utils.specs.Printable.{visible}
 
--- a control character is replaced by a question mark (63), unless it is a tab (9) or a line feed
--- (10)
-abbrev pub printable_byte : ℕ → ℕ
-printable_byte b = if (nat_lt b 32 || b == 127) && not (b == 9 || b == 10) then 63 else b
+-- a control character is replaced by a question mark, unless it is a tab or a line feed (10)
+abbrev pub printable_byte : ℕ → ℕ → ℕ
+printable_byte before b = if b == 10 then b else visible before b
 
-abbrev pub printable_text : List ℕ → List ℕ
-printable_text text = map printable_byte text
+-- the bytes that follow `before`
+abbrev pub printable_after : ℕ → List ℕ → List ℕ
+printable_after before [] = []
+printable_after before (b ∷ text) = printable_byte before b ∷ printable_after b text

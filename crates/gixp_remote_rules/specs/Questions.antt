@@ -35,6 +35,12 @@ connected_argv shallow named =
 abbrev pub number_argv : List ℕ → List (List ℕ)
 number_argv name = codes "config" ∷ codes "--type=int" ∷ codes "--get" ∷ name ∷ []
 
+-- the path in the entry of the list of objects that aren't checked, by the value of the entry; git
+-- prints a NUL byte after it
+abbrev pub path_argv : List ℕ → List (List ℕ)
+path_argv value =
+    codes "config" ∷ codes "--type=path" ∷ codes "--null" ∷ codes "--fixed-value" ∷ codes "--get" ∷ codes "fetch.fsck.skiplist" ∷ value ∷ []
+
 abbrev pub time_argv : List ℕ → List (List ℕ)
 time_argv since = codes "rev-parse" ∷ (codes "--since=" ++ since) ∷ []
 
@@ -48,7 +54,7 @@ question_argv Paths =
     ∷ codes "--git-path" ∷ codes "objects" ∷ []
 question_argv Refs = object_argv all_refs
 question_argv Commits = commit_argv
-question_argv SkipList = codes "config" ∷ codes "--type=path" ∷ codes "--get" ∷ codes "fetch.fsck.skiplist" ∷ []
+question_argv (SkipList value) = path_argv value.now
 question_argv (Number name) = number_argv name.now
 question_argv (Time since) = time_argv since.now
 question_argv (Check name) = message_argv name.now

@@ -67,8 +67,8 @@ abbrev pub unless_missing : List ObjectId → Option ObjectId → AfterFetch
 unless_missing new None = becomes new
 unless_missing new (Some id) = refused id
 
--- the boundary after a fetch, if the server's boundary is `new`
-abbrev pub boundary_after : ShallowPolicy → BTreeSet ObjectId → List ObjectId → BTreeSet ObjectId → BTreeSet ObjectId → AfterFetch
-boundary_after Keep old new before commits = stays
-boundary_after Deepen old new before commits = unless_missing new (first_missing commits (added old new))
-boundary_after Update old new before commits = grows (received_commits before commits (added old new))
+-- the boundary after a fetch, if the server's boundary is `new` and `ids` are added
+abbrev pub boundary_after : ShallowPolicy → List ObjectId → List ObjectId → BTreeSet ObjectId → BTreeSet ObjectId → AfterFetch
+boundary_after Keep new ids before commits = stays
+boundary_after Deepen new ids before commits = unless_missing new (first_missing commits ids)
+boundary_after Update new ids before commits = grows (received_commits before commits ids)

@@ -99,23 +99,26 @@ fn remote_name(name: &[u8]) -> &[u8]
 }
 
 /// The arguments of git for its program that speaks HTTP (gitremote-helpers, "INVOCATION"). The
-/// name of the remote and the URL are passed unchanged.
+/// name of the remote and the URL are passed unchanged. The program requests this version
+/// (git-config, "protocol.version").
 ///
 /// # Errors
 ///
 /// Only when an allocation fails.
 pub fn web_argv(
     alloc: Global,
+    version: &[u8],
     scheme: &[u8],
     name: &[u8],
     url: &[u8],
 ) -> Result<Vec<BString>, AllocError>
-    ensures { IfOk result (λ argv. map bstring_bytes argv.items ≡ web_argv scheme.now name.now url.now) }
+    ensures { IfOk result (λ argv. map bstring_bytes argv.items ≡ web_argv version.now scheme.now name.now url.now) }
 {
+    let setting = concat(alloc, &[b"protocol.version=", version])?;
     let program = concat(alloc, &[b"remote-", scheme])?;
     let mut argv = Vec::new(alloc);
     add(alloc, &mut argv, b"-c")?;
-    add(alloc, &mut argv, b"protocol.version=2")?;
+    add(alloc, &mut argv, &setting)?;
     add(alloc, &mut argv, &program)?;
     add(alloc, &mut argv, remote_name(name))?;
     add(alloc, &mut argv, url)?;

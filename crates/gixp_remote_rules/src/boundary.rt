@@ -153,8 +153,9 @@ fn received_commits(
         .collect(alloc)
 }
 
-/// The boundary after a fetch, if the server's boundary is `new`. `before` has the added ids that
-/// were present before the fetch, `commits` those that are commits after it.
+/// The boundary after a fetch, if the server's boundary is `new`. `ids` are those of its ids that
+/// the old one lacks (`added`). `before` has those of them that were present before the fetch,
+/// `commits` those that are commits after it.
 ///
 /// # Errors
 ///
@@ -162,22 +163,21 @@ fn received_commits(
 pub fn boundary_after(
     alloc: Global,
     policy: ShallowPolicy,
-    old: &BTreeSet<ObjectId>,
     new: &[ObjectId],
+    ids: &[ObjectId],
     before: &BTreeSet<ObjectId>,
     commits: &BTreeSet<ObjectId>,
 ) -> Result<BoundaryChange, AllocError>
-    ensures { IfOk result (λ b. boundary_value b ≡ boundary_after policy old.now new.now before.now commits.now) }
+    ensures { IfOk result (λ b. boundary_value b ≡ boundary_after policy new.now ids.now before.now commits.now) }
 {
-    let ids = added(alloc, old, new)?;
     match policy {
         ShallowPolicy::Keep => Ok(BoundaryChange::Stays),
-        ShallowPolicy::Deepen => match first_missing(&ids, commits) {
+        ShallowPolicy::Deepen => match first_missing(ids, commits) {
             Some(id) => Ok(BoundaryChange::Refused(id)),
             None => Ok(BoundaryChange::Becomes(Vec::from_slice(alloc, new)?)),
         },
         ShallowPolicy::Update => {
-            let received = received_commits(alloc, &ids, before, commits)?;
+            let received = received_commits(alloc, ids, before, commits)?;
             Ok(BoundaryChange::Grows(received))
         }
     }

@@ -64,7 +64,7 @@ fn push_entry(alloc: Global, entries: &mut Vec<ConfigEntry>, text: &[u8]) -> Res
     Ok(())
 }
 
-fn pieces_of(alloc: Global, text: &[u8]) -> Result<Vec<BStr<'_>>, AllocError>
+pub(crate) fn pieces_of(alloc: Global, text: &[u8]) -> Result<Vec<BStr<'_>>, AllocError>
     ensures { IfOk result (λ pieces. map bstr_bytes pieces.items ≡ slice_split (λ b. b == 0) text.now) }
 {
     text.split(|b| *b == 0).map(BStr::new).collect(alloc)

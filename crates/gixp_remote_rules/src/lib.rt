@@ -9,8 +9,11 @@ mod boundary;
 mod command;
 mod config;
 mod conversation;
+mod environment;
 mod fetch_reply;
+mod git_answers;
 mod index_pack;
+pub mod laws;
 mod number;
 mod options;
 mod policy;
@@ -18,12 +21,14 @@ mod printable;
 mod proxy;
 mod question;
 mod quote;
-mod shallow_line;
+mod relay;
+mod relay_answer;
 mod shell_io;
 mod shell_request;
 mod ssh;
 mod text;
 mod unpacking;
+mod unquote;
 mod uris;
 
 pub use argv::{
@@ -38,7 +43,9 @@ pub use boundary::{
 pub use command::{HelperCommand, parse_command};
 pub use config::{ConfigEntry, Settings, is_true};
 pub use conversation::{Conversation, Reaction};
+pub use environment::variable_in;
 pub use fetch_reply::{batch_reply, capabilities, reports_connectivity};
+pub use git_answers::{MessageId, exit_status, has_reported, message_id, path_answer, time_answer};
 pub use index_pack::{accepted_pack, pack_file, reported_pack};
 pub use number::number_of;
 pub use options::{Depth, Family, HelperOptions, OptionReply};
@@ -51,7 +58,8 @@ pub use question::{
     Question, Within, listing_argv, pack_variables, question_argv, question_variables, within_of,
 };
 pub use quote::quoted;
-pub use shallow_line::parse_shallow_line;
+pub use relay::{Relayed, pass_on};
+pub use relay_answer::{AnswerLine, copy_answer, send_options};
 pub use shell_io::{read_answer, write_request};
 pub use shell_request::{Program, ShellRequest, ShellTask, Start, request_text};
 pub use ssh::{

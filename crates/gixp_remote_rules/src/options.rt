@@ -2,9 +2,12 @@
 ghost use Rattle.std.specs.Prelude.{◌≡◌, ◌&&◌, not, IfOk, IfNone, OnErr, Some, None};
 ghost use Rattle.std.specs.Option.{option_map};
 ghost use Rattle.gixp_remote_rules.specs.HelperOptions.{options_value, default_options, with_switch, with_history, with_format, with_family, with_other, with_option, limits, has_depth, wants_connectivity};
+ghost use Rattle.gixp_remote_rules.specs.HelperOptions.{with_since, with_excluded, with_filter};
+ghost use Rattle.gixp_remote_rules.specs.CQuoting.{text_value};
 ghost use Rattle.gixp_remote_rules.specs.OptionValues.{switch_of, depth_of, family_of, set_flag, reply_text};
 
 use crate::number::number_of;
+use crate::unquote::text_value;
 use bstr::BString;
 use std::alloc::{AllocError, Global};
 
@@ -27,7 +30,7 @@ impl OptionReply {
         match self {
             OptionReply::Ok => b"ok\n",
             OptionReply::Unsupported => b"unsupported\n",
-            OptionReply::Error => b"error the value can't be read\n",
+            OptionReply::Error => b"error the value is malformed\n",
         }
     }
 }
@@ -223,6 +226,45 @@ impl HelperOptions {
         }
     }
 
+    fn set_since(&mut self, alloc: Global, value: &[u8]) -> Result<OptionReply, AllocError>
+        ensures set { IfOk result (λ reply. (options_value self.new, reply) ≡ with_since (options_value self.old) (text_value value.now)) }
+        ensures failed { OnErr result (options_value self.new ≡ options_value self.old) }
+    {
+        match text_value(alloc, value)? {
+            Some(since) => {
+                self.since = Some(since);
+                Ok(OptionReply::Ok)
+            }
+            None => Ok(OptionReply::Error),
+        }
+    }
+
+    fn exclude(&mut self, alloc: Global, value: &[u8]) -> Result<OptionReply, AllocError>
+        ensures set { IfOk result (λ reply. (options_value self.new, reply) ≡ with_excluded (options_value self.old) (text_value value.now)) }
+        ensures failed { OnErr result (options_value self.new ≡ options_value self.old) }
+    {
+        match text_value(alloc, value)? {
+            Some(name) => {
+                self.excluded.push(name)?;
+                Ok(OptionReply::Ok)
+            }
+            None => Ok(OptionReply::Error),
+        }
+    }
+
+    fn set_filter(&mut self, alloc: Global, value: &[u8]) -> Result<OptionReply, AllocError>
+        ensures set { IfOk result (λ reply. (options_value self.new, reply) ≡ with_filter (options_value self.old) (text_value value.now)) }
+        ensures failed { OnErr result (options_value self.new ≡ options_value self.old) }
+    {
+        match text_value(alloc, value)? {
+            Some(filter) => {
+                self.filter = Some(filter);
+                Ok(OptionReply::Ok)
+            }
+            None => Ok(OptionReply::Error),
+        }
+    }
+
     // Sets an option about the history or the objects. `None` if there isn't one of this name.
     fn set_history(
         &mut self,
@@ -244,14 +286,11 @@ impl HelperOptions {
                 None => Ok(Some(OptionReply::Error)),
             }
         } else if name == b"deepen-since".as_slice() {
-            self.since = Some(BString::from_slice(alloc, value)?);
-            Ok(Some(OptionReply::Ok))
+            Ok(Some(self.set_since(alloc, value)?))
         } else if name == b"deepen-not".as_slice() {
-            self.excluded.push(BString::from_slice(alloc, value)?)?;
-            Ok(Some(OptionReply::Ok))
+            Ok(Some(self.exclude(alloc, value)?))
         } else if name == b"filter".as_slice() {
-            self.filter = Some(BString::from_slice(alloc, value)?);
-            Ok(Some(OptionReply::Ok))
+            Ok(Some(self.set_filter(alloc, value)?))
         } else {
             Ok(None)
         }

@@ -1,16 +1,17 @@
 //! Texts without control characters, as git shows them.
 ghost use Rattle.std.specs.Prelude.{◌≡◌, ◌++◌, ◌∷◌, [], IfOk, OnOk};
-ghost use Rattle.gixp_remote_rules.specs.Printable.{printable_byte, printable_text};
+ghost use Rattle.gixp_remote_rules.specs.Printable.{printable_byte, printable_after};
 
+use gixp_utils::visible;
 use std::alloc::{AllocError, Global};
 
-fn printable_byte(byte: u8) -> u8
-    ensures { result ≡ printable_byte byte }
+fn printable_byte(before: u8, byte: u8) -> u8
+    ensures { result ≡ printable_byte before byte }
 {
-    if (byte < b' ' || byte == 127) && !(byte == b'\t' || byte == b'\n') {
-        b'?'
-    } else {
+    if byte == b'\n' {
         byte
+    } else {
+        visible(before, byte)
     }
 }
 
@@ -21,11 +22,13 @@ fn printable_byte(byte: u8) -> u8
 ///
 /// Only when an allocation fails.
 pub fn printable_text(alloc: Global, text: &[u8]) -> Result<Vec<u8>, AllocError>
-    ensures { IfOk result (λ printable. printable.items ≡ printable_text text.now) }
+    ensures { IfOk result (λ printable. printable.items ≡ printable_after 0 text.now) }
 {
     let mut printable = Vec::new(alloc);
+    let mut before = 0;
     for byte in text {
-        printable.push(printable_byte(*byte))?;
+        printable.push(printable_byte(before, *byte))?;
+        before = *byte;
     }
     Ok(printable)
 }

@@ -2,7 +2,7 @@
 ghost use Rattle.std.specs.Prelude.{◌≡◌, ◌++◌, IfOk, OnOk, map};
 ghost use Rattle.std.specs.Option.{option_map};
 ghost use Rattle.bstr.specs.Owned.{bstring_bytes};
-ghost use Rattle.gixp_remote_rules.specs.Questions.{commit_argv, object_argv, number_argv, time_argv, message_argv, connected_argv, question_argv, limit_argv, listing_argv};
+ghost use Rattle.gixp_remote_rules.specs.Questions.{commit_argv, object_argv, number_argv, path_argv, time_argv, message_argv, connected_argv, question_argv, limit_argv, listing_argv};
 ghost use Rattle.gixp_remote_rules.specs.Questions.{within_of, question_variables, pack_variables};
 
 use crate::argv::{add, add_all, add_names, concat, shallow_argv};
@@ -19,8 +19,8 @@ pub enum Question<'a> {
     Refs,
     /// The commits that the refs reach.
     Commits,
-    /// The path of the list of objects that aren't checked.
-    SkipList,
+    /// The path of a list of objects that aren't checked, by the value of its entry.
+    SkipList(&'a [u8]),
     /// The number in a configuration entry.
     Number(&'a [u8]),
     /// A time in seconds.
@@ -125,6 +125,25 @@ fn number_argv(alloc: Global, name: &[u8]) -> Result<Vec<BString>, AllocError>
     Ok(argv)
 }
 
+// The arguments that print the path in an entry. git expands `~`, and prints a NUL byte after it.
+fn path_argv(alloc: Global, value: &[u8]) -> Result<Vec<BString>, AllocError>
+    ensures { IfOk result (λ argv. map bstring_bytes argv.items ≡ path_argv value.now) }
+{
+    let mut argv = argv_of(
+        alloc,
+        &[
+            "config",
+            "--type=path",
+            "--null",
+            "--fixed-value",
+            "--get",
+            "fetch.fsck.skiplist",
+        ],
+    )?;
+    add(alloc, &mut argv, value)?;
+    Ok(argv)
+}
+
 fn message_argv(alloc: Global, name: &[u8]) -> Result<Vec<BString>, AllocError>
     ensures { IfOk result (λ argv. map bstring_bytes argv.items ≡ message_argv name.now) }
 {
@@ -158,10 +177,7 @@ pub fn question_argv(alloc: Global, question: Question<'_>) -> Result<Vec<BStrin
         ),
         Question::Refs => object_argv(alloc, &["--all", "--alternate-refs"]),
         Question::Commits => commit_argv(alloc),
-        Question::SkipList => argv_of(
-            alloc,
-            &["config", "--type=path", "--get", "fetch.fsck.skiplist"],
-        ),
+        Question::SkipList(value) => path_argv(alloc, value),
         Question::Number(name) => number_argv(alloc, name),
         Question::Time(since) => time_argv(alloc, since),
         Question::Check(name) => message_argv(alloc, name),

@@ -1,7 +1,7 @@
 //! Writes requests to the shell, and reads its answers.
 ghost use Rattle.std.specs.Prelude.{◌≡◌, OnOk, IfOk, IfSome, Some};
 ghost use Rattle.std.specs.Io.KnownBytes.{Appends};
-ghost use Rattle.std.specs.Io.BufRead.{take_through};
+ghost use Rattle.std.specs.Io.BufRead.{take_through, DropsThrough};
 ghost use Rattle.gixp_remote_rules.specs.ShellRequests.{request_text};
 ghost use Rattle.gixp_remote_rules.specs.ShellAnswer.{answer_of};
 
@@ -29,7 +29,8 @@ fn answer_of(line: &[u8]) -> Option<u32>
 /// The read fails, the answer isn't a number (`UnexpectedEof`), or an allocation fails
 /// (`OutOfMemory`).
 pub fn read_answer<R: BufRead>(alloc: Global, answers: &mut R) -> io::Result<u32>
-    ensures { IfOk result (λ number. IfSome (R.remaining answers.old) (λ bytes. answer_of (take_through 10 bytes) ≡ Some number)) }
+    ensures number { IfOk result (λ number. IfSome (R.remaining answers.old) (λ bytes. answer_of (take_through 10 bytes) ≡ Some number)) }
+    ensures rest { OnOk result (DropsThrough (R.remaining answers.old) (R.remaining answers.new) 10) }
 {
     let mut line = Vec::new(alloc);
     answers.read_until(b'\n', &mut line)?;

@@ -8,8 +8,8 @@ use Rattle.gix_protocol.specs.ObjectIdType.{ObjectId}
 
 same_id : (a b : ObjectId) → Decides (pointwise nat_eq a.bytes b.bytes) (a ≡ b)
 same_id a b =
-    let tells = slice_eq-Decides Decides-eqb a.bytes b.bytes (pointwise nat_eq a.bytes b.bytes) refl in
-    ((λ t. ap (λ bytes. record { bytes = bytes }) (tells.0 t)), (λ e. tells.1 (ap (λ (i : ObjectId). i.bytes) e)))
+    let reports = slice_eq-Decides Decides-eqb a.bytes b.bytes (pointwise nat_eq a.bytes b.bytes) refl in
+    ((λ t. ap (λ bytes. record { bytes = bytes }) (reports.0 t)), (λ e. reports.1 (ap (λ (i : ObjectId). i.bytes) e)))
 
 pub same_ids : (xs ys : List ObjectId) (r : Bool) → r ≡ pointwise (λ (a b : ObjectId). pointwise nat_eq a.bytes b.bytes) xs ys
     → Decides r (xs ≡ ys)

@@ -1,4 +1,4 @@
 mod WebLemmas
-mod ListLemmas
 mod BoundaryLemmas
 mod ListedLemmas
+mod ShallowLineLemmas

@@ -5,7 +5,7 @@ use Rattle.std.proofs.lemmas.Option.{none-some, same_Some}
 use Rattle.gixp_remote_session.specs.ListedObjects.{listed_line, listed_lines, ErrorIsUnlisted}
 use Rattle.gixp_remote_session.specs.declared.repository.ListedObject.{ListedObject}
 use Rattle.gixp_remote_session.specs.declared.error.Error.{Error}
-use Rattle.gixp_remote_session.specs.declared.error.Error.TheVariants.{Fetch, Url, Io, UnknownCommand, Other, Fatal, AlreadyReported, NoRefs, Word, Variable, Mismatch, Password, Ssh, Memory}
+use Rattle.gixp_remote_session.specs.declared.error.Error.TheVariants.{Fetch, Url, Io, UnknownCommand, Other, Fatal, AlreadyReported, Word, Status, Variable, Mismatch, Password, Ssh, Memory}
 
 -- these objects, followed by others
 abbrev pub listed_in_front : List ListedObject → Option (List ListedObject) → Option (List ListedObject)
@@ -57,8 +57,8 @@ unlisted-more all left rest line listed (UnknownCommand text) h a w = w
 unlisted-more all left rest line listed (Other why) h a w = (listed-none all left rest line listed h a w.0, w.1)
 unlisted-more all left rest line listed (Fatal why) h a w = w
 unlisted-more all left rest line listed AlreadyReported h a w = w
-unlisted-more all left rest line listed NoRefs h a w = w
 unlisted-more all left rest line listed (Word why word) h a w = w
+unlisted-more all left rest line listed (Status why status) h a w = w
 unlisted-more all left rest line listed (Variable name value) h a w = w
 unlisted-more all left rest line listed (Mismatch uri name) h a w = w
 unlisted-more all left rest line listed (Password url) h a w = w

@@ -1,5 +1,5 @@
 -- The shallow boundary that is written after a fetch (gitrepository-layout, "shallow").
-use Rattle.std.specs.Prelude.{◌≡◌, ◌≢◌, List, ◌++◌, Option, Some, None}
+use Rattle.std.specs.Prelude.{List, ◌++◌}
 use Rattle.gix_protocol.specs.ObjectIdType.{ObjectId}
 use Rattle.gixp_remote_rules.specs.ShallowBoundary.{AfterFetch, stays, becomes, grows, refused}
 
@@ -9,8 +9,3 @@ boundary_then old stays = old
 boundary_then old (becomes ids) = ids
 boundary_then old (grows ids) = old ++ ids
 boundary_then old (refused id) = old
-
--- the new boundary is written, unless it is the old one
-abbrev pub ChangesTo : List ObjectId → List ObjectId → Option (List ObjectId) → Type 0
-ChangesTo old new None = new ≡ old
-ChangesTo old new (Some ids) = (ids ≡ new) × (ids ≢ old)

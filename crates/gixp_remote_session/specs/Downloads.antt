@@ -6,8 +6,8 @@ use Rattle.gix_protocol.specs.UriProtocolsType.{UriProtocols}
 use Rattle.gix_protocol.specs.UriProtocolsType.TheVariants.{Neither, Http, Https, Both}
 use Rattle.gixp_remote_rules.specs.declared.uris.DownloadError.{DownloadError}
 use Rattle.gixp_remote_rules.specs.declared.uris.DownloadError.TheVariants.{NoLock, NoName, Unfinished}
-use Rattle.gixp_remote_session.specs.declared.pack.PackState.{PackState}
-use Rattle.gixp_remote_session.specs.declared.pack.PackState.TheVariants.{Indexed}
+use Rattle.gixp_remote_session.specs.declared.pack.state.PackState.{PackState}
+use Rattle.gixp_remote_session.specs.declared.pack.state.PackState.TheVariants.{Indexed}
 
 -- the protocols to request
 abbrev pub protocols_of : (http https : Bool) → UriProtocols

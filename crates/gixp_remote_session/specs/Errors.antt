@@ -6,7 +6,8 @@ use Rattle.bstr.specs.Owned.{bstring_bytes}
 use Rattle.gixp_fetch_common.specs.Failures.{is_said_by_git}
 use Rattle.gixp_fetch_common.specs.declared.failure.Failure.TheVariants.{HungUp}
 use Rattle.gixp_remote_session.specs.declared.error.Error.{Error}
-use Rattle.gixp_remote_session.specs.declared.error.Error.TheVariants.{Fetch, Url, Io, Other, Fatal, NoRefs, Word, Variable, Mismatch, Password, Ssh, Memory}
+use Rattle.gixp_remote_session.specs.declared.error.Error.TheVariants.{Fetch, Url, Io, Other, Fatal, AlreadyReported, Word, Status, Variable, Mismatch, Password, Ssh, Memory}
+use Rattle.gixp_remote_rules.specs.GitAnswers.{has_reported}
 use Rattle.gixp_remote_rules.specs.declared.policy.Permission.{Permission}
 use Rattle.gixp_remote_rules.specs.declared.policy.Permission.TheVariants.{Allowed, Forbidden, NoPolicy, NoBoolean}
 use Rattle.gixp_remote_rules.specs.declared.policy.PasswordPolicy.{PasswordPolicy}
@@ -27,6 +28,12 @@ ErrorIsOther why _ = ⊥
 abbrev pub ErrorIsFatal : List ℕ → Error → Type 0
 ErrorIsFatal why (Fatal w) = w.now ≡ why
 ErrorIsFatal why _ = ⊥
+
+-- git has reported why it failed (status 128), or its exit status is shown
+abbrev pub ErrorIsStatus : List ℕ → ℕ → Error → Type 0
+ErrorIsStatus why status AlreadyReported = has_reported status ≡ true
+ErrorIsStatus why status (Status w n) = (has_reported status ≡ false) × (w.now ≡ why) × (n ≡ status)
+ErrorIsStatus why status _ = ⊥
 
 -- an environment variable that isn't a boolean; or an allocation failed
 abbrev pub ErrorIsVariable : List ℕ → List ℕ → Error → Type 0
@@ -77,7 +84,6 @@ abbrev pub prefix_of : Error → List ℕ
 prefix_of (Fetch e) = if is_said_by_git e then codes "fatal" else codes "git-remote-gixp"
 prefix_of (Url e) = codes "fatal"
 prefix_of (Fatal why) = codes "fatal"
-prefix_of NoRefs = codes "fatal"
 prefix_of (Word why word) = codes "fatal"
 prefix_of (Variable name value) = codes "fatal"
 prefix_of (Mismatch uri name) = codes "fatal"

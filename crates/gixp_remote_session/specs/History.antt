@@ -1,5 +1,5 @@
 -- The depth of a fetch, by git's options (gitremote-helpers, "option depth").
-use Rattle.std.specs.Prelude.{◌≡◌, ◌≢◌, ◌==◌, ◌||◌, ℕ, Bool, true, false, not, if◌then◌else◌, List, [], length, map, is_some}
+use Rattle.std.specs.Prelude.{◌≡◌, ◌≢◌, ◌==◌, ◌||◌, ℕ, ℤ, Bool, true, false, not, if◌then◌else◌, List, [], length, map, Option, Some, None, is_some}
 use Rattle.bstr.specs.Owned.{bstring_bytes}
 use Rattle.bstr.specs.declared.bstring.BString.{BString}
 use Rattle.gix_protocol.specs.Shallow.{ShallowValue, no_change, at_remote, deepens, since, excludes}
@@ -16,6 +16,14 @@ IsPart names has_time no_change = (names ≡ []) × (has_time ≡ false)
 IsPart names has_time (since cutoff) = (names ≡ []) × (has_time ≡ true)
 IsPart names has_time (excludes texts cutoff) = (names ≢ []) × (texts ≡ map bstring_bytes names) × (is_some cutoff ≡ has_time)
 IsPart names has_time _ = ⊥
+
+-- the limits by excluded refs, and by a time in seconds
+abbrev pub limit_of_time : Option ℤ → ShallowValue
+limit_of_time None = no_change
+limit_of_time (Some cutoff) = since cutoff
+
+abbrev pub limits_by : List BString → Option ℤ → ShallowValue
+limits_by names cutoff = if length names == 0 then limit_of_time cutoff else excludes (map bstring_bytes names) cutoff
 
 -- a depth, and a time or an excluded ref too: no server accepts both (gitprotocol-v2,
 -- "deepen-since")

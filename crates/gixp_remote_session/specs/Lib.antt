@@ -2,7 +2,7 @@ pub mod Wanted
 pub mod RefLines
 pub mod Version
 pub mod Errors
-pub mod ShallowTap
+pub mod ShallowLines
 pub mod Downloads
 pub mod History
 pub mod UserConfig
@@ -13,3 +13,5 @@ pub mod ListedObjects
 pub mod Boundaries
 pub mod ServerLeft
 pub mod Readiness
+pub mod FsckList
+pub mod StartupInput

@@ -9,13 +9,14 @@ use Rattle.gixp_fetch_common.specs.declared.failure.Failure.{Failure}
 use Rattle.gixp_fetch_common.specs.declared.failure.Failure.TheVariants.{PackRefused}
 use Rattle.gixp_remote_rules.specs.IndexPack.{id_value, accepted_pack}
 use Rattle.gixp_remote_rules.specs.Unpacking.{unpacks}
-use Rattle.gixp_remote_session.specs.declared.pack.PackState.{PackState}
-use Rattle.gixp_remote_session.specs.declared.pack.PackState.TheVariants.{Unreadable, Refused, Indexed, Unpacked, Empty}
+use Rattle.gixp_remote_session.specs.declared.pack.state.PackState.{PackState}
+use Rattle.gixp_remote_session.specs.declared.pack.state.PackState.TheVariants.{Unreadable, Unstarted, Refused, Indexed, Unpacked, Empty}
 use Rattle.gixp_remote_session.specs.declared.error.Error.{Error}
-use Rattle.gixp_remote_session.specs.declared.error.Error.TheVariants.{Fetch, Fatal}
+use Rattle.gixp_remote_session.specs.declared.error.Error.TheVariants.{Fetch, Other, Fatal}
 use Rattle.gixp_remote_rules.specs.HelperOptions.{HelperOptionsValue}
 use Rattle.gixp_remote_rules.specs.Argv.{index_argv, object_variables}
-use Rattle.gixp_remote_session.specs.declared.pack.PackPlan.{PackPlan}
+use Rattle.gixp_remote_rules.specs.FetchReply.{reports_connectivity}
+use Rattle.gixp_remote_session.specs.declared.pack.plan.PackPlan.{PackPlan}
 
 -- the quarantine, which is in the object directory, and the file for the boundary there
 abbrev pub pack_folder : List ℕ → List ℕ → List ℕ
@@ -82,12 +83,20 @@ abbrev pub IsStateAfter : Bool → Bool → ℕ → List ℕ → ℕ → Option 
 IsStateAfter true has_boundary count text status state = state ≡ unpacked_state count has_boundary status
 IsStateAfter false has_boundary count text status state = AreIndexed has_boundary count (accepted_pack text status) status state
 
--- the error of a fetch: a bad pack header and a refused pack override the session's error
+-- the error of a fetch: a bad pack header, a git that isn't started and a refused pack override the
+-- session's error
 abbrev pub ErrorIsFailure : PackState → Failure → Error → Type 0
 ErrorIsFailure Unreadable e (Fatal why) = why.now ≡ codes "protocol error: bad pack header"
 ErrorIsFailure Unreadable e _ = ⊥
+ErrorIsFailure Unstarted e (Other why) = why.now ≡ codes "a program can't be started"
+ErrorIsFailure Unstarted e _ = ⊥
 ErrorIsFailure Refused e error = error ≡ Fetch PackRefused
 ErrorIsFailure state e error = error ≡ Fetch e
+
+-- git checked connectivity: one pack came, and git indexed it
+abbrev pub is_connected : HelperOptionsValue → PackState → Bool → Bool → Bool
+is_connected c (Indexed indexed) is_alone was_here = is_alone && reports_connectivity c indexed.has_boundary was_here indexed.status
+is_connected c state is_alone was_here = false
 
 -- the name of a folder with loose objects: two hexadecimal digits
 abbrev pub is_object_folder : List ℕ → Bool

@@ -3,10 +3,6 @@ use Rattle.std.specs.Prelude.{ℕ, ◌==◌, ◌&&◌, not, nat_lt, Bool, true, 
 use Rattle.std.specs.List.{list_all, list_any}
 use Rattle.std.specs.Option.{option_map}
 use Rattle.std.specs.Str.{bytes_eq}
-use Rattle.std.specs.Borrow.{Bor}
-use Rattle.std.specs.BTreeSet.{BTreeSet, contains_by}
-use Rattle.std.specs.Ordering.{nat_cmp}
-use Rattle.std.specs.Cmp.Lexicographic.{slice_cmp}
 use Rattle.bstr.specs.Owned.{bstring_bytes}
 use Rattle.gix_protocol.specs.Hex.{encode_lower}
 use Rattle.gix_protocol.specs.Ref.{unpacked_name}
@@ -42,9 +38,6 @@ ref_lines true (Symbolic name target tag object) = symbolic_line (bstring_bytes 
 ref_lines false (Symbolic name target tag object) =
     object_lines (bstring_bytes name) (option_map (λ t. t.bytes) tag) object.bytes
 ref_lines by_target (Unborn name target) = []
-
-abbrev pub has_text : BTreeSet (Bor (List ℕ)) → List ℕ → Bool
-has_text names text = contains_by (λ key. slice_cmp nat_cmp text key.now) names
 
 -- a ref of this name that isn't symbolic
 abbrev pub holds : List ℕ → Ref → Bool

@@ -3,8 +3,8 @@ use Rattle.std.specs.Prelude.{◌&&◌, not, Bool, false, Result, Ok, Err}
 use Rattle.gixp_url.specs.Url.{is_web}
 use Rattle.gixp_url.specs.declared.address.Scheme.{Scheme}
 use Rattle.gixp_remote_session.specs.Errors.{is_hang_up}
-use Rattle.gixp_remote_session.specs.declared.pack.PackState.{PackState}
-use Rattle.gixp_remote_session.specs.declared.pack.PackState.TheVariants.{Unbegun}
+use Rattle.gixp_remote_session.specs.declared.pack.state.PackState.{PackState}
+use Rattle.gixp_remote_session.specs.declared.pack.state.PackState.TheVariants.{Unbegun}
 use Rattle.gixp_remote_session.specs.declared.error.Error.{Error}
 
 -- the fetch failed since the server closed the connection before a pack began; a web server gets

@@ -13,3 +13,9 @@ abbrev pub version_word : Protocol → Option (List ℕ)
 version_word V0 = None
 version_word V1 = Some (codes "version=1")
 version_word V2 = Some (codes "version=2")
+
+-- the number of a version, as in the setting
+abbrev pub version_number : Protocol → List ℕ
+version_number V0 = codes "0"
+version_number V1 = codes "1"
+version_number V2 = codes "2"

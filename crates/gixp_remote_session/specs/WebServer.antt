@@ -1,13 +1,12 @@
 -- The lines for git's own program for HTTP, and its replies (gitremote-helpers, "option verbosity",
--- "stateless-connect", "list").
-use Rattle.std.specs.Prelude.{◌≡◌, ℕ, ⊤, ◌&&◌, Bool, true, false, if◌then◌else◌, List, [], ◌∷◌, ◌++◌, codes, Option, Some, None, is_some, Result, Ok, Err}
-use Rattle.std.specs.Option.{IfSome}
+-- "stateless-connect").
+use Rattle.std.specs.Prelude.{◌≡◌, ℕ, ⊤, ◌==◌, ◌&&◌, Bool, true, false, if◌then◌else◌, List, [], ◌++◌, length, codes, Option, Some, None, is_some}
+use Rattle.std.specs.Option.{IfSome, option_map}
 use Rattle.std.specs.Io.BufRead.{take_through, drop_through, ends_with_byte, strip_last}
-use Rattle.std.specs.Io.KnownBytes.{Appends}
 use Rattle.gixp_remote_rules.specs.declared.options.Family.{Family}
 use Rattle.gixp_remote_rules.specs.declared.options.Family.TheVariants.{All, Ipv4, Ipv6}
 use Rattle.gixp_remote_session.specs.declared.error.Error.{Error}
-use Rattle.gixp_remote_session.specs.declared.error.Error.TheVariants.{Io, AlreadyReported, NoRefs, Fatal}
+use Rattle.gixp_remote_session.specs.declared.error.Error.TheVariants.{Io, AlreadyReported}
 
 -- a line without its line feed (10), if it has one
 abbrev pub without_end : List ℕ → Option (List ℕ)
@@ -42,51 +41,18 @@ after_options is_quiet family output = after_option (is_limited family) (after_o
 abbrev pub after_replies : Bool → Family → List ℕ → List ℕ
 after_replies is_quiet family output = drop_through 10 (after_options is_quiet family output)
 
--- the program carries requests; or the server speaks another version and lists no refs, or some; or
--- the program exited
-pub data WebOutcome : Type 0 where
-  carries : WebOutcome
-  lists_none : WebOutcome
-  lists_some : WebOutcome
-  ends : WebOutcome
+-- the reply to `stateless-connect`
+abbrev pub connect_reply : Bool → Family → List ℕ → Option (List ℕ)
+connect_reply is_quiet family output = reply_in (after_options is_quiet family output)
 
--- by the first line of the list of refs, which an empty line ends
-abbrev pub by_list : Option (List ℕ) → WebOutcome
-by_list None = ends
-by_list (Some []) = lists_none
-by_list (Some (b ∷ line)) = lists_some
+-- the program carries requests if that is empty: the server speaks version 2
+abbrev pub carries : Bool → Family → List ℕ → Option Bool
+carries is_quiet family output = option_map (λ line. length line == 0) (connect_reply is_quiet family output)
 
-abbrev pub list_outcome : List ℕ → WebOutcome
-list_outcome output = by_list (reply_in output)
-
--- by the reply to `stateless-connect`, which is empty if the program carries requests, and by the
--- output after it
-abbrev pub by_reply : Option (List ℕ) → List ℕ → WebOutcome
-by_reply None rest = ends
-by_reply (Some []) rest = carries
-by_reply (Some (b ∷ line)) rest = list_outcome rest
-
-abbrev pub connect_outcome : List ℕ → WebOutcome
-connect_outcome output = by_reply (reply_in output) (drop_through 10 output)
-
--- by the whole output; any reply to an option will do
-abbrev pub web_outcome : Bool → Family → List ℕ → WebOutcome
-web_outcome is_quiet family output =
-    if have_replied is_quiet family output then connect_outcome (after_options is_quiet family output) else ends
-
--- the outcome, if the output is known
-abbrev pub HasOutcome : (List ℕ → WebOutcome) → Option (List ℕ) → WebOutcome → Type 0
-HasOutcome outcome output x = IfSome output (λ bytes. outcome bytes ≡ x)
-
--- the result of the call; I/O errors are possible in any case
-abbrev pub ResultIsOutcome : (List ℕ → WebOutcome) → Option (List ℕ) → Result (Unit {0}) Error → Type 0
-ResultIsOutcome outcome output (Ok _) = HasOutcome outcome output carries
-ResultIsOutcome outcome output (Err NoRefs) = HasOutcome outcome output lists_none
-ResultIsOutcome outcome output (Err (Fatal why)) = HasOutcome outcome output lists_some
-    × (why.now ≡ codes "the server doesn't speak protocol version 2, which git-remote-gixp needs over HTTP")
-ResultIsOutcome outcome output (Err AlreadyReported) = HasOutcome outcome output ends
-ResultIsOutcome outcome output (Err (Io kind)) = ⊤
-ResultIsOutcome outcome output (Err _) = ⊥
+-- the program replied to the options and to `stateless-connect`; any reply to an option will do
+abbrev pub has_connected : Bool → Family → List ℕ → Bool
+has_connected is_quiet family output =
+    have_replied is_quiet family output && has_reply (after_options is_quiet family output)
 
 -- why a reply is missing
 abbrev pub IsMissingReply : (List ℕ → Bool) → Option (List ℕ) → Error → Type 0
@@ -109,10 +75,3 @@ options_sent is_quiet family =
 
 abbrev pub connect_sent : Bool → Family → List ℕ
 connect_sent is_quiet family = options_sent is_quiet family ++ codes "stateless-connect git-upload-pack\n"
-
--- these lines were sent, and then `list` if the program doesn't carry requests
-abbrev pub HasSent : List ℕ → Option (List ℕ) → Option (List ℕ) → Result (Unit {0}) Error → Type 0
-HasSent lines old new (Ok _) = Appends old new lines
-HasSent lines old new (Err NoRefs) = Appends old new (lines ++ codes "list\n")
-HasSent lines old new (Err (Fatal why)) = Appends old new (lines ++ codes "list\n")
-HasSent lines old new (Err _) = ⊤

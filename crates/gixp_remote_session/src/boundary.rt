@@ -1,12 +1,15 @@
 //! Changes the shallow boundary, under git's own lock (gitrepository-layout, "shallow").
 ghost use Rattle.std.specs.Prelude.{◌≡◌, ◌++◌, option_map, IfOk};
 ghost use Rattle.gixp_remote_rules.specs.ShallowBoundary.{boundary_value};
-ghost use Rattle.gixp_remote_session.specs.Boundaries.{boundary_then, ChangesTo};
+ghost use Rattle.gixp_fetch_common.specs.ChangedBoundary.{ChangesTo};
+ghost use Rattle.gixp_remote_session.specs.Boundaries.{boundary_then};
 
 use crate::connectivity::present_ids;
 use crate::error::Error;
+use crate::fetch_result::FetchResult;
 use crate::job::FetchJob;
-use crate::pack::{FetchResult, PackPlan, make_folder};
+use crate::pack::plan::PackPlan;
+use crate::pack::quarantine::make_folder;
 use crate::paths::RepositoryPaths;
 use crate::pipes::BOUNDARY;
 use crate::shell::Shell;
@@ -39,7 +42,7 @@ pub(crate) fn boundary_of(
         before = present_ids(job, shell, plan, &[], &ids, false)?;
         commits = present_ids(job, shell, plan, fetched.variables(plan), &ids, true)?;
     }
-    let boundary = boundary_after(alloc, policy, &known, &fetched.boundary, &before, &commits)?;
+    let boundary = boundary_after(alloc, policy, &fetched.boundary, &ids, &before, &commits)?;
     Ok((boundary, !before.is_empty()))
 }
 

@@ -1,33 +1,34 @@
 //! Starts the server, and opens a session with it.
-ghost use Rattle.std.specs.Prelude.{◌≡◌, ◌≢◌, IfOk, Ok};
+ghost use Rattle.std.specs.Prelude.{◌≡◌, ◌≢◌, ◌↔◌, IfOk, IsOk, Ok};
 ghost use Rattle.std.specs.Option.{option_map};
 ghost use Rattle.bstr.specs.Owned.{bstring_bytes};
 ghost use Rattle.gixp_remote_rules.specs.declared.ssh.Variant.TheVariants.{Auto};
 ghost use Rattle.gixp_remote_session.specs.UserConfig.{IsProbedVariant};
 
 use crate::error::Error;
-use crate::messages::MessagePrinter;
 use crate::pipes::{FROM_SERVER, TO_SERVER};
 use crate::readiness::Readiness;
+use crate::relay::Relay;
 use crate::server_config::{
     check_allowed, check_family, choose_opening, choose_ssh, choose_variant, variant_by_probe,
 };
-use crate::setup::{bytes_of, variable, version_word};
-use crate::shallow_tap::{ShallowTap, ShallowUpdates, clear_updates};
+use crate::setup::{bytes_of, variable, version_number, version_word};
+use crate::shallow_observer::{ShallowObserver, ShallowUpdates, clear_updates};
 use crate::shell::{NOTHING, Shell, owned_argv};
 use crate::transport::{HelperSession, HelperTransport, ResponseReader, ServerOutput, WithoutUris};
 use crate::uris::{UriRecorder, Uris, protocols_of};
 use crate::web::connect_stateless;
 use bstr::BString;
-use gix_protocol::client::UriProtocols;
+use gix_protocol::client::{Tap, UriProtocols};
 use gix_protocol::transport::{Connection, Discard, Opening, Protocol};
+use gixp_fetch_common::messages::MessagePrinter;
 use gixp_fetch_common::session::open;
 use gixp_packfile_uris::PackfileUris;
 use gixp_remote_rules::{
     Family, HelperOptions, Program, Settings, ShellRequest, ShellTask, SshCall, Start, UriSetting,
     Variant, probe_argv, proxy_for, server_argv, server_variables, upload_pack_argv, web_argv,
 };
-use gixp_stateless::Answers;
+use gixp_response_end::Answers;
 use gixp_url::{Address, Scheme};
 use std::alloc::AllocError;
 use std::cell::{Cell, RefCell};
@@ -62,8 +63,8 @@ pub(crate) struct ServerContext<'a> {
 // Fails if the user doesn't allow the protocol.
 fn check_policy(context: ServerContext<'_>) -> Result<(), Error> {
     let transport = context.address.scheme.name().as_bytes();
-    let list = variable(context.rt, "GIT_ALLOW_PROTOCOL");
-    let from_user = variable(context.rt, "GIT_PROTOCOL_FROM_USER");
+    let list = variable(context.rt, "GIT_ALLOW_PROTOCOL")?;
+    let from_user = variable(context.rt, "GIT_PROTOCOL_FROM_USER")?;
     check_allowed(
         context.rt.alloc(),
         transport,
@@ -74,15 +75,15 @@ fn check_policy(context: ServerContext<'_>) -> Result<(), Error> {
 }
 
 // The user's command for ssh, and whether it is a shell command.
-fn ssh_program(context: ServerContext<'_>) -> Result<(Vec<u8>, Program), AllocError> {
-    let command = variable(context.rt, "GIT_SSH_COMMAND");
-    let program = variable(context.rt, "GIT_SSH");
-    choose_ssh(
+fn ssh_program(context: ServerContext<'_>) -> Result<(Vec<u8>, Program), Error> {
+    let command = variable(context.rt, "GIT_SSH_COMMAND")?;
+    let program = variable(context.rt, "GIT_SSH")?;
+    Ok(choose_ssh(
         context.rt.alloc(),
         bytes_of(&command),
         context.settings.value(b"core.sshcommand"),
         bytes_of(&program),
-    )
+    )?)
 }
 
 fn ssh_variant(
@@ -92,7 +93,7 @@ fn ssh_variant(
     program: Program,
     call: SshCall<'_>,
 ) -> Result<Variant, Error> {
-    let named = variable(context.rt, "GIT_SSH_VARIANT");
+    let named = variable(context.rt, "GIT_SSH_VARIANT")?;
     let setting = context.settings.value(b"ssh.variant");
     let variant = choose_variant(bytes_of(&named), setting, program, command);
     unless_auto(context.rt, shell, command, program, call, variant)
@@ -181,7 +182,7 @@ fn connect_daemon(
     let alloc = context.rt.alloc();
     let port = port_of(context).unwrap_or(b"9418");
     let host = context.address.host.as_bytes();
-    let chosen = variable(context.rt, "GIT_PROXY_COMMAND");
+    let chosen = variable(context.rt, "GIT_PROXY_COMMAND")?;
     let authority = context.address.authority.as_bytes();
     match proxy_for(context.settings, bytes_of(&chosen), authority) {
         Some(command) => {
@@ -198,12 +199,10 @@ fn connect_daemon(
 
 // Starts git's own program for HTTP. It keeps the variables of the repository.
 fn start_web(context: ServerContext<'_>, shell: &mut Shell) -> Result<(), Error> {
-    if context.version != Protocol::V2 {
-        return Err(Error::Fatal("git-remote-gixp speaks only protocol version 2 over HTTP"));
-    }
+    let version = version_number(context.version);
     let scheme = context.address.scheme.name().as_bytes();
     let url = context.address.path.as_bytes();
-    let argv = web_argv(context.rt.alloc(), scheme, context.name, url)?;
+    let argv = web_argv(context.rt.alloc(), version, scheme, context.name, url)?;
     start_with(context, shell, Program::Git, &[], &argv)
 }
 
@@ -225,6 +224,7 @@ fn start_with(
     variables: &[BString],
     argv: &[BString],
 ) -> Result<(), Error> {
+    shell.has_socket = program == Program::Socket;
     let status = shell.ask(&ShellRequest::Start(Start {
         task: ShellTask::Server,
         program,
@@ -245,25 +245,23 @@ fn start_with(
 }
 
 // The opening request to a `git://` server.
-fn opening_of(context: ServerContext<'_>) -> Result<Option<Opening>, AllocError> {
-    let host = variable(context.rt, "GIT_OVERRIDE_VIRTUAL_HOST");
-    choose_opening(context.rt.alloc(), context.address, bytes_of(&host))
+fn opening_of(context: ServerContext<'_>) -> Result<Option<Opening>, Error> {
+    let host = variable(context.rt, "GIT_OVERRIDE_VIRTUAL_HOST")?;
+    Ok(choose_opening(context.rt.alloc(), context.address, bytes_of(&host))?)
 }
 
-// The output of the server.
-fn server_output(
+// Whether git's program for HTTP carries requests of version 2.
+fn carries_requests(
     context: ServerContext<'_>,
-    from: File,
+    from: &mut BufReader<File>,
     to: &mut BufWriter<File>,
     options: &HelperOptions,
-) -> Result<ServerOutput, Error> {
-    if !context.address.scheme.is_web() {
-        return Ok(ServerOutput::Stream(from));
+) -> Result<bool, Error> {
+    if context.version != Protocol::V2 {
+        return Ok(false);
     }
     let alloc = context.rt.alloc();
-    let mut from = BufReader::new(alloc, from)?;
-    connect_stateless(alloc, &mut from, to, options.is_quiet, options.family)?;
-    Ok(ServerOutput::Answers(Answers::new(from)))
+    connect_stateless(alloc, from, to, options.is_quiet, options.family)
 }
 
 // The output of the server. If the server may name packs by URIs, the section `packfile-uris` is
@@ -285,15 +283,19 @@ fn response_reader<'a>(
     Ok(ResponseReader::WithoutUris(WithoutUris { reader, uris }))
 }
 
-fn open_transport<'a>(
-    context: ServerContext<'a>,
-    options: &HelperOptions,
-) -> Result<HelperTransport<'a>, Error> {
-    let alloc = context.rt.alloc();
+// The pipes to the server and from it.
+fn open_pipes(context: ServerContext<'_>) -> Result<(File, BufWriter<File>), Error> {
     let to = OpenOptions::new().write(true).open(context.rt, TO_SERVER)?;
     let from = File::open(context.rt, FROM_SERVER)?;
-    let mut to = BufWriter::new(alloc, to)?;
-    let output = server_output(context, from, &mut to, options)?;
+    Ok((from, BufWriter::new(context.rt.alloc(), to)?))
+}
+
+fn open_transport<'a>(
+    context: ServerContext<'a>,
+    output: ServerOutput,
+    to: BufWriter<File>,
+) -> Result<HelperTransport<'a>, Error> {
+    let alloc = context.rt.alloc();
     let url = context.address.path.clone()?;
     let connection = Connection::new(
         alloc,
@@ -304,7 +306,11 @@ fn open_transport<'a>(
         Vec::new(alloc),
         opening_of(context)?,
     )?;
-    Ok(ShallowTap::new(connection, context.shallow_updates, context.readiness))
+    let observer = ShallowObserver {
+        shallow_updates: context.shallow_updates,
+        readiness: context.readiness,
+    };
+    Ok(Tap::new(connection, observer))
 }
 
 /// Starts the server, if the user allows its protocol. The shell kills the server that was started
@@ -323,14 +329,15 @@ pub(crate) fn start_server(
     }
 }
 
-/// Opens a session with the server that was started.
-pub(crate) fn shake_hands<'a>(
+// Opens a session over the pipes of the server.
+fn open_session<'a>(
     context: ServerContext<'a>,
-    options: &HelperOptions,
+    output: ServerOutput,
+    to: BufWriter<File>,
 ) -> Result<HelperSession<'a>, Error> {
     context.has_failed.set(false);
     clear_updates(context.shallow_updates);
-    let transport = open_transport(context, options)?;
+    let transport = open_transport(context, output, to)?;
     let printer = MessagePrinter::new(context.rt, context.erases, context.has_failed)?;
     let mut session = open(context.rt.alloc(), transport, "gixp", printer, Discard)?;
     if let Some(id) = context.session_id {
@@ -338,6 +345,77 @@ pub(crate) fn shake_hands<'a>(
         let _ = session.set_session_id(id)?;
     }
     Ok(session)
+}
+
+/// What the helper has of a server that was started.
+#[derive(Drop)]
+pub(crate) enum Connected<'a> {
+    /// A session.
+    Session(HelperSession<'a>),
+    /// A web server of another version than 2.
+    Relay(Relay),
+}
+
+/// Opens a session with the server that was started, unless it is a web server that doesn't speak
+/// version 2.
+pub(crate) fn connect<'a>(
+    context: ServerContext<'a>,
+    options: &HelperOptions,
+) -> Result<Connected<'a>, Error> {
+    let (from, mut to) = open_pipes(context)?;
+    if !context.address.scheme.is_web() {
+        return Ok(Connected::Session(open_session(context, ServerOutput::Stream(from), to)?));
+    }
+    let mut from = BufReader::new(context.rt.alloc(), from)?;
+    if carries_requests(context, &mut from, &mut to, options)? {
+        let output = ServerOutput::Answers(Answers::new(from));
+        Ok(Connected::Session(open_session(context, output, to)?))
+    } else {
+        Ok(Connected::Relay(Relay { from, to }))
+    }
+}
+
+/// Opens a session with the server that was started.
+pub(crate) fn shake_hands<'a>(
+    context: ServerContext<'a>,
+    options: &HelperOptions,
+) -> Result<HelperSession<'a>, Error> {
+    match connect(context, options)? {
+        Connected::Session(session) => Ok(session),
+        Connected::Relay(_) => Err(Error::Fatal("the server doesn't speak version 2 any more")),
+    }
+}
+
+// Fails if the server's program exited with another status than 0.
+fn expect_success(status: u32) -> Result<(), Error>
+    ensures { IsOk result ↔ (status ≡ 0) }
+{
+    if status == 0 {
+        Ok(())
+    } else {
+        Err(Error::Status("the server's program exited with status", status))
+    }
+}
+
+/// Ends the session after a fetch, and waits until the server exits. As in git, the fetch fails if
+/// the server's program did, but what was fetched stays. A connection to a host has no status.
+pub(crate) fn end_server(
+    context: ServerContext<'_>,
+    shell: &mut Shell,
+    session: Option<HelperSession<'_>>,
+) -> Result<(), Error> {
+    if let Some(session) = session {
+        drop_session(context, session);
+    }
+    if shell.has_socket {
+        return Ok(());
+    }
+    expect_success(shell.status(ShellTask::Server)?)
+}
+
+/// Waits until git's program for HTTP exits.
+pub(crate) fn wait_for_exit(shell: &mut Shell) {
+    let _ = shell.status(ShellTask::Server);
 }
 
 /// Ends a session that succeeded. Waits for git's program for HTTP, which saves cookies when it
@@ -349,7 +427,7 @@ pub(crate) fn end_session(
 ) {
     drop_session(context, session);
     if context.address.scheme.is_web() {
-        let _ = shell.ask(&ShellRequest::Status(ShellTask::Server));
+        wait_for_exit(shell);
     }
 }
 

@@ -2,11 +2,13 @@
 ghost use Rattle.std.specs.Prelude.{◌≡◌, ◌↔◌, IsOk};
 
 use crate::error::Error;
+use crate::fetch_result::FetchResult;
 use crate::job::FetchJob;
-use crate::pack::{FetchResult, PackPlan, make_folder};
+use crate::pack::plan::PackPlan;
+use crate::pack::quarantine::make_folder;
 use crate::pipes::{BOUNDARY, IDS};
 use crate::repository::listed_objects;
-use crate::shell::{Output, Shell};
+use crate::shell::{GitOutput, Shell};
 use bstr::BString;
 use gix_protocol::fetch::shallow_text;
 use gix_protocol::transport::ObjectId;
@@ -26,7 +28,7 @@ fn ask_about(
     variables: &[BString],
     question: Question<'_>,
     ids: &[ObjectId],
-) -> Result<Output, Error> {
+) -> Result<GitOutput, Error> {
     let rt = job.context.rt;
     let alloc = rt.alloc();
     let text = shallow_text(alloc, ids)?;

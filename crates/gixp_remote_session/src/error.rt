@@ -1,13 +1,12 @@
 //! Errors of the helper, and their texts.
 ghost use Rattle.std.specs.Prelude.{◌≡◌};
 ghost use Rattle.std.specs.IoError.{error_kind};
-ghost use Rattle.gixp_remote_session.specs.Errors.{ErrorIsWord, ErrorIsVariable, prefix_of, is_hang_up};
+ghost use Rattle.gixp_remote_session.specs.Errors.{ErrorIsWord, ErrorIsVariable, ErrorIsStatus, prefix_of, is_hang_up, error_kind_of};
 ghost use Rattle.gixp_remote_session.specs.declared.error.Error.TheVariants as variants;
 
-use crate::web::NO_VERSION_2;
 use bstr::{BStr, BString};
 use gixp_fetch_common::failure::Failure;
-use gixp_remote_rules::{SshError, printable_text};
+use gixp_remote_rules::{SshError, has_reported, printable_text};
 use gixp_url::UrlError;
 use std::alloc::{AllocError, AllocFailed, Global};
 use std::fmt::Display;
@@ -31,10 +30,10 @@ pub(crate) enum Error {
     Fatal(&'static str),
     /// A program that the helper started has reported the error.
     AlreadyReported,
-    /// A web server that doesn't speak version 2 and lists no refs.
-    NoRefs,
     /// An error about a value: its text, and the value.
     Word(&'static str, BString),
+    /// A program exited with another status than 0: which program, and the status.
+    Status(&'static str, u32),
     /// An environment variable that must be a boolean: its name and its value.
     Variable(&'static str, BString),
     /// The pack from a URI isn't the one that the server named: the URI, and the hash.
@@ -132,7 +131,7 @@ impl Error {
     {
         match self {
             Error::Fetch(e) if e.is_said_by_git() => "fatal",
-            Error::Word(_, _) | Error::Url(_) | Error::Fatal(_) | Error::NoRefs => "fatal",
+            Error::Word(_, _) | Error::Url(_) | Error::Fatal(_) => "fatal",
             Error::Variable(_, _) | Error::Password(_) | Error::Ssh(_) => "fatal",
             Error::Mismatch(_, _) => "fatal",
             _ => "git-remote-gixp",
@@ -149,8 +148,8 @@ impl Display for Error {
             Error::UnknownCommand(line) => write!(f, "unknown command: {line}"),
             Error::Other(why) | Error::Fatal(why) => f.write_str(why),
             Error::AlreadyReported => Ok(()),
-            Error::NoRefs => f.write_str(NO_VERSION_2),
             Error::Word(why, word) => write!(f, "{why} '{word}'"),
+            Error::Status(why, status) => write!(f, "{why} {status}"),
             Error::Variable(name, value) => {
                 write!(f, "bad boolean environment value '{value}' for '{name}'")
             }
@@ -162,6 +161,28 @@ impl Display for Error {
             Error::Ssh(e) => write!(f, "{e}"),
             Error::Memory => write!(f, "out of memory"),
         }
+    }
+}
+
+/// The error of a question to git, by its exit status. git has printed why, or the status is shown.
+pub(crate) fn unless_reported(status: u32, why: &'static str) -> Error
+    ensures { ErrorIsStatus why.now status result }
+{
+    if has_reported(status) {
+        Error::AlreadyReported
+    } else {
+        Error::Status(why, status)
+    }
+}
+
+/// The kind of an error, for callers that report only a kind.
+pub(crate) fn error_kind_of(e: &Error) -> ErrorKind
+    ensures { result ≡ error_kind_of e.now }
+{
+    match e {
+        Error::Io(kind) => *kind,
+        Error::Memory => ErrorKind::OutOfMemory,
+        _ => ErrorKind::Other,
     }
 }
 

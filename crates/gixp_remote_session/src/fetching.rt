@@ -1,7 +1,8 @@
 //! One fetch of objects by their ids.
-ghost use Rattle.std.specs.Prelude.{◌≡◌};
+ghost use Rattle.std.specs.Prelude.{◌≡◌, ◌==◌, Bool, length, IfOk};
+ghost use Rattle.gixp_remote_rules.specs.HelperOptions.{options_value};
 ghost use Rattle.gixp_remote_session.specs.ServerLeft.{server_left};
-ghost use Rattle.gixp_remote_session.specs.Packs.{ErrorIsFailure};
+ghost use Rattle.gixp_remote_session.specs.Packs.{ErrorIsFailure, is_connected};
 
 use crate::boundary::{
     boundary_of, changed, lock_boundary, prepare_boundary, replace_boundary, unlock_boundary,
@@ -9,6 +10,7 @@ use crate::boundary::{
 use crate::connect::{ServerContext, drop_session, shake_hands, start_server};
 use crate::connectivity::check_connected;
 use crate::error::Error;
+use crate::fetch_result::FetchResult;
 use crate::fsck::fsck_argv;
 use crate::history::shallow_of;
 use crate::job::{
@@ -16,13 +18,14 @@ use crate::job::{
     start_borrowed_questions, start_questions,
 };
 use crate::migrate::{migrate_objects, migrate_pack};
-use crate::pack::{
-    BAD_HEADER, FetchResult, PackPlan, PackPreamble, PackRules, PackState, QuarantinedPack,
-};
+use crate::pack::plan::{PackPlan, PackRules};
+use crate::pack::run::BAD_HEADER;
+use crate::pack::state::PackState;
+use crate::pack::{PackPreamble, QuarantinedPack};
 use crate::paths::RepositoryPaths;
 use crate::readiness::Readiness;
-use crate::shallow_tap::clear_updates;
-use crate::shell::Shell;
+use crate::shallow_observer::clear_updates;
+use crate::shell::{NOT_STARTED, Shell};
 use crate::transport::HelperSession;
 use crate::unpacking::choose_limit;
 use crate::uris::{clear_uris, download_all, expect_lines};
@@ -36,7 +39,7 @@ use gixp_fetch_common::receive::PackReceiver;
 use gixp_fetch_common::repository::KnownRepository;
 use gixp_fetch_common::session::{MappedFetch, ask_filter};
 use gixp_fetch_common::{Haves, PackPlace};
-use gixp_remote_rules::{BoundaryChange, reports_connectivity};
+use gixp_remote_rules::{BoundaryChange, HelperOptions, reports_connectivity};
 use std::alloc::Global;
 use std::fs::File;
 use std::io::ErrorKind;
@@ -103,12 +106,14 @@ fn keep_pack<P: PackPlace>(
     Ok(boundary.with_unasked(alloc)?)
 }
 
-// The error of a fetch. A bad pack header and a refused pack override the session's error.
+// The error of a fetch. A bad pack header, a git that isn't started and a refused pack override the
+// session's error.
 fn error_of(pack: PackState, e: Failure) -> Error
     ensures { ErrorIsFailure pack e result }
 {
     match pack {
         PackState::Unreadable => Error::Fatal(BAD_HEADER),
+        PackState::Unstarted => Error::Other(NOT_STARTED),
         PackState::Refused => Error::Fetch(Failure::PackRefused),
         PackState::Unbegun
         | PackState::Begun
@@ -268,6 +273,7 @@ fn migrate_packs(
         PackState::Unbegun
         | PackState::Begun
         | PackState::Unreadable
+        | PackState::Unstarted
         | PackState::Refused
         | PackState::Empty(_) => Ok(None),
     }
@@ -281,7 +287,10 @@ fn finish_fetch(
     paths: &RepositoryPaths,
     old: &[ObjectId],
     fetched: &FetchResult,
-) -> Result<FetchReply, Error> {
+) -> Result<FetchReply, Error>
+    ensures connected { IfOk result (λ reply. (was_here : Bool) × (reply.is_connected ≡ is_connected
+        (options_value plan.entry.job.options.now) fetched.now.pack (length fetched.now.packs.items == 0) was_here)) }
+{
     let job = plan.job;
     let rt = job.context.rt;
     let (boundary, was_here) = boundary_of(job, shell, plan.pack, old, fetched)?;
@@ -303,13 +312,27 @@ fn finish_fetch(
         Some(new) => replace_boundary(rt, shell, paths, new)?,
         None => unlock_boundary(job.options, shell, paths)?,
     }
-    let is_connected = match fetched.pack {
-        PackState::Indexed(indexed) if fetched.packs.is_empty() => {
-            reports_connectivity(job.options, indexed.has_boundary, was_here, indexed.status)
-        }
-        _ => false,
-    };
+    let is_connected = is_connected(job.options, fetched, was_here);
     Ok(FetchReply { lock, is_connected })
+}
+
+// Whether git checked connectivity: it did so only if one pack came, and it indexed that.
+fn is_connected(options: &HelperOptions, fetched: &FetchResult, was_here: bool) -> bool
+    ensures { result ≡ is_connected (options_value options.now) fetched.now.pack (length fetched.now.packs.items == 0) was_here }
+{
+    match fetched.pack {
+        PackState::Indexed(indexed) => {
+            fetched.packs.is_empty()
+                && reports_connectivity(options, indexed.has_boundary, was_here, indexed.status)
+        }
+        PackState::Unbegun
+        | PackState::Begun
+        | PackState::Unreadable
+        | PackState::Unstarted
+        | PackState::Refused
+        | PackState::Unpacked(_)
+        | PackState::Empty(_) => false,
+    }
 }
 
 /// Fetches objects by their ids. The quarantine gets this name.
@@ -329,8 +352,8 @@ pub(crate) fn fetch<'a>(
     }
     let old = paths.boundary(rt)?;
     let shallow = shallow_of(rt, shell, job.options)?;
-    let has_alternates = paths.has_alternates(rt);
-    let haves = haves_for(job, has_alternates);
+    let has_alternates = paths.has_alternates(rt)?;
+    let haves = haves_for(job, has_alternates)?;
     if commits.is_none() {
         commits = start_borrowed_questions(job, shell, has_alternates, haves)?;
     }

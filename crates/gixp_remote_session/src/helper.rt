@@ -1,20 +1,26 @@
 //! The conversation with git.
-use crate::connect::{ServerContext, drop_session, end_session, shake_hands, start_server};
+use crate::connect::{
+    Connected, ServerContext, connect, drop_session, end_server, end_session, start_server,
+    wait_for_exit,
+};
 use crate::error::{Error, print_error};
 use crate::fetching::{OpenSession, fetch};
 use crate::job::FetchJob;
 use crate::listing::{RefListing, ref_listing};
-use crate::pack::clear_folder;
+use crate::pack::quarantine::clear_folder;
 use crate::readiness::Readiness;
+use crate::relay::Relay;
 use crate::server_config::check_password;
 use crate::session_id::session_id;
 use crate::setup::{StartupInput, read_settings, read_startup, variable, version_of, within};
-use crate::shallow_tap::ShallowUpdates;
+use crate::shallow_observer::ShallowUpdates;
 use crate::shell::Shell;
 use crate::uris::Uris;
 use bstr::{BString, ByteSlice};
 use gixp_fetch_common::session::refs;
-use gixp_remote_rules::{Conversation, Reaction, Settings, Within, batch_reply, uri_setting};
+use gixp_remote_rules::{
+    Conversation, Reaction, Settings, Within, batch_reply, pass_on, uri_setting,
+};
 use gixp_url::Address;
 use std::cell::{Cell, RefCell};
 use std::io;
@@ -59,6 +65,8 @@ struct Helper<'a> {
     context: ServerContext<'a>,
     shell: Shell,
     open: OpenSession<'a>,
+    // git's program for HTTP, if it gets git's commands.
+    relay: Option<Relay>,
     // The options that git set, and the batch.
     conversation: Conversation,
     // The number of batches that were fetched.
@@ -79,27 +87,33 @@ impl Helper<'_> {
             self.conversation.options.family,
         )?;
         let rt = self.context.rt;
-        if variable(rt, "GIT_DIR").is_some() && variable(rt, "GIT_DEFAULT_HASH").is_none() {
+        if variable(rt, "GIT_DIR")?.is_some() && variable(rt, "GIT_DEFAULT_HASH")?.is_none() {
             self.shell.ask_paths()?;
         }
         Ok(())
     }
 
-    // Lists the refs over a session, which stays open. A web server that isn't a git server has no
-    // refs, as in git.
+    // Starts the server, and opens a session with it or passes git's commands on.
+    fn connect(&mut self) -> Result<(), Error> {
+        self.begin_server()?;
+        match connect(self.context, &self.conversation.options)? {
+            Connected::Session(session) => self.open = Some(session),
+            Connected::Relay(relay) => {
+                self.conversation.is_relayed = true;
+                self.relay = Some(relay);
+            }
+        }
+        Ok(())
+    }
+
+    // The refs, listed over the open session.
     fn refs(&mut self) -> Result<RefListing, Error> {
         let alloc = self.context.rt.alloc();
+        let Some(session) = &mut self.open else {
+            return Err(Error::Other("no session with the server is open"));
+        };
         let lists_format = self.conversation.options.lists_format;
-        self.begin_server()?;
-        match shake_hands(self.context, &self.conversation.options) {
-            Ok(mut session) => {
-                let listing = ref_listing(alloc, refs(alloc, &mut session)?, lists_format)?;
-                self.open = Some(session);
-                Ok(listing)
-            }
-            Err(Error::NoRefs) => Ok(ref_listing(alloc, &[], lists_format)?),
-            Err(e) => Err(e),
-        }
+        Ok(ref_listing(alloc, refs(alloc, session)?, lists_format)?)
     }
 
     fn list(&mut self) -> Result<(), Error> {
@@ -125,6 +139,7 @@ impl Helper<'_> {
             ids: &ids,
         };
         let fetched = fetch(job, &mut self.shell, &mut self.open, &folder)?;
+        end_server(self.context, &mut self.shell, self.open.take())?;
         self.shell.stop_watch()?;
         let lock = match &fetched.reply.lock {
             Some(lock) => Some(lock.as_bytes()),
@@ -139,11 +154,46 @@ impl Helper<'_> {
         Ok(())
     }
 
+    // Whether the server must be started before this: each list and each batch over HTTP has a
+    // session of its own, unless git's commands are passed on.
+    fn needs_server(&self, reaction: Reaction) -> bool {
+        match reaction {
+            Reaction::List => self.relay.is_none(),
+            Reaction::Fetch => {
+                self.context.address.scheme.is_web() && self.open.is_none() && self.relay.is_none()
+            }
+            Reaction::Stop | Reaction::Reply(_) | Reaction::Refuse => false,
+        }
+    }
+
+    // Passes a list or a batch on to git's program for HTTP. Returns false if no such program gets
+    // git's commands.
+    fn relay(&mut self, reaction: Reaction) -> Result<bool, Error> {
+        let Some(relay) = &mut self.relay else {
+            return Ok(false);
+        };
+        let rt = self.context.rt;
+        let relayed = pass_on(rt.alloc(), &mut self.conversation, reaction)?;
+        relay.pass(rt, &mut self.shell, &relayed)?;
+        Ok(true)
+    }
+
     // Handles a reaction. Returns whether the conversation goes on.
     fn handle(&mut self, reaction: Reaction) -> Result<bool, Error> {
+        if self.needs_server(reaction) {
+            self.connect()?;
+        }
         match reaction {
-            Reaction::List => self.list()?,
-            Reaction::Fetch => self.fetch_batch()?,
+            Reaction::List => {
+                if !self.relay(reaction)? {
+                    self.list()?;
+                }
+            }
+            Reaction::Fetch => {
+                if !self.relay(reaction)? {
+                    self.fetch_batch()?;
+                }
+            }
             Reaction::Stop | Reaction::Reply(_) | Reaction::Refuse => return Ok(false),
         }
         Ok(true)
@@ -161,8 +211,26 @@ impl Helper<'_> {
         Ok(())
     }
 
+    // Ends git's program for HTTP, if it gets git's commands. It saves cookies when it exits.
+    fn end_relay(&mut self) {
+        let Some(relay) = &mut self.relay else {
+            return;
+        };
+        if let Ok(relayed) = pass_on(
+            self.context.rt.alloc(),
+            &mut self.conversation,
+            Reaction::Stop,
+        ) {
+            relay.finish(&relayed);
+        }
+        wait_for_exit(&mut self.shell);
+    }
+
     // Ends the session, if one is open.
     fn close(&mut self, is_well: bool) {
+        if is_well {
+            self.end_relay();
+        }
         if let Some(session) = self.open.take() {
             if is_well {
                 end_session(self.context, &mut self.shell, session);
@@ -206,7 +274,7 @@ fn serve<R: BufRead>(
             name: &state.startup.name,
             address: &state.address,
             settings: &state.settings,
-            version: version_of(&state.rt, &state.settings),
+            version: version_of(&state.rt, &state.settings)?,
             session_id: state.session_id.as_deref(),
             erases: state.startup.erases,
             has_failed: &state.has_failed,
@@ -217,6 +285,7 @@ fn serve<R: BufRead>(
         },
         shell,
         open: None,
+        relay: None,
         conversation,
         batches: 0,
         mark: Vec::from_slice(alloc, state.startup.mark.as_bytes())?,
@@ -231,7 +300,7 @@ fn serve<R: BufRead>(
 /// question again.
 pub(crate) fn converse(rt: &HostRuntime) -> Result<(), Error> {
     let alloc = rt.alloc();
-    if within(rt) == Within::Question {
+    if within(rt)? == Within::Question {
         return Err(Error::Other(
             "nothing is fetched while git answers a question of another helper",
         ));

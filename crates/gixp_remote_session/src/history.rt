@@ -3,14 +3,14 @@ ghost use Rattle.std.specs.Prelude.{◌≡◌, ◌∷◌, [], ◌++◌, false, m
 ghost use Rattle.bstr.specs.Owned.{bstring_bytes};
 ghost use Rattle.gix_protocol.specs.PartialName.{name_bytes};
 ghost use Rattle.gix_protocol.specs.Shallow.{shallow_value};
-ghost use Rattle.gixp_remote_session.specs.History.{has_two_limits, IsPart, IsRequested};
+ghost use Rattle.gixp_remote_session.specs.History.{has_two_limits, limits_by, IsPart, IsRequested};
 
 use crate::error::Error;
 use crate::shell::Shell;
 use bstr::{BString, ByteSlice};
 use gix_protocol::fetch::Shallow;
 use gix_protocol::refspec::PartialName;
-use gixp_remote_rules::{Depth, HelperOptions, Question};
+use gixp_remote_rules::{Depth, HelperOptions, Question, time_answer};
 use std::alloc::Global;
 use std::num::NonZeroU32;
 
@@ -18,8 +18,7 @@ use std::num::NonZeroU32;
 fn seconds_of(rt: &HostRuntime, shell: &mut Shell, since: &[u8]) -> Result<i64, Error> {
     let alloc = rt.alloc();
     let output = shell.ask_git(rt, Question::Time(since))?;
-    let line = output.text.as_slice().trim();
-    let Some(digits) = line.strip_prefix(b"--max-age=") else {
+    let Some(digits) = time_answer(&output.text, output.status) else {
         return Err(Error::with_text(alloc, "this is not a time:", since));
     };
     match digits.to_str() {
@@ -54,6 +53,27 @@ fn names_of(alloc: Global, excluded: &[BString]) -> Result<Vec<PartialName>, Err
     Ok(names)
 }
 
+// The limits by excluded refs and by a time in seconds.
+fn limits_by(
+    alloc: Global,
+    excluded: &[BString],
+    since_cutoff: Option<i64>,
+) -> Result<Shallow, Error>
+    ensures limits { IfOk result (λ s. shallow_value s ≡ limits_by excluded.now since_cutoff) }
+    ensures part { IfOk result (λ s. IsPart excluded.now (is_some since_cutoff) (shallow_value s)) }
+{
+    if !excluded.is_empty() {
+        return Ok(Shallow::Exclude {
+            remote_refs: names_of(alloc, excluded)?,
+            since_cutoff,
+        });
+    }
+    match since_cutoff {
+        Some(cutoff) => Ok(Shallow::Since { cutoff }),
+        None => Ok(Shallow::NoChange),
+    }
+}
+
 // The limits by a time and by excluded refs.
 fn limits_of(rt: &HostRuntime, shell: &mut Shell, options: &HelperOptions) -> Result<Shallow, Error>
     ensures { IfOk result (λ s. IsPart options.now.excluded.items (is_some options.now.since) (shallow_value s)) }
@@ -62,16 +82,7 @@ fn limits_of(rt: &HostRuntime, shell: &mut Shell, options: &HelperOptions) -> Re
         Some(since) => Some(seconds_of(rt, shell, since.as_bytes())?),
         None => None,
     };
-    if !options.excluded.is_empty() {
-        return Ok(Shallow::Exclude {
-            remote_refs: names_of(rt.alloc(), &options.excluded)?,
-            since_cutoff,
-        });
-    }
-    match since_cutoff {
-        Some(cutoff) => Ok(Shallow::Since { cutoff }),
-        None => Ok(Shallow::NoChange),
-    }
+    limits_by(rt.alloc(), &options.excluded, since_cutoff)
 }
 
 // Whether a depth is set and a time or an excluded ref too. No server accepts both.

@@ -1,5 +1,5 @@
 //! A fetch that git asks for: the request to the server, and the commits for haves.
-ghost use Rattle.std.specs.Prelude.{◌≡◌, ◌&&◌, ◌||◌, true, false, not, IfOk, map, option_map, string_bytes};
+ghost use Rattle.std.specs.Prelude.{◌≡◌, ◌&&◌, ◌||◌, if◌then◌else◌, true, false, not, IfOk, Ok, map, option_map, string_bytes};
 ghost use Rattle.bstr.specs.Owned.{bstring_bytes};
 ghost use Rattle.gix_protocol.specs.Values.{mapping_value};
 ghost use Rattle.gixp_shallow.specs.Shallow.{shallow_value};
@@ -25,8 +25,7 @@ use gix_protocol::transport::{Kind, ObjectId};
 use gixp_fetch_common::Haves;
 use gixp_fetch_common::repository::KnownRepository;
 use gixp_remote_rules::{
-    HelperOptions, Program, Question, ShellRequest, ShellTask, Start, listing_argv,
-    question_variables,
+    HelperOptions, Program, Question, ShellTask, Start, listing_argv, question_variables,
 };
 use std::alloc::{AllocError, Global};
 use std::fs::File;
@@ -63,8 +62,7 @@ pub(crate) fn map_of_ids(alloc: Global, ids: &[ObjectId]) -> Result<RefMap, Erro
 }
 
 fn tags_of(options: &HelperOptions) -> Tags
-    ensures followed { options.now.follows_tags ≡ true → result ≡ Included }
-    ensures left { options.now.follows_tags ≡ false → result ≡ None }
+    ensures { result ≡ (if options.now.follows_tags then Included else None) }
 {
     if options.follows_tags {
         Tags::Included
@@ -80,7 +78,10 @@ pub(crate) fn request_of(
     job: FetchJob<'_, '_>,
     shallow: &Shallow,
 ) -> Result<Request, AllocError>
+    ensures tags { IfOk result (λ request. request.tags ≡ (if job.entry.options.now.follows_tags then Included else None)) }
     ensures shallow { IfOk result (λ request. shallow_value request.shallow ≡ shallow_value shallow.now) }
+    ensures goes_on { IfOk result (λ request. request.goes_on ≡ true) }
+    ensures pipes { IfOk result (λ request. request.is_over_pipes ≡ true) }
     ensures rejects { IfOk result (λ request. request.rejects_shallow ≡ job.entry.options.now.rejects_shallow) }
     ensures progress { IfOk result (λ request. request.wants_progress ≡ (job.entry.options.now.shows_progress && not job.entry.options.now.is_quiet)) }
     ensures uris { IfOk result (λ request. request.uri_protocols
@@ -113,18 +114,17 @@ pub(crate) fn filter_of(alloc: Global, options: &HelperOptions) -> Result<Option
 // Starts git, which lists commits while the haves are sent.
 fn start_listing(job: FetchJob<'_, '_>, shell: &mut Shell) -> Result<(), Error> {
     let alloc = job.context.rt.alloc();
-    let limit = variable(job.context.rt, "GIXP_COMMITS");
+    let limit = variable(job.context.rt, "GIXP_COMMITS")?;
     let argv = listing_argv(alloc, bytes_of(&limit))?;
     let variables = question_variables(alloc, &[])?;
-    shell.ask(&ShellRequest::Start(Start {
+    shell.start(Start {
         task: ShellTask::Listing,
         program: Program::Git,
         input: NOTHING,
         output: COMMITS,
         variables: &variables,
         argv: &argv,
-    }))?;
-    Ok(())
+    })
 }
 
 // Whether haves are sent: not for a refetch, and not in a clone without alternates.
@@ -135,14 +135,14 @@ fn offers_commits(options: &HelperOptions, has_alternates: bool) -> bool
 }
 
 /// How the haves are chosen.
-pub(crate) fn haves_for(job: FetchJob<'_, '_>, has_alternates: bool) -> Haves
+pub(crate) fn haves_for(job: FetchJob<'_, '_>, has_alternates: bool) -> Result<Haves, Error>
     ensures none { (not job.entry.options.now.is_refetch && (not job.entry.options.now.is_cloning || has_alternates)) ≡ false
-        → result ≡ By Noop }
+        → result ≡ Ok (By Noop) }
 {
     if offers_commits(job.options, has_alternates) {
         choose_haves(job.context.rt, job.context.settings)
     } else {
-        Haves::By(Algorithm::Noop)
+        Ok(Haves::By(Algorithm::Noop))
     }
 }
 
@@ -170,7 +170,7 @@ pub(crate) fn start_questions(
     if offers_commits(job.options, false) {
         ask_refs(job.context.rt.alloc(), shell)?;
     }
-    list_commits(job, shell, haves_for(job, false))
+    list_commits(job, shell, haves_for(job, false)?)
 }
 
 /// Starts the questions about refs and commits that are needed because of alternates.

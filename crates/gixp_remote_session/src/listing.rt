@@ -4,8 +4,9 @@ ghost use Rattle.std.specs.List.{list_all};
 ghost use Rattle.std.specs.Option.{option_map};
 ghost use Rattle.std.specs.Str.{bytes_eq};
 ghost use Rattle.bstr.specs.Owned.{bstring_bytes};
+ghost use Rattle.gixp_updates.specs.RefNames.{has_text};
 ghost use Rattle.gixp_remote_session.specs.RefLines.{is_plain, is_plain_byte, id_line, symbolic_line, object_lines, ref_lines};
-ghost use Rattle.gixp_remote_session.specs.RefLines.{has_text, holds, is_held, is_by_target, fitting_lines, broken_name, format_line, list_text};
+ghost use Rattle.gixp_remote_session.specs.RefLines.{holds, is_held, is_by_target, fitting_lines, broken_name, format_line, list_text};
 
 use bstr::BString;
 use gix_protocol::handshake::Ref;

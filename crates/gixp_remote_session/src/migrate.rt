@@ -1,5 +1,5 @@
 //! Moves packs and objects out of quarantine, as git does.
-ghost use Rattle.std.specs.Prelude.{◌≡◌, IfOk, IfSome, codes, string_bytes};
+ghost use Rattle.std.specs.Prelude.{◌≡◌, ◌∷◌, [], map, IfOk, IfSome, codes, string_bytes};
 ghost use Rattle.std.specs.Char.{is_ascii_hexdigit};
 ghost use Rattle.std.specs.List.{list_all};
 ghost use Rattle.bstr.specs.Owned.{bstring_bytes};
@@ -7,7 +7,7 @@ ghost use Rattle.gixp_remote_rules.specs.IndexPack.{pack_file};
 ghost use Rattle.gixp_remote_session.specs.Packs.{is_in_every_pack, is_object_folder};
 
 use crate::error::Error;
-use crate::pack::PackPlan;
+use crate::pack::plan::PackPlan;
 use crate::paths::RepositoryPaths;
 use crate::shell::Shell;
 use bstr::{BString, ByteSlice};
@@ -64,6 +64,14 @@ fn is_in_every_pack(end: &[u8]) -> bool
     end == b".pack".as_slice() || end == b".idx".as_slice()
 }
 
+// The files of a pack in the order in which they are moved. The file `.promisor` precedes the pack:
+// without it the pack's missing objects would be errors. The index is last: git finds a pack by it.
+fn parts_in_order() -> &'static [&'static [u8]]
+    ensures { map (λ end. end.now) result.now ≡ codes ".promisor" ∷ codes ".pack" ∷ codes ".rev" ∷ codes ".idx" ∷ [] }
+{
+    &[b".promisor", b".pack", b".rev", b".idx"]
+}
+
 // Moves a file of a pack, if the pack has it.
 fn move_part(
     rt: &HostRuntime,
@@ -103,8 +111,8 @@ pub(crate) fn migrate_pack(
     fs::create_dir_all(rt, packs.as_str())?;
     let lock = pack_file(alloc, to, hash, b".keep")?;
     let status = shell.ask(&ShellRequest::Hold(&lock))?;
-    // the file `.promisor` precedes the pack: without it the pack's missing objects would be errors
-    for end in [b".promisor".as_slice(), b".pack", b".rev", b".idx"] {
+    for end in parts_in_order() {
+        let end = *end;
         let one = pack_file(alloc, from, hash, end)?;
         let other = pack_file(alloc, to, hash, end)?;
         move_part(rt, &one, &other, packs.as_str(), end)?;

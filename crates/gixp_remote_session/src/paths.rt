@@ -7,13 +7,13 @@ ghost use Rattle.gixp_remote_session.specs.ListedPaths.{AreListedPaths, boundary
 ghost use Rattle.gixp_remote_session.specs.Errors.{ErrorIsWord};
 
 use crate::error::Error;
-use crate::repository::lines_of;
 use crate::setup::variable;
 use crate::shell::Shell;
 use bstr::{BStr, BString, ByteSlice};
 use gix_protocol::fetch::shallow_ids;
 use gix_protocol::transport::ObjectId;
 use gixp_remote_rules::{Question, ShellTask};
+use gixp_utils::text_pieces;
 use std::alloc::{AllocError, Global};
 use std::fs;
 use std::io::ErrorKind;
@@ -34,13 +34,13 @@ pub(crate) struct RepositoryPaths {
     pub(crate) objects: String,
 }
 
-// The path in a line.
-fn path_of(alloc: Global, line: BStr<'_>) -> Result<String, Error>
-    ensures { IfOk result (λ path. string_bytes path ≡ bstr_bytes line.entry) }
+// A path as a string.
+fn path_of(alloc: Global, path: &[u8]) -> Result<String, Error>
+    ensures { IfOk result (λ text. string_bytes text ≡ path.now) }
 {
-    match line.as_bytes().to_str() {
+    match path.to_str() {
         Ok(text) => Ok(String::from_str(alloc, text)?),
-        Err(_) => Err(Error::with_text(alloc, "this path is not UTF-8:", line.as_bytes())),
+        Err(_) => Err(Error::with_text(alloc, "this path is not UTF-8:", path)),
     }
 }
 
@@ -56,8 +56,8 @@ impl RepositoryPaths {
             return Err(Error::Other(NO_PATHS));
         }
         let format = BString::from_slice(alloc, format.as_bytes())?;
-        let shallow = path_of(alloc, *shallow)?;
-        let objects = path_of(alloc, *objects)?;
+        let shallow = path_of(alloc, shallow.as_bytes())?;
+        let objects = path_of(alloc, objects.as_bytes())?;
         let shallow_lock = format!(in alloc; "{shallow}.lock")?;
         Ok(RepositoryPaths {
             format,
@@ -77,7 +77,7 @@ impl RepositoryPaths {
         if output.status != 0 {
             output = shell.ask_git(rt, Question::Paths)?;
         }
-        let lines = lines_of(rt.alloc(), &output.text)?;
+        let lines = text_pieces(rt.alloc(), &output.text)?;
         RepositoryPaths::of_lines(rt.alloc(), &lines)
     }
 
@@ -98,7 +98,10 @@ impl RepositoryPaths {
     /// The shallow boundary. `GIT_SHALLOW_FILE` overrides its file.
     pub(crate) fn boundary(&self, rt: &HostRuntime) -> Result<Vec<ObjectId>, Error> {
         let alloc = rt.alloc();
-        let named = variable(rt, "GIT_SHALLOW_FILE");
+        let named = match variable(rt, "GIT_SHALLOW_FILE")? {
+            Some(path) => Some(path_of(alloc, path.as_bytes())?),
+            None => None,
+        };
         match boundary_file(alloc, self.shallow.as_str(), named.as_deref())? {
             Some(path) => boundary_in(rt, path.as_str()),
             None => Ok(Vec::new(alloc)),
@@ -111,14 +114,12 @@ impl RepositoryPaths {
     }
 
     /// Whether the repository has alternates.
-    pub(crate) fn has_alternates(&self, rt: &HostRuntime) -> bool {
-        match format!(in rt.alloc(); "{}/info/alternates", self.objects) {
-            Ok(path) => {
-                fs::metadata(rt, path.as_str()).is_ok()
-                    || variable(rt, "GIT_ALTERNATE_OBJECT_DIRECTORIES").is_some()
-            }
-            Err(_) => false,
+    pub(crate) fn has_alternates(&self, rt: &HostRuntime) -> Result<bool, Error> {
+        if variable(rt, "GIT_ALTERNATE_OBJECT_DIRECTORIES")?.is_some() {
+            return Ok(true);
         }
+        let path = format!(in rt.alloc(); "{}/info/alternates", self.objects)?;
+        Ok(fs::metadata(rt, path.as_str()).is_ok())
     }
 }
 

@@ -1,29 +1,23 @@
 //! The objects and refs of the repository that fetches, as git lists them.
-ghost use Rattle.std.specs.Prelude.{◌≡◌, ◌<◌, ◌==◌, ◌++◌, [], length, map, true, is_some, option_map, Some, None, IfOk, IfErr, IfSome, OnOk, MatchResult};
+ghost use Rattle.std.specs.Prelude.{◌≡◌, ◌≢◌, ◌<◌, ◌==◌, ◌++◌, [], length, map, true, is_some, option_map, Some, None, IfOk, IfErr, IfSome, OnOk, MatchResult};
 ghost use Rattle.std.specs.FinMap as finite;
-ghost use Rattle.std.specs.List.{slice_split, position};
-ghost use Rattle.bstr.specs.BStr.{bstr_bytes};
+ghost use Rattle.std.specs.List.{position};
 ghost use Rattle.gix_protocol.specs.Repository.{peeled_ids};
+ghost use Rattle.gixp_fetch_common.specs.Tips.{HasTips};
 ghost use Rattle.gixp_remote_session.specs.ListedObjects.{id_text, listed_object, listed_line, listed_objects, ErrorIsUnlisted, object_kind, with_commit, objects_of_list, refs_of_list};
 
 use crate::error::Error;
 use crate::pipes::REFS;
 use crate::shell::{NOTHING, Shell};
-use bstr::BStr;
 use gix_protocol::fetch::negotiate::{ObjectKind, StoredObjects, StoredRefs};
 use gix_protocol::transport::ObjectId;
 use gixp_fetch_common::repository::{KnownRepository, tips_of};
 use gixp_remote_rules::{
     Program, Question, ShellRequest, ShellTask, Start, question_argv, question_variables,
 };
+use gixp_utils::text_pieces;
 use std::alloc::{AllocError, Global};
 use std::fs;
-
-pub(crate) fn lines_of(alloc: Global, text: &[u8]) -> Result<Vec<BStr<'_>>, AllocError>
-    ensures { IfOk result (λ lines. map bstr_bytes lines.items ≡ slice_split (λ b. b == 10) text.now) }
-{
-    text.split(|b| *b == b'\n').map(BStr::new).collect(alloc)
-}
 
 // The offset of the first space.
 fn find_space(line: &[u8]) -> Option<usize>
@@ -79,7 +73,7 @@ pub(crate) fn listed_objects(alloc: Global, text: &[u8]) -> Result<Vec<ListedObj
     ensures unlisted { IfErr result (ErrorIsUnlisted (listed_objects text.now)) }
 {
     let mut listed = Vec::new(alloc);
-    let lines = lines_of(alloc, text)?;
+    let lines = text_pieces(alloc, text)?;
     'lines: for line in &lines {
         add_listed(&mut listed, line.as_bytes())?;
     }
@@ -166,7 +160,8 @@ fn repository_of(
 ) -> Result<KnownRepository, Error>
     ensures objects { IfOk result (λ r. option_map objects_of_list (listed_objects text.now) ≡ Some r.objects) }
     ensures refs { IfOk result (λ r. option_map (λ listed. peeled_ids (refs_of_list listed)) (listed_objects text.now) ≡ Some (peeled_ids r.refs)) }
-    ensures tips { IfOk result (λ r. is_some r.tips ≡ true) }
+    ensures known { IfOk result (λ r. is_some r.tips ≡ true) }
+    ensures tips { IfOk result (λ r. IfSome r.tips (HasTips r.objects (peeled_ids r.refs))) }
     ensures boundary { IfOk result (λ r. r.boundary ≡ boundary) }
 {
     let listed = listed_objects(alloc, text)?;
@@ -181,6 +176,27 @@ fn repository_of(
     })
 }
 
+// The repository with the listed objects, or without objects if git failed.
+fn repository_by(
+    alloc: Global,
+    text: &[u8],
+    status: u32,
+    boundary: Vec<ObjectId>,
+) -> Result<KnownRepository, Error>
+    ensures objects { status ≡ 0 → IfOk result (λ r. option_map objects_of_list (listed_objects text.now) ≡ Some r.objects) }
+    ensures refs { status ≡ 0 → IfOk result (λ r. option_map (λ listed. peeled_ids (refs_of_list listed)) (listed_objects text.now)
+        ≡ Some (peeled_ids r.refs)) }
+    ensures tips { IfOk result (λ r. IfSome r.tips (HasTips r.objects (peeled_ids r.refs))) }
+    ensures failed { status ≢ 0 → IfOk result (λ r. (r.objects ≡ finite.empty) × (r.refs ≡ []) × (r.tips ≡ None)) }
+    ensures boundary { IfOk result (λ r. r.boundary ≡ boundary) }
+{
+    if status == 0 {
+        repository_of(alloc, text, boundary)
+    } else {
+        Ok(new_repository(alloc, boundary))
+    }
+}
+
 /// The objects that the refs of the repository point to, as git was asked. git fails if a tag
 /// points to a missing object. Then no objects are known.
 pub(crate) fn read_repository(
@@ -191,9 +207,6 @@ pub(crate) fn read_repository(
     ensures boundary { IfOk result (λ r. r.boundary ≡ boundary) }
 {
     let text = fs::read(rt, REFS)?;
-    if shell.ask(&ShellRequest::Status(ShellTask::Refs))? == 0 {
-        repository_of(rt.alloc(), &text, boundary)
-    } else {
-        Ok(new_repository(rt.alloc(), boundary))
-    }
+    let status = shell.status(ShellTask::Refs)?;
+    repository_by(rt.alloc(), &text, status, boundary)
 }

@@ -1,6 +1,7 @@
 //! The session id, which a server may log, in git's form (git-config, "transfer.advertiseSID").
 use crate::error::Error;
 use crate::setup::variable;
+use bstr::ByteSlice;
 use gixp_remote_rules::{Settings, is_true};
 use jiff::Timestamp;
 use sha1::Sha1;
@@ -48,15 +49,24 @@ fn is_wanted(alloc: Global, settings: &Settings) -> Result<bool, Error> {
 }
 
 /// The session id, if the user has it sent. It follows the session id of the git process that
-/// started the helper, if that has one.
+/// started the helper, if that has one. An id that isn't UTF-8 isn't sent.
 pub(crate) fn session_id(rt: &HostRuntime, settings: &Settings) -> Result<Option<String>, Error> {
     let alloc = rt.alloc();
     if !is_wanted(alloc, settings)? {
         return Ok(None);
     }
     let own = own_part(rt)?;
-    match variable(rt, "GIT_TRACE2_PARENT_SID") {
-        Some(parent) if !parent.is_empty() => Ok(Some(format!(in alloc; "{parent}/{own}")?)),
-        _ => Ok(Some(own)),
+    let Some(parent) = variable(rt, "GIT_TRACE2_PARENT_SID")? else {
+        return Ok(Some(own));
+    };
+    match parent.as_bytes().to_str() {
+        Ok(parent) => {
+            if parent.is_empty() {
+                Ok(Some(own))
+            } else {
+                Ok(Some(format!(in alloc; "{parent}/{own}")?))
+            }
+        }
+        Err(_) => Ok(None),
     }
 }

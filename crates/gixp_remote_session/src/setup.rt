@@ -1,32 +1,58 @@
 //! The input of the helper at startup: the URL, environment variables and configuration.
-ghost use Rattle.std.specs.Prelude.{◌≡◌, string_bytes};
+ghost use Rattle.std.specs.Prelude.{◌≡◌, Some, None, MatchResult};
+ghost use Rattle.gixp_remote_session.specs.StartupInput.{field_of};
+ghost use Rattle.bstr.specs.Owned.{bstring_bytes};
 ghost use Rattle.std.specs.Option.{option_map};
 ghost use Rattle.gixp_remote_session.specs.UserConfig.{can_erase};
 ghost use Rattle.gixp_remote_session.specs.UserConfig.{choose_version, IsNamedHaves, haves_by_setting};
-ghost use Rattle.gixp_remote_session.specs.Version.{protocol_of, version_word};
+ghost use Rattle.gixp_remote_session.specs.Version.{protocol_of, version_word, version_number};
 
 use crate::error::Error;
 use crate::pipes::STARTUP;
 use crate::shell::Shell;
+use bstr::{BString, ByteSlice};
 use gix_protocol::fetch::negotiate::Algorithm;
 use gix_protocol::transport::Protocol;
 use gixp_fetch_common::Haves;
-use gixp_remote_rules::{Settings, ShellRequest, ShellTask, Within, within_of};
+use gixp_remote_rules::{Settings, ShellTask, Within, variable_in, within_of};
 use std::alloc::Global;
-use std::env;
+use std::env::VarError;
 use std::fs::File;
 use std::io::{BufRead, BufReader, Read};
+use std::{env, fs};
 
-/// An environment variable. `None` if it isn't set, or isn't UTF-8.
-pub(crate) fn variable(rt: &HostRuntime, name: &str) -> Option<String> {
-    match env::var(rt, name) {
-        Ok(value) => Some(value),
-        Err(_) => None,
+// The environment of this process (proc(5)).
+const ENVIRONMENT: &str = "/proc/self/environ";
+
+// A variable that isn't UTF-8.
+fn byte_variable(rt: &HostRuntime, name: &str) -> Result<Option<BString>, Error> {
+    let alloc = rt.alloc();
+    let Ok(environment) = fs::read(rt, ENVIRONMENT) else {
+        return Err(Error::with_text(
+            alloc,
+            "this environment variable can't be read:",
+            name.as_bytes(),
+        ));
+    };
+    match variable_in(alloc, &environment, name.as_bytes())? {
+        Some(value) => Ok(Some(BString::from_slice(alloc, value)?)),
+        None => Ok(None),
     }
 }
 
-pub(crate) fn bytes_of(value: &Option<String>) -> Option<&[u8]>
-    ensures { option_map (λ b. b.now) result ≡ option_map string_bytes value.now }
+/// An environment variable. `None` if it isn't set. A variable that can't be read is an error, since
+/// one that counted as not set could allow what the user forbids.
+pub(crate) fn variable(rt: &HostRuntime, name: &str) -> Result<Option<BString>, Error> {
+    match env::var(rt, name) {
+        Ok(value) => Ok(Some(BString::from_slice(rt.alloc(), value.as_bytes())?)),
+        Err(VarError::NotPresent) => Ok(None),
+        Err(VarError::NotUnicode) => byte_variable(rt, name),
+        Err(VarError::OutOfMemory) => Err(Error::Memory),
+    }
+}
+
+pub(crate) fn bytes_of(value: &Option<BString>) -> Option<&[u8]>
+    ensures { option_map (λ b. b.now) result ≡ option_map bstring_bytes value.now }
 {
     match value {
         Some(value) => Some(value.as_bytes()),
@@ -35,8 +61,8 @@ pub(crate) fn bytes_of(value: &Option<String>) -> Option<&[u8]>
 }
 
 /// The work of an outer helper that made git start this one.
-pub(crate) fn within(rt: &HostRuntime) -> Within {
-    within_of(bytes_of(&variable(rt, "GIXP_WITHIN")))
+pub(crate) fn within(rt: &HostRuntime) -> Result<Within, Error> {
+    Ok(within_of(bytes_of(&variable(rt, "GIXP_WITHIN")?)))
 }
 
 /// The input of the helper at startup: git's arguments, and the helper's own.
@@ -66,12 +92,22 @@ fn can_erase(terminal: &[u8]) -> bool
     !terminal.is_empty() && terminal != b"dumb".as_slice()
 }
 
-// A field, which a NUL byte ends.
+// A field without the NUL byte that must end it. If it has none, the pipe ended within the field.
+fn without_nul(field: Vec<u8>) -> Result<Vec<u8>, Error>
+    ensures { MatchResult result (λ front. field_of field.items ≡ Some front.items)
+        (λ e. (field_of field.items ≡ None)) }
+{
+    let mut field = field;
+    match field.pop() {
+        Some(0) => Ok(field),
+        _ => Err(Error::Other("the input of the helper at startup is not complete")),
+    }
+}
+
 fn field(alloc: Global, pipe: &mut BufReader<File>) -> Result<Vec<u8>, Error> {
     let mut field = Vec::new(alloc);
     pipe.read_until(0, &mut field)?;
-    field.pop();
-    Ok(field)
+    without_nul(field)
 }
 
 /// Reads the input at startup.
@@ -84,7 +120,7 @@ pub(crate) fn read_startup(rt: &HostRuntime) -> Result<StartupInput, Error> {
         argv.next(),
         argv.next(),
     ) else {
-        return Err(Error::Other("this program is started by git-remote-gixp"));
+        return Err(Error::Other("only git-remote-gixp can start this program"));
     };
     let mut pipe = BufReader::new(alloc, File::open(rt, STARTUP)?)?;
     Ok(StartupInput {
@@ -106,7 +142,7 @@ pub(crate) fn read_settings(
 ) -> Result<Settings, Error> {
     let mut text = Vec::new(alloc);
     startup.pipe.read_to_end(&mut text)?;
-    if shell.ask(&ShellRequest::Status(ShellTask::Settings))? == 0 {
+    if shell.status(ShellTask::Settings)? == 0 {
         Ok(Settings::read(alloc, &text)?)
     } else {
         Err(Error::Other("git can't read its configuration"))
@@ -114,9 +150,9 @@ pub(crate) fn read_settings(
 }
 
 /// The version of the protocol to request.
-pub(crate) fn version_of(rt: &HostRuntime, settings: &Settings) -> Protocol {
-    let word = variable(rt, "GIXP_VERSION");
-    choose_version(bytes_of(&word), settings.value(b"protocol.version"))
+pub(crate) fn version_of(rt: &HostRuntime, settings: &Settings) -> Result<Protocol, Error> {
+    let word = variable(rt, "GIXP_VERSION")?;
+    Ok(choose_version(bytes_of(&word), settings.value(b"protocol.version")))
 }
 
 // The version that the variable names, else the setting.
@@ -153,11 +189,25 @@ pub(crate) fn version_word(version: Protocol) -> Option<&'static [u8]>
     }
 }
 
+/// The number of a version.
+pub(crate) fn version_number(version: Protocol) -> &'static [u8]
+    ensures { result.now ≡ version_number version }
+{
+    match version {
+        Protocol::V0 => b"0",
+        Protocol::V1 => b"1",
+        Protocol::V2 => b"2",
+    }
+}
+
 /// How the haves are chosen.
-pub(crate) fn choose_haves(rt: &HostRuntime, settings: &Settings) -> Haves {
-    match variable(rt, "GIXP_NEGOTIATOR") {
-        Some(word) => named_haves(word.as_str()),
-        None => haves_by_setting(settings.value(b"fetch.negotiationalgorithm")),
+pub(crate) fn choose_haves(rt: &HostRuntime, settings: &Settings) -> Result<Haves, Error> {
+    match variable(rt, "GIXP_NEGOTIATOR")? {
+        Some(word) => match word.as_bytes().to_str() {
+            Ok(name) => Ok(named_haves(name)),
+            Err(_) => Ok(Haves::InOrder),
+        },
+        None => Ok(haves_by_setting(settings.value(b"fetch.negotiationalgorithm"))),
     }
 }
 

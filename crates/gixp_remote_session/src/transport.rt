@@ -1,22 +1,22 @@
 //! The transport over the two pipes of a server.
 ghost use Rattle.std.specs.Io.{ReadsAtMost};
 
-use crate::messages::MessagePrinter;
-use crate::shallow_tap::ShallowTap;
+use crate::shallow_observer::ShallowObserver;
 use crate::uris::{UriRecorder, Uris, record_refusal};
-use gix_protocol::client::Session;
+use gix_protocol::client::{Session, Tap};
 use gix_protocol::transport::{Connection, Discard};
+use gixp_fetch_common::messages::MessagePrinter;
 use gixp_packfile_uris::PackfileUris;
-use gixp_stateless::Answers;
+use gixp_response_end::Answers;
 use std::cell::RefCell;
 use std::fs::File;
 use std::io;
 use std::io::{BufReader, BufWriter, ErrorKind, Read};
 
 /// The transport of the helper. It records the updates of the shallow boundary.
-pub(crate) type HelperTransport<'a> = ShallowTap<
-    'a,
+pub(crate) type HelperTransport<'a> = Tap<
     Connection<ResponseReader<'a>, BufWriter<File>>,
+    ShallowObserver<'a>,
 >;
 
 /// A session over it. It prints the server's messages as they arrive.

@@ -1,5 +1,5 @@
 //! The unpack limit of the user (git-config, "fetch.unpackLimit", "transfer.unpackLimit").
-use crate::error::Error;
+use crate::error::{Error, unless_reported};
 use crate::job::FetchJob;
 use crate::shell::Shell;
 use gixp_remote_rules::{Question, may_unpack, parse_limit, unpack_limit};
@@ -13,7 +13,10 @@ fn read_limit(job: FetchJob<'_, '_>, shell: &mut Shell, name: &[u8]) -> Result<O
     if output.status == 0 {
         Ok(parse_limit(&output.text))
     } else {
-        Err(Error::AlreadyReported)
+        Err(unless_reported(
+            output.status,
+            "git can't read the unpack limit: its status is",
+        ))
     }
 }
 

@@ -7,7 +7,8 @@ ghost use Rattle.gixp_remote_session.specs.Errors.{ErrorIsFatal};
 
 use crate::error::Error;
 use crate::job::FetchJob;
-use crate::pack::{PackPlan, PackState};
+use crate::pack::plan::PackPlan;
+use crate::pack::state::PackState;
 use crate::setup::within;
 use crate::shell::{NOTHING, Shell};
 use bstr::BString;
@@ -264,6 +265,7 @@ fn own_pack(pack: PackState) -> Option<ObjectId>
         PackState::Unbegun
         | PackState::Begun
         | PackState::Unreadable
+        | PackState::Unstarted
         | PackState::Refused
         | PackState::Unpacked(_)
         | PackState::Empty(_) => None,
@@ -308,7 +310,7 @@ pub(crate) fn download_all(
     let all = named_packs(alloc, job.context.uri_setting, &lines)?;
     fs::create_dir_all(rt, format!(in alloc; "{}/pack", plan.folder)?.as_str())?;
     let argv = part_argv(alloc, plan.argv_for(pack.has_boundary()))?;
-    let variables = pack_variables(alloc, within(rt), &plan.variables)?;
+    let variables = pack_variables(alloc, within(rt)?, &plan.variables)?;
     let downloader = Downloader {
         rt,
         argv: &argv,

@@ -1,21 +1,17 @@
 //! A web server, by git's own program for HTTP (gitremote-helpers, "stateless-connect"). That
 //! program has TLS, proxies, cookies, redirects and credentials. It carries requests and responses
-//! of version 2.
-ghost use Rattle.std.specs.Prelude.{◌≡◌, [], true, Some, None, Err, IfOk, IfErr, OnOk, IfSome, MatchResult};
+//! of version 2. A server of another version gets git's commands by it (`relay`).
+ghost use Rattle.std.specs.Prelude.{◌≡◌, true, Some, None, IfOk, IfErr, OnOk, IfSome, MatchResult};
 ghost use Rattle.std.specs.Io.BufRead.{DropsThrough};
 ghost use Rattle.std.specs.Io.KnownBytes.{Appends};
-ghost use Rattle.gixp_remote_session.specs.WebServer.{without_end, reply_in, has_reply, IsMissingReply, by_list, list_outcome, web_outcome, ResultIsOutcome};
-ghost use Rattle.gixp_remote_session.specs.WebServer.{option_sent, is_limited, family_line, options_sent, connect_sent, HasSent, has_replied, have_replied, after_option, after_options, after_replies};
+ghost use Rattle.gixp_remote_session.specs.WebServer.{without_end, reply_in, has_reply, IsMissingReply, carries, has_connected};
+ghost use Rattle.gixp_remote_session.specs.WebServer.{option_sent, is_limited, family_line, options_sent, connect_sent, has_replied, have_replied, after_option, after_options, after_replies};
 ghost use Rattle.gixp_remote_session.specs.declared.error.Error.TheVariants.{AlreadyReported};
 
 use crate::error::Error;
 use gixp_remote_rules::Family;
 use std::alloc::Global;
 use std::io::{BufRead, Write};
-
-/// The error for a server of another version.
-pub(crate) const NO_VERSION_2: &str =
-    "the server doesn't speak protocol version 2, which git-remote-gixp needs over HTTP";
 
 // A line without its line feed. If it has none, the program exited and reported the reason.
 fn without_line_end(line: Vec<u8>) -> Result<Vec<u8>, Error>
@@ -113,45 +109,21 @@ fn set_options<R: BufRead, W: Write>(
     Ok(())
 }
 
-// The error, by the first line of a list of refs.
-fn refusal_by(line: &[u8]) -> Error
-    ensures { ResultIsOutcome (λ _. by_list (Some line.now)) (Some []) (Err result) }
-{
-    if line.is_empty() {
-        Error::NoRefs
-    } else {
-        Error::Fatal(NO_VERSION_2)
-    }
-}
-
-// The error if the program refuses: it lists the refs of a server that speaks another version.
-fn refusal<R: BufRead, W: Write>(alloc: Global, from: &mut R, to: &mut W) -> Error
-    ensures outcome { ResultIsOutcome list_outcome (R.remaining from.old) (Err result) }
-    ensures sent { HasSent [] (W.contents to.old) (W.contents to.new) (Err result) }
-{
-    match ask(alloc, from, to, b"list\n") {
-        Ok(line) => refusal_by(&line),
-        Err(e) => e,
-    }
-}
-
-/// Asks the program to carry requests to the server. It replies with an empty line if it does.
+/// Asks the program to carry requests to the server. It replies with an empty line if it does, and
+/// with another line (`fallback`) if the server doesn't speak version 2. Returns whether it does.
 pub(crate) fn connect_stateless<R: BufRead, W: Write>(
     alloc: Global,
     from: &mut R,
     to: &mut W,
     is_quiet: bool,
     family: Family,
-) -> Result<(), Error>
-    ensures outcome { ResultIsOutcome (web_outcome is_quiet family) (R.remaining from.old) result }
-    ensures sent { HasSent (connect_sent is_quiet family) (W.contents to.old) (W.contents to.new) result }
+) -> Result<bool, Error>
+    ensures carries { IfOk result (λ is_carried. IfSome (R.remaining from.old) (λ bytes. carries is_quiet family bytes ≡ Some is_carried)) }
+    ensures sent { OnOk result (Appends (W.contents to.old) (W.contents to.new) (connect_sent is_quiet family)) }
     ensures rest { OnOk result (IfSome (R.remaining from.old) (λ bytes. R.remaining from.new ≡ Some (after_replies is_quiet family bytes))) }
+    ensures missing { IfErr result (IsMissingReply (has_connected is_quiet family) (R.remaining from.old)) }
 {
     set_options(alloc, from, to, is_quiet, family)?;
     let line = ask(alloc, from, to, b"stateless-connect git-upload-pack\n")?;
-    if line.is_empty() {
-        Ok(())
-    } else {
-        Err(refusal(alloc, from, to))
-    }
+    Ok(line.is_empty())
 }

@@ -1,5 +1,5 @@
 use Rattle.gixp_fetch_cli.specs.Report.{default_of_ref}
-use Rattle.gixp_text.proofs.AppendedLemmas.{left-at, each-more}
+use Rattle.gixp_utils.proofs.AppendedLemmas.{left-at, each-more}
 use Rattle.gixp_fetch_cli.proofs.report.append_defaults.Goals as goal
 
 pub loop-found-preserved : goal.loop-found-preserved

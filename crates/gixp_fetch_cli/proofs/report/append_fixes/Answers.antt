@@ -1,5 +1,5 @@
 use Rattle.gixp_fetch_cli.specs.Report.{fix_line}
-use Rattle.gixp_text.proofs.AppendedLemmas.{left-at, each-more}
+use Rattle.gixp_utils.proofs.AppendedLemmas.{left-at, each-more}
 use Rattle.gixp_fetch_cli.proofs.report.append_fixes.Goals as goal
 
 pub loop-fix-preserved : goal.loop-fix-preserved

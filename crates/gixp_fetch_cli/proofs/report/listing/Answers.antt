@@ -1,5 +1,5 @@
 use Rattle.gixp_fetch_cli.specs.Report.{ref_lines}
-use Rattle.gixp_text.proofs.AppendedLemmas.{left-at, each-more}
+use Rattle.gixp_utils.proofs.AppendedLemmas.{left-at, each-more}
 use Rattle.gixp_fetch_cli.proofs.report.listing.Goals as goal
 
 pub loop-found-preserved : goal.loop-found-preserved

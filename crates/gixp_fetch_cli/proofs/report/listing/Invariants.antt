@@ -1,6 +1,6 @@
 use Rattle.std.proofs.Common.{flat_map, drop, []}
 use Rattle.gixp_fetch_cli.specs.Report.{ref_lines}
-use Rattle.gixp_text.proofs.AppendedLemmas.{Partly}
+use Rattle.gixp_utils.proofs.AppendedLemmas.{Partly}
 use Rattle.gixp_fetch_cli.proofs.report.listing.Given as goal
 
 abbrev pub invariant-loop-found : goal.invariant-loop-found

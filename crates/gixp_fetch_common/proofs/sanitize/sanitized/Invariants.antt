@@ -4,5 +4,5 @@ use Rattle.gixp_fetch_common.specs.Sanitized.{sanitized_after}
 use Rattle.gixp_fetch_common.proofs.sanitize.sanitized.Given as goal
 
 abbrev pub invariant-loop-byte : goal.invariant-loop-byte
-invariant-loop-byte l = l.text.items ++ sanitized_after l.keeps_returns l.before (drop l.byte-index l.words)
-    ≡ sanitized_after l.keeps_returns 0 l.words
+invariant-loop-byte l = l.text.items ++ sanitized_after l.before (drop l.byte-index l.words)
+    ≡ sanitized_after 0 l.words

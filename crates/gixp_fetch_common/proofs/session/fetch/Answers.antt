@@ -12,5 +12,5 @@ pub returns-in-Err-clause-refused : goal.returns-in-Err-clause-refused
 returns-in-Err-clause-refused g c = record {
   error = c.in-Err.e;
   holds = of_boundary _ _ _ c.deref.ensures.value c.in-Err.ensures.refused;
-  told = c.failure_of.ensures;
+  reported = c.failure_of.ensures;
 }

@@ -10,5 +10,5 @@ returns-in-Err-clause-refused g c = record {
     | inl unsent ↦ inl unsent.1
     | inr x ↦ inr (unlisted_of x.0 _ c.in-Err.e x.2)
   ];
-  told = c.failure_of.ensures;
+  reported = c.failure_of.ensures;
 }

@@ -6,9 +6,9 @@ use Rattle.gixp_fetch_common.proofs.session.refs.Goals as goal
 pub returns-in-Err-clause-refused : goal.returns-in-Err-clause-refused
 returns-in-Err-clause-refused g c = record {
   error = c.in-Err.e;
-  holds = elim c.in-Err.ensures.refused [
-    | inl unasked ↦ inl unasked
-    | inr x ↦ inr (unlisted_of x.0 x.1 c.in-Err.e x.2)
+  holds = elim c.in-Err.ensures.refused.1 [
+    | inl unsent ↦ inl unsent.1
+    | inr x ↦ inr (unlisted_of x.0 _ c.in-Err.e x.2)
   ];
-  told = c.failure_of.ensures;
+  reported = c.failure_of.ensures;
 }

@@ -1,6 +1,6 @@
 use Rattle.std.proofs.Common.{◌∷◌, [], flat_map, drop}
 use Rattle.gixp_remote_rules.specs.Argv.{escaped_in_quotes}
-use Rattle.gixp_text.proofs.AppendedLemmas.{Partly}
+use Rattle.gixp_utils.proofs.AppendedLemmas.{Partly}
 use Rattle.gixp_remote_rules.proofs.argv.in_quotes.Given as goal
 
 abbrev pub invariant-loop-byte : goal.invariant-loop-byte

@@ -1,6 +1,6 @@
 use Rattle.std.proofs.Common.{◌∷◌, [], flat_map, drop}
 use Rattle.gixp_remote_rules.specs.Quoting.{quoted_byte}
-use Rattle.gixp_text.proofs.AppendedLemmas.{Partly}
+use Rattle.gixp_utils.proofs.AppendedLemmas.{Partly}
 use Rattle.gixp_remote_rules.proofs.quote.quoted.Given as goal
 
 abbrev pub invariant-loop-byte : goal.invariant-loop-byte

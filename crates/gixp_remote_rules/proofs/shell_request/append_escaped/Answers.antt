@@ -1,5 +1,5 @@
 use Rattle.gixp_remote_rules.specs.ShellRequests.{escaped_byte}
-use Rattle.gixp_text.proofs.AppendedLemmas.{left-byte, each-more}
+use Rattle.gixp_utils.proofs.AppendedLemmas.{left-byte, each-more}
 use Rattle.gixp_remote_rules.proofs.shell_request.append_escaped.Goals as goal
 
 pub loop-byte-preserved : goal.loop-byte-preserved

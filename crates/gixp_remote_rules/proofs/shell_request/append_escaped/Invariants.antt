@@ -1,6 +1,6 @@
 use Rattle.std.proofs.Common.{flat_map, drop}
 use Rattle.gixp_remote_rules.specs.ShellRequests.{escaped_byte}
-use Rattle.gixp_text.proofs.AppendedLemmas.{Partly}
+use Rattle.gixp_utils.proofs.AppendedLemmas.{Partly}
 use Rattle.gixp_remote_rules.proofs.shell_request.append_escaped.Given as goal
 
 abbrev pub invariant-loop-byte : goal.invariant-loop-byte

@@ -1,6 +1,6 @@
 use Rattle.bstr.specs.Owned.{bstring_bytes}
 use Rattle.gixp_remote_rules.specs.ShellRequests.{marked_line}
-use Rattle.gixp_text.proofs.AppendedLemmas.{left-at, each-more}
+use Rattle.gixp_utils.proofs.AppendedLemmas.{left-at, each-more}
 use Rattle.gixp_remote_rules.proofs.shell_request.append_lines.Goals as goal
 
 pub loop-word-preserved : goal.loop-word-preserved

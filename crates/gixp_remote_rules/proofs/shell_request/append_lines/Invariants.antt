@@ -1,6 +1,6 @@
 use Rattle.std.proofs.Common.{flat_map, drop}
 use Rattle.gixp_remote_rules.specs.ShellRequests.{marked_line}
-use Rattle.gixp_text.proofs.AppendedLemmas.{Partly}
+use Rattle.gixp_utils.proofs.AppendedLemmas.{Partly}
 use Rattle.bstr.specs.Owned.{bstring_bytes}
 use Rattle.gixp_remote_rules.proofs.shell_request.append_lines.Given as goal
 

@@ -8,5 +8,5 @@ returns-then-eq c = (same_ids c.args.ids.now c.args.old.now c.eq.result c.eq.ens
 pub returns-in_ok-from_slice : goal.returns-in_ok-from_slice
 returns-in_ok-from_slice c =
     let made = c.in_ok-from_slice.ensures.items in
-    let tells = same_ids c.args.ids.now c.args.old.now c.eq.result c.eq.ensures in
-    (made, λ e. let t = tells.1 (sym made ∙ e) in let f = c.if-eq.false in cc)
+    let reports = same_ids c.args.ids.now c.args.old.now c.eq.result c.eq.ensures in
+    (made, λ e. let t = reports.1 (sym made ∙ e) in let f = c.if-eq.false in cc)

@@ -1,10 +1,11 @@
-use Rattle.gixp_remote_session.proofs.ListLemmas.{no_texts, holders_more}
+use Rattle.gixp_updates.proofs.NamedLemmas.{no_names, names_more}
+use Rattle.gixp_remote_session.specs.RefLines.{holds}
 use Rattle.gixp_remote_session.proofs.listing.holders.Goals as goal
 
 pub refs-init : goal.refs-init
-refs-init c = λ text. no_texts text c.new-names.result c.new-names.ensures.empty
+refs-init c = λ text. no_names text c.new-names.result c.new-names.ensures.empty
 
 pub refs-preserved : goal.refs-preserved
 refs-preserved c =
-    holders_more c.args.refs.now c.refs.found-index c.found-item.result c.refs.names c.add_holder.new.names
+    names_more holds c.args.refs.now c.refs.found-index c.found-item.result c.refs.names c.add_holder.new.names
     c.found-item.is c.refs-test.true c.refs.invariant c.in_ok-add_holder.ensures

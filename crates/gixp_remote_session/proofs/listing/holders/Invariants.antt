@@ -1,5 +1,6 @@
 use Rattle.std.proofs.Common.{◌≡◌, ℕ, List, take}
-use Rattle.gixp_remote_session.specs.RefLines.{has_text, is_held}
+use Rattle.gixp_updates.specs.RefNames.{has_text}
+use Rattle.gixp_remote_session.specs.RefLines.{is_held}
 use Rattle.gixp_remote_session.proofs.listing.holders.Given as goal
 
 abbrev pub invariant-refs : goal.invariant-refs

@@ -1,7 +1,8 @@
 -- The lines and the broken names so far.
 use Rattle.std.proofs.Common.{◌≡◌, ◌++◌, take, flat_map, map}
 use Rattle.bstr.specs.Owned.{bstring_bytes}
-use Rattle.gixp_remote_session.specs.RefLines.{has_text, fitting_lines, broken_name, format_line}
+use Rattle.gixp_updates.specs.RefNames.{has_text}
+use Rattle.gixp_remote_session.specs.RefLines.{fitting_lines, broken_name, format_line}
 use Rattle.gixp_remote_session.proofs.listing.ref_listing.Given as goal
 
 abbrev pub invariant-refs : goal.invariant-refs

@@ -11,7 +11,7 @@ few-preserved g c = (
   asked_more c.args.ids.now c.few.rest.now c.split_at.result.0.now c.split_at.result.1.now c.args.objects.now c.few.objects
       c.ask_batch.new.objects _ _ _ _ _ _ _ _ _ c.few.invariant.0
       (rw (c.split_at.ensures.front, c.split_at.ensures.back) (sym (take-append-drop _ c.few.rest.now))) c.in_ok-ask_batch.ensures.asked
-      c.in_ok-ask_batch.ensures.told c.in_ok-ask_batch.ensures.lines,
+      c.in_ok-ask_batch.ensures.reported c.in_ok-ask_batch.ensures.lines,
   λ _. c.in_ok-ask_batch.ensures.flushed,
 )
 

@@ -11,7 +11,7 @@ ids-preserved g c = (
   subst (λ l. AnswersIds l c.args.objects.now c.read_answer.new.objects (g.R.Read.remaining c.args.self.now.answers)
       (g.R.Read.remaining c.read_answer.new.self.answers)) (sym (take_more c.args.ids.now c.ids.id-index _ c.ids-test.true))
       (answered_more (take c.ids.id-index c.args.ids.now) _ c.args.objects.now c.ids.objects c.read_answer.new.objects _ _ _
-      c.ids.invariant.0 c.in_ok-read_answer.ensures.told),
+      c.ids.invariant.0 c.in_ok-read_answer.ensures.reported),
   c.read_answer.ensures.asks ∙ c.ids.invariant.1,
   c.read_answer.ensures.lines ∙ ap (λ n. line_number n 1) c.ids.invariant.2 ∙ number_more c.args.self.now.lines c.ids.id-index 1,
 )

@@ -1,6 +1,6 @@
 -- A line that is none of a commit.
 use Rattle.std.proofs.Common.{◌∙◌, ap}
-use Rattle.gixp_text.specs.Lines.{text_lines}
+use Rattle.gixp_utils.specs.Lines.{text_lines}
 use Rattle.gixp_fetch_common.proofs.ListedLemmas.{unread_one}
 use Rattle.gixp_fetch_common.proofs.listed_commits.CommitText.add_line.Goals as goal
 

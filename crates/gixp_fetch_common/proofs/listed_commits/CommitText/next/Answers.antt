@@ -8,31 +8,31 @@ lines-init g c = record { left = omega arith; refusal = refl; passed = passed_no
 
 pub lines-preserved : goal.lines-preserved
 lines-preserved g c =
-    let told = rw c.in-Ok-Some.field-0-is at c.in-Ok-Some.ensures in
+    let reported = rw c.in-Ok-Some.field-0-is at c.in-Ok-Some.ensures in
     let one : ReadsOne g.R.Read.remaining c.lines.self c.read_commit.new.self c.offer.new.self c.in-Ok-Some.id = record {
-      read = told.read;
+      read = reported.read;
       common = c.read_commit.ensures.common;
       awaited = c.read_commit.ensures.awaited;
-      shares = c.offer.ensures.some (commit_there _ _ _ _ _ told.read);
+      shares = c.offer.ensures.some (commit_there _ _ _ _ _ reported.read);
       unknown = c.offer.ensures.unknown;
       text = c.offer.ensures.text;
       left = omega arith;
     } in
     record {
       left = omega arith;
-      refusal = c.offer.ensures.refusal ∙ (told.refusal ∙ c.lines.invariant.refusal);
+      refusal = c.offer.ensures.refusal ∙ (reported.refusal ∙ c.lines.invariant.refusal);
       passed = passed_more g.R.Read.remaining c.args.self.now c.lines.self c.read_commit.new.self c.offer.new.self c.in-Ok-Some.id
           c.lines.invariant.passed one c.in-Ok-false.ensures.whole (c.in-Ok-false.ensures.common c.in-Ok-false.field-0-test);
     }
 
 pub returns-in-Ok-true-clause-offers : goal.returns-in-Ok-true-clause-offers
 returns-in-Ok-true-clause-offers g c =
-    let told = rw c.in-Ok-Some.field-0-is at c.in-Ok-Some.ensures in
+    let reported = rw c.in-Ok-Some.field-0-is at c.in-Ok-Some.ensures in
     let one : ReadsOne g.R.Read.remaining c.lines.self c.read_commit.new.self c.offer.new.self c.in-Ok-Some.id = record {
-      read = told.read;
+      read = reported.read;
       common = c.read_commit.ensures.common;
       awaited = c.read_commit.ensures.awaited;
-      shares = c.offer.ensures.some (commit_there _ _ _ _ _ told.read);
+      shares = c.offer.ensures.some (commit_there _ _ _ _ _ reported.read);
       unknown = c.offer.ensures.unknown;
       text = c.offer.ensures.text;
       left = omega arith;

@@ -7,7 +7,7 @@ pub returns-in-Ok-None-clause-fails : goal.returns-in-Ok-None-clause-fails
 returns-in-Ok-None-clause-fails g c =
     let none : IsNoCommit c.add_line.new.self.line.items = search rules in
     inr (rw c.refuse-in-Ok-None.ensures.refusal (
-      c.refuse-in-Ok-None.ensures.told,
+      c.refuse-in-Ok-None.ensures.reported,
       sym c.refuse-in-Ok-None.ensures.lines,
       subst (λ l. IsNoCommit l.items) (sym c.refuse-in-Ok-None.ensures.line) none,
     ))
