@@ -14,27 +14,27 @@ pub use Rattle.gixp_packetline.specs.Lines
 pub use Rattle.gixp_packetline.specs.TransportState
 pub use Rattle.gixp_packetline.specs.Reading
 pub use Rattle.gixp_capabilities.specs.Client
-pub use Rattle.gixp_wire.specs.Message
-pub use Rattle.gixp_wire.specs.Transport
+pub use Rattle.gixp_transport.specs.Message
+pub use Rattle.gixp_transport.specs.Transport
 pub use Rattle.gixp_packetline.specs.Window
 pub use Rattle.gixp_packetline.specs.PacketLine
 pub use Rattle.gixp_packetline.specs.Packets
 pub use Rattle.gixp_packetline.specs.LineReader
-pub use Rattle.gixp_wire.specs.Bodies
-pub use Rattle.gixp_wire.specs.Connection
+pub use Rattle.gixp_transport.specs.Bodies
+pub use Rattle.gixp_transport.specs.Connection
 pub use Rattle.gixp_capabilities.specs.Cut
 pub use Rattle.gixp_capabilities.specs.Capabilities
 pub use Rattle.gixp_capabilities.specs.Capability
-pub use Rattle.gixp_wire.specs.Service
+pub use Rattle.gixp_transport.specs.Service
 pub use Rattle.gixp_progress.specs.Progress
-pub use Rattle.gixp_wire.specs.Spurious
-pub use Rattle.gixp_wire.specs.CapabilityAdvertisement
-pub use Rattle.gixp_wire.specs.Named
-pub use Rattle.gixp_wire.specs.Greeting
-pub use Rattle.gixp_wire.specs.Handshake
+pub use Rattle.gixp_transport.specs.Spurious
+pub use Rattle.gixp_transport.specs.CapabilityAdvertisement
+pub use Rattle.gixp_transport.specs.Named
+pub use Rattle.gixp_transport.specs.Greeting
+pub use Rattle.gixp_transport.specs.Handshake
 pub use Rattle.gixp_sidebands.specs.Bands
 pub use Rattle.gixp_sidebands.specs.Ends
-pub use Rattle.gixp_sidebands.specs.Telling
+pub use Rattle.gixp_sidebands.specs.Reporting
 pub use Rattle.gixp_sidebands.specs.Questions
 pub use Rattle.gixp_sidebands.specs.Sidebands
 pub use Rattle.gixp_refs.specs.Ref
@@ -113,6 +113,7 @@ pub use Rattle.gixp_refmap.specs.Values
 pub use Rattle.gixp_handshake.specs.Credentials
 pub use Rattle.gixp_handshake.specs.ShakeError
 pub use Rattle.gixp_handshake.specs.Shake
+pub use Rattle.gixp_handshake.specs.WithoutAccount
 pub use Rattle.gixp_handshake.specs.ShakeProgress
 pub use Rattle.gixp_handshake.specs.Accepted
 pub use Rattle.gixp_handshake.specs.Obtain
@@ -162,12 +163,25 @@ pub use Rattle.gixp_negotiators.specs.AlgorithmLaws as NegotiatorAlgorithmLaws
 pub use Rattle.gixp_negotiators.specs.Calls as NegotiatorCalls
 pub use Rattle.gixp_negotiators.specs.Distance as NegotiatorDistance
 pub use Rattle.gixp_negotiators.specs.Marks as NegotiatorMarks
+pub use Rattle.gixp_negotiators.specs.AddedMarks as NegotiatorAddedMarks
+pub use Rattle.gixp_negotiators.specs.CommitMarks as NegotiatorCommitMarks
+pub use Rattle.gixp_negotiators.specs.Offered as NegotiatorOffered
 pub use Rattle.gixp_negotiators.specs.MarkLaws as NegotiatorMarkLaws
 pub use Rattle.gixp_negotiators.specs.Passing as NegotiatorPassing
 pub use Rattle.gixp_negotiators.specs.Spread as NegotiatorSpread
+pub use Rattle.gixp_negotiators.specs.NewlyCommon as NegotiatorNewlyCommon
+pub use Rattle.gixp_negotiators.specs.NewlySeen as NegotiatorNewlySeen
 pub use Rattle.gixp_negotiators.specs.SpreadLaws as NegotiatorSpreadLaws
+pub use Rattle.gixp_negotiators.specs.Dated as NegotiatorDated
+pub use Rattle.gixp_negotiators.specs.LooksUpCommits as NegotiatorLooksUpCommits
+pub use Rattle.gixp_negotiators.specs.Newest as NegotiatorNewest
+pub use Rattle.gixp_negotiators.specs.OwnCalls as NegotiatorOwnCalls
+pub use Rattle.gixp_negotiators.specs.Owed as NegotiatorOwed
+pub use Rattle.gixp_negotiators.specs.Queued as NegotiatorQueued
+pub use Rattle.gixp_negotiators.specs.Unread as NegotiatorUnread
 pub use Rattle.gixp_negotiators.specs.Waiting as NegotiatorWaiting
-pub use Rattle.gixp_text.specs.Lines as TextLines
+pub use Rattle.gixp_negotiators.specs.Work as NegotiatorWork
+pub use Rattle.gixp_utils.specs.Lines as TextLines
 pub use Rattle.gixp_negotiators.specs.WaitingLaws as NegotiatorWaitingLaws
 pub use Rattle.gixp_memory.specs.Text as RepositoryText
 pub use Rattle.gixp_memory.specs.Repository
@@ -200,14 +214,14 @@ pub use Rattle.gixp_capabilities.specs.declared.capabilities.Capabilities as Cap
 pub use Rattle.gixp_capabilities.specs.declared.capabilities.Capability as CapabilityType
 pub use Rattle.gixp_capabilities.specs.declared.capabilities.CapabilityIter as CapabilityIterType
 pub use Rattle.gixp_capabilities.specs.declared.client.Error as ClientErrorType
-pub use Rattle.gixp_wire.specs.declared.bodies.Body as BodyType
-pub use Rattle.gixp_wire.specs.declared.bodies.Bodies as BodiesType
-pub use Rattle.gixp_wire.specs.declared.connection.Connection as ConnectionType
-pub use Rattle.gixp_wire.specs.declared.message.Message as MessageType
-pub use Rattle.gixp_wire.specs.declared.service.Service as ServiceType
-pub use Rattle.gixp_wire.specs.declared.service.Account as AccountType
-pub use Rattle.gixp_wire.specs.declared.service.Opening as OpeningType
-pub use Rattle.gixp_wire.specs.declared.service.SetServiceResponse as SetServiceResponseType
+pub use Rattle.gixp_transport.specs.declared.bodies.Body as BodyType
+pub use Rattle.gixp_transport.specs.declared.bodies.Bodies as BodiesType
+pub use Rattle.gixp_transport.specs.declared.connection.Connection as ConnectionType
+pub use Rattle.gixp_transport.specs.declared.message.Message as MessageType
+pub use Rattle.gixp_transport.specs.declared.service.Service as ServiceType
+pub use Rattle.gixp_transport.specs.declared.service.Account as AccountType
+pub use Rattle.gixp_transport.specs.declared.service.Opening as OpeningType
+pub use Rattle.gixp_transport.specs.declared.service.SetServiceResponse as SetServiceResponseType
 pub use Rattle.gixp_sidebands.specs.declared.sidebands.WithSidebands as WithSidebandsType
 pub use Rattle.gixp_sidebands.specs.declared.sidebands.interrupt.NeverInterrupt as NeverInterruptType
 pub use Rattle.gixp_sidebands.specs.declared.sidebands.interrupt.InterruptFlag as InterruptFlagType
@@ -320,13 +334,14 @@ pub use Rattle.gixp_client.specs.ClientMaps
 pub use Rattle.gixp_client.specs.ClientNames
 pub use Rattle.gixp_client.specs.ClientPromise
 pub use Rattle.gixp_client.specs.Filters
-pub use Rattle.gixp_client.specs.Heard
 pub use Rattle.gixp_client.specs.ListEnds
 pub use Rattle.gixp_client.specs.Listening
 pub use Rattle.gixp_client.specs.Reasons
 pub use Rattle.gixp_client.specs.Requests
 pub use Rattle.gixp_client.specs.Sentences
 pub use Rattle.gixp_client.specs.ServerWords
+pub use Rattle.gixp_client.specs.SessionFetch
+pub use Rattle.gixp_client.specs.SessionRefs
 pub use Rattle.gixp_client.specs.SessionStates
 pub use Rattle.gixp_client.specs.Tables
 pub use Rattle.gixp_client.specs.Unshallowed
@@ -342,14 +357,15 @@ pub use Rattle.gixp_client.specs.declared.class.ErrorClass as ErrorClassType
 pub use Rattle.gixp_client.specs.declared.conflict.Conflict as SessionConflictType
 pub use Rattle.gixp_client.specs.declared.consumer.PackError as PackErrorType
 pub use Rattle.gixp_client.specs.declared.fetched.Fetched as FetchedType
-pub use Rattle.gixp_client.specs.declared.heard.Heard as HeardType
+pub use Rattle.gixp_client.specs.declared.messages.Messages as MessagesType
+pub use Rattle.gixp_client.specs.declared.tap.Tap as TapType
 pub use Rattle.gixp_client.specs.declared.listen.Kept as KeptType
 pub use Rattle.gixp_client.specs.declared.listen.RemoteLines as RemoteLinesType
 pub use Rattle.gixp_client.specs.declared.listen.ServerText as ServerTextType
 pub use Rattle.gixp_client.specs.declared.listen.Silent as SilentType
-pub use Rattle.gixp_client.specs.declared.over.Filtered as FilteredType
+pub use Rattle.gixp_client.specs.declared.filter.Filtered as FilteredType
 pub use Rattle.gixp_client.specs.declared.repository.Repository as RepositoryType
-pub use Rattle.gixp_client.specs.declared.watched.Watched as WatchedType
+pub use Rattle.gixp_client.specs.declared.unshallow_check.UnshallowCheck as WatchedType
 pub use Rattle.gixp_client.specs.declared.windows.Windowed as WindowedType
 pub use Rattle.gixp_matching.specs.declared.match_group.key.KeyBytes as KeyBytesType
 pub use Rattle.gixp_matching.specs.declared.match_group.key.KeySource as KeySourceType

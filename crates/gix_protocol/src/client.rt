@@ -2,7 +2,8 @@
 //! `Remote::connect`, `prepare_fetch` and `receive`.
 pub use gixp_client::{
     Boundary, ClientName, Conflict, Error, ErrorClass, Fetched, Filtered, FilteredNegotiation,
-    Heard, Kept, ListedRefs, Listener, LocalChange, MOST_HAVES, PackError, RemoteLines, Repository,
-    Request, ServerText, Session, SessionNegotiation, Silent, State, UriProtocols, Watched,
-    Windowed, fetch_once, fetch_once_with, laws, local_changes, over_streams,
+    Kept, LineObserver, ListedRefs, Listener, LocalChange, MOST_HAVES, Messages, PackError,
+    RemoteLines, Repository, Request, ServerText, Session, SessionFetch, SessionNegotiation,
+    Silent, State, Tap, UnshallowCheck, UriProtocols, Windowed, fetch_once, fetch_once_with, laws,
+    local_changes, over_streams,
 };

@@ -9,7 +9,7 @@ pub use gixp_packetline::{
 };
 pub use gixp_progress::{Discard, NestedProgress, Progress};
 pub use gixp_sidebands::{BandText, Interrupt, InterruptFlag, NeverInterrupt};
-pub use gixp_wire::{
+pub use gixp_transport::{
     Account, Bodies, Body, Connection, Feature, IsSpuriousError, MAX_LINE, Message, Opening,
     Service, SetServiceResponse, Transport, fits_line,
 };

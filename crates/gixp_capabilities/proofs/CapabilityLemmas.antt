@@ -1,5 +1,5 @@
 -- The texts between blanks, as a loop that cuts them off one by one.
-use Rattle.std.proofs.Common.{◌≡◌, ℕ, ◌+◌, ◌<◌, ◌≤◌, ◌==◌, ◌⊎◌, inl, inr, Bool, true, false, List, [], ◌∷◌, ◌++◌, length, drop, map, refl, ap, sym, ◌∙◌, arith, Option, Some, None, append_assoc, length-drop, nat_lt}
+use Rattle.std.proofs.Common.{◌≡◌, ℕ, ◌+◌, ◌<◌, ◌≤◌, ◌==◌, ◌⊎◌, inl, inr, Bool, true, false, List, [], ◌∷◌, ◌++◌, length, map, refl, ap, sym, ◌∙◌, arith, Option, Some, None, append_assoc, nat_lt}
 use Rattle.std.specs.Prelude.{filter}
 use Rattle.std.specs.Option.{option_copied}
 use Rattle.std.specs.Borrow.{Bor}
@@ -12,13 +12,13 @@ use Rattle.gixp_capabilities.specs.Cut.{cut}
 use Rattle.gixp_capabilities.specs.Capabilities.{CapabilityValue, capability_of, capabilities_of_words, has_bytes}
 
 -- the parts after the first one
-abbrev pub parts_behind : ℕ → Option (List ℕ) → List (List ℕ)
-parts_behind b None = []
-parts_behind b (Some rest) = slice_split (λ x. x == b) rest
+abbrev pub parts_after : ℕ → Option (List ℕ) → List (List ℕ)
+parts_after b None = []
+parts_after b (Some rest) = slice_split (λ x. x == b) rest
 
 -- the first part is the text before the first separator
 parts_by : (b : ℕ) (text : List ℕ) → (position_or_len (λ x. x == b) text < length text) ⊎ (length text ≤ position_or_len
-    (λ x. x == b) text) → slice_split (λ x. x == b) text ≡ (cut b text).0 ∷ parts_behind b (cut b text).1
+    (λ x. x == b) text) → slice_split (λ x. x == b) text ≡ (cut b text).0 ∷ parts_after b (cut b text).1
 parts_by b text (inl lt) =
     let p : ℕ → Bool = λ x. x == b in
     let some : nat_lt (position_or_len p text) (length text) ≡ true = lt-ltb _ _ lt in
@@ -29,7 +29,7 @@ parts_by b text (inr le) =
     false_from_ne_true _ (λ t. let x = ltb-true (position_or_len p text) (length text) t in absurd (omega arith)) in
     rw none (slice_split_none p text (All-from_get_or (λ x. p x ≡ false) text 0 (λ k lt. fails_before_first p text k 0 (omega arith))))
 
-pub parts_of_cut : (b : ℕ) (text : List ℕ) → slice_split (λ x. x == b) text ≡ (cut b text).0 ∷ parts_behind b (cut b text).1
+pub parts_of_cut : (b : ℕ) (text : List ℕ) → slice_split (λ x. x == b) text ≡ (cut b text).0 ∷ parts_after b (cut b text).1
 parts_of_cut b text = parts_by b text (cases_lt (position_or_len (λ x. x == b) text) (length text))
 
 -- the capabilities still to come
@@ -48,7 +48,7 @@ of_piece [] = []
 of_piece (x ∷ xs) = capability_of (x ∷ xs) ∷ []
 
 of_parts : (word : List ℕ) (rest : Option (Bor (List ℕ)))
-    → map capability_of (filter has_bytes (word ∷ parts_behind 32 (option_copied rest))) ≡ of_piece word ++ words_left rest
+    → map capability_of (filter has_bytes (word ∷ parts_after 32 (option_copied rest))) ≡ of_piece word ++ words_left rest
 unfolding capabilities_of_words
 of_parts [] None = refl
 of_parts [] (Some text) = refl
@@ -61,7 +61,7 @@ words_of_cut : (text word : List ℕ) (rest : Option (Bor (List ℕ))) → cut 3
 unfolding capabilities_of_words
 words_of_cut text word rest e =
     ap (λ ws. map capability_of (filter has_bytes ws))
-    (parts_of_cut 32 text ∙ ap (λ (c : List ℕ × Option (List ℕ)). c.0 ∷ parts_behind 32 c.1) e) ∙ of_parts word rest
+    (parts_of_cut 32 text ∙ ap (λ (c : List ℕ × Option (List ℕ)). c.0 ∷ parts_after 32 c.1) e) ∙ of_parts word rest
 
 -- a nonempty piece was appended
 pub word_more : (now all : List CapabilityValue) (text word : List ℕ) (rest : Option (Bor (List ℕ)))
@@ -76,19 +76,6 @@ pub word_none : (now all : List CapabilityValue) (text word : List ℕ) (rest : 
     ≡ (word, option_copied rest) → (length word == 0) ≡ true → now ++ capabilities_of_words text ≡ all → now ++ words_left rest ≡ all
 word_none now all text [] rest e n h = ap (λ (ws : List CapabilityValue). now ++ ws) (sym (words_of_cut text [] rest e)) ∙ h
 word_none now all text (x ∷ xs) rest e n h = absurd (omega (arith, eqb-true (length (x ∷ xs)) 0 n))
-
--- the text after a separator is shorter
-behind_shorter : (b : ℕ) (text : List ℕ) → (position_or_len (λ x. x == b) text < length text)
-    ⊎ (length text ≤ position_or_len (λ x. x == b) text) → (rest : List ℕ) → (cut b text).1 ≡ Some rest → length rest < length text
-behind_shorter b text (inl lt) rest e =
-    let some : nat_lt (position_or_len (λ x. x == b) text) (length text) ≡ true = lt-ltb _ _ lt in
-    let same : drop (position_or_len (λ x. x == b) text + 1) text ≡ rest = cc (rw some at e) in
-    let l = length-drop (position_or_len (λ x. x == b) text + 1) text in
-    omega (arith, ap length same)
-behind_shorter b text (inr le) rest e =
-    let none : nat_lt (position_or_len (λ x. x == b) text) (length text) ≡ false =
-    false_from_ne_true _ (λ t. let x = ltb-true (position_or_len (λ x. x == b) text) (length text) t in absurd (omega arith)) in
-    let wrong = rw none at e in cc
 
 -- a name and a value that were cut apart
 pub capability_from_cut : (text name : List ℕ) (value : Option (List ℕ)) → cut 61 text ≡ (name, value)

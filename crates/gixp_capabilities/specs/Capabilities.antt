@@ -29,13 +29,13 @@ unfoldable pub capabilities_of_words : List ℕ → List CapabilityValue
 capabilities_of_words text = map capability_of (filter has_bytes (words_of text))
 
 -- the capabilities after a NUL at this offset, and the offset
-abbrev pub capabilities_behind : List ℕ → Option ℕ → Option (List CapabilityValue × ℕ)
-capabilities_behind line None = None
-capabilities_behind line (Some place) = Some (capabilities_of_words (strip_last 10 (drop (place + 1) line)), place)
+abbrev pub capabilities_after : List ℕ → Option ℕ → Option (List CapabilityValue × ℕ)
+capabilities_after line None = None
+capabilities_after line (Some place) = Some (capabilities_of_words (strip_last 10 (drop (place + 1) line)), place)
 
 -- the capabilities after the first NUL of the first ref line, and the offset of the NUL; none where the line has no NUL
 abbrev pub capabilities_of_line : List ℕ → Option (List CapabilityValue × ℕ)
-capabilities_of_line line = capabilities_behind line (position (λ b. b == 0) line)
+capabilities_of_line line = capabilities_after line (position (λ b. b == 0) line)
 
 -- the capability of a line, without one ending LF
 abbrev pub capability_of_line : List ℕ → CapabilityValue

@@ -1,6 +1,5 @@
 //! Capability lists of a server.
 ghost use Rattle.std.specs.Prelude.{◌≡◌, [], ◌∷◌, ◌++◌, map, IfOk, OnOk, OnErr, MatchResult};
-ghost use Rattle.std.specs.Io.BufRead.{strip_last};
 ghost use Rattle.std.specs.List.{list_any};
 ghost use Rattle.std.specs.Option.{option_map};
 ghost use Rattle.bstr.specs.Owned.{bstring_bytes};
@@ -12,6 +11,7 @@ ghost use Rattle.gixp_capabilities.specs.declared.client.Error.TheVariants.{Memo
 use crate::client;
 use crate::text::cut;
 use bstr::{BStr, BString, ByteSlice};
+use gixp_utils::without_line_end;
 use std::alloc::{AllocError, Global};
 use std::marker::Model;
 
@@ -154,15 +154,6 @@ impl Capabilities {
             rest = others;
         }
         Ok(())
-    }
-}
-
-fn without_line_end(line: &[u8]) -> &[u8]
-    ensures { result.now ≡ strip_last 10 line.now }
-{
-    match line {
-        [front @ .., b'\n'] => front,
-        line => line,
     }
 }
 

@@ -7,3 +7,4 @@ pub mod BoundaryLemmas
 pub mod MapLemmas
 pub mod SettleLemmas
 pub mod UnsentLemmas
+pub mod OpenLemmas

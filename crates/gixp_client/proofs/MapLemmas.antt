@@ -22,15 +22,15 @@ use Rattle.gixp_handshake.specs.Obtain.{MakesMap, PreparesBy, ObtainsBy, Fetches
 use Rattle.gixp_client.specs.Tables.{asked_table}
 use Rattle.gixp_client.specs.ClientCalls.{ListsInSession, GivesRefs, MapsInSession}
 use Rattle.gixp_client.specs.ListEnds.{whole_refs, are_whole, whole_map}
-use Rattle.gixp_client.specs.SessionStates.{behind_map}
+use Rattle.gixp_client.specs.SessionStates.{state_after_map}
 use Rattle.gixp_client.specs.declared.error.Error.{Error}
 use Rattle.gixp_client.specs.declared.state.State.{State}
 use Rattle.gixp_client.specs.ClientMaps.{MapsRefsHere, ListsForMap, listing_for}
 use Rattle.gixp_client.specs.declared.request.Request.{Request}
 
-pub state_behind_map : (b b' : Bool) (version : Protocol) (e e' : Error) (s : State) → s ≡ behind_map b version e → b ≡ b' → e ≡ e'
-    → s ≡ behind_map b' version e'
-state_behind_map b b' version e e' s h k l = h ∙ (ap (λ (x : Bool). behind_map x version e) k ∙ ap (behind_map b' version) l)
+pub state_after_map_same : (b b' : Bool) (version : Protocol) (e e' : Error) (s : State) → s ≡ state_after_map b version e → b ≡ b' → e ≡ e'
+    → s ≡ state_after_map b' version e'
+state_after_map_same b b' version e e' s h k l = h ∙ (ap (λ (x : Bool). state_after_map x version e) k ∙ ap (state_after_map b' version) l)
 
 -- listing without prefixes, with git's table and this agent
 pub as_lists : (table : TableValue) (agent name : FeatureValue) (caps : List CapabilityValue) (l : Listing) (plain : Bool)

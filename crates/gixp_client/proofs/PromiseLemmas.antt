@@ -3,8 +3,8 @@ use Rattle.std.proofs.Common.{◌≡◌, ◌∙◌, ℕ, ap, refl, subst, Bool, 
 use Rattle.std.specs.Prelude.{string_bytes, codes, if◌then◌else◌}
 use Rattle.gixp_packetline.specs.Reading.{Reading}
 use Rattle.gixp_hash.specs.declared.object_id.ObjectId.{ObjectId}
-use Rattle.gixp_wire.specs.Greeting.{Parameter}
-use Rattle.gixp_wire.specs.declared.service.Service.TheVariants.{UploadPack}
+use Rattle.gixp_transport.specs.Greeting.{Parameter}
+use Rattle.gixp_transport.specs.declared.service.Service.TheVariants.{UploadPack}
 use Rattle.gixp_response.specs.Answer.{update_items}
 use Rattle.gixp_capabilities.specs.Capabilities.{CapabilityValue, has_named}
 use Rattle.gixp_requests.specs.Feature.{FeatureValue}
@@ -24,31 +24,31 @@ use Rattle.gixp_client.specs.ClientPromise.{IsOneRun}
 use Rattle.gixp_client.specs.declared.error.Error.{Error}
 use Rattle.gixp_client.specs.declared.name.ClientName.{ClientName}
 use Rattle.gixp_client.specs.declared.request.Request.{Request}
-use Rattle.gixp_client.specs.declared.watched.Watched.{Watched}
+use Rattle.gixp_client.specs.declared.unshallow_check.UnshallowCheck.{UnshallowCheck}
 
 -- a handshake, a ref map and a fetch of the mapped refs, with the promise of the law
-pub one_run : {N I A C P X : Type 0} (parties : Parties (Watched N) I A ShallowMemory C P X) (map_of : Watched N → RefMap)
-    (knows : Watched N → Knowledge)
-    → ((call : FetchCall) (context : Context) (start : Reading) (made : RefMap) (old : World (Watched N) I ShallowMemory C)
-    (came : Result (Option Outcome) (FetchError A X)) (new : World (Watched N) I ShallowMemory C) (progress : P)
-    (run : Run parties map_of knows call context start made old came new progress)
-    → Promise parties map_of knows call context start made old came new progress run)
+pub one_run : {N I A C P X : Type 0} (parties : Parties (UnshallowCheck N) I A ShallowMemory C P X)
+    (converts : X → Error → Type 0) (map_of : UnshallowCheck N → RefMap) (knows : UnshallowCheck N → Knowledge)
+    → ((call : FetchCall) (context : Context) (start : Reading) (made : RefMap) (old : World (UnshallowCheck N) I ShallowMemory C)
+    (received : Result (Option Outcome) (FetchError A X)) (new : World (UnshallowCheck N) I ShallowMemory C) (progress : P)
+    (run : Run parties map_of knows call context start made old received new progress)
+    → Promise parties map_of knows call context start made old received new progress run)
     → (parameters : List Parameter) (agent : FeatureValue) (more : List FeatureValue) (request : Request)
     (start shaken middle : Reading)
     (handshake kept : Handshake) (made : RefMap) (known : Knowledge) (boundary boundary' : List ObjectId) (consumer : C)
-    (told : Result (Option Outcome) Error) (new : Reading) (consumer' : C)
+    (report : Result (Option Outcome) Error) (new : Reading) (consumer' : C)
     → OpensSession parameters parties.plain start shaken handshake
     → MapsInSession request agent handshake parties.plain shaken middle (Ok made)
     → kept ≡ record handshake { refs = kept.refs }
-    → FetchesInSession parties map_of knows (session_call kept agent more request) made known boundary boundary' middle
-    consumer told new consumer'
-    → IsOneRun parties map_of knows agent more request start made known boundary consumer told new consumer'
-one_run parties map_of knows promises parameters agent more request start shaken middle handshake kept made known
-    boundary boundary' consumer told new
+    → FetchesInSession parties converts map_of knows (session_call kept agent more request) made known boundary boundary' middle
+    consumer report new consumer'
+    → IsOneRun parties converts map_of knows agent more request start made known boundary consumer report new consumer'
+one_run parties converts map_of knows promises parameters agent more request start shaken middle handshake kept made known
+    boundary boundary' consumer report new
     consumer' opens maps keeps fetched =
     let f = fetched.fetches in let h = f.holds in
     let run : Run parties map_of knows (session_call kept agent more request) maps.context start made
-    (unlocked_world f.first middle h.interrupt fetched.store consumer) f.came
+    (unlocked_world f.first middle h.interrupt fetched.store consumer) f.received
     (unlocked_world f.last new h.interrupt' fetched.store' consumer') h.progress = record {
       service = UploadPack;
       parameters = parameters;
@@ -59,7 +59,7 @@ one_run parties map_of knows promises parameters agent more request start shaken
       obtains = maps.obtains;
       version = ap (λ (x : Handshake). x.server_protocol_version) keeps;
       capabilities = ap (λ (x : Handshake). x.capabilities) keeps;
-      told = ap (λ (x : Handshake). update_items x.v1_shallow_updates) keeps;
+      reported = ap (λ (x : Handshake). update_items x.v1_shallow_updates) keeps;
       negotiates = f.negotiates;
       fetches = h.carries.fetched;
     } in record {
@@ -76,8 +76,8 @@ one_run parties map_of knows promises parameters agent more request start shaken
       store' = fetched.store';
       before = fetched.before;
       progress = h.progress;
-      came = f.came;
-      tells = f.tells;
+      received = f.received;
+      reports = f.reports;
       run = run;
       promise = promises _ _ _ _ _ _ _ _ run;
     }
@@ -91,40 +91,40 @@ nothing_more : (name : ClientName) (caps : List CapabilityValue) → name.sessio
 nothing_more name caps i = ap (id_features caps) i ∙ nothing_either (has_named (codes "session-id") caps)
 
 -- the same with the agent that the session stores
-pub named_run : {N I A C P X : Type 0} (parties : Parties (Watched N) I A ShallowMemory C P X) (map_of : Watched N → RefMap)
-    (knows : Watched N → Knowledge)
+pub named_run : {N I A C P X : Type 0} (parties : Parties (UnshallowCheck N) I A ShallowMemory C P X)
+    (converts : X → Error → Type 0) (map_of : UnshallowCheck N → RefMap) (knows : UnshallowCheck N → Knowledge)
     → ((parameters : List Parameter) (agent : FeatureValue) (more : List FeatureValue) (request : Request)
     (start shaken middle : Reading)
     (handshake kept : Handshake) (made : RefMap) (known : Knowledge) (boundary boundary' : List ObjectId) (consumer : C)
-    (told : Result (Option Outcome) Error) (new : Reading) (consumer' : C)
+    (report : Result (Option Outcome) Error) (new : Reading) (consumer' : C)
     → OpensSession parameters parties.plain start shaken handshake
     → MapsInSession request agent handshake parties.plain shaken middle (Ok made)
     → kept ≡ record handshake { refs = kept.refs }
-    → FetchesInSession parties map_of knows (session_call kept agent more request) made known boundary boundary' middle
-    consumer told new consumer'
-    → IsOneRun parties map_of knows agent more request start made known boundary consumer told new consumer')
+    → FetchesInSession parties converts map_of knows (session_call kept agent more request) made known boundary boundary' middle
+    consumer report new consumer'
+    → IsOneRun parties converts map_of knows agent more request start made known boundary consumer report new consumer')
     → (parameters : List Parameter) (agent : List ℕ) (held held' : ClientName) (request : Request) (start shaken middle : Reading)
     (handshake kept : Handshake) (made : RefMap) (known : Knowledge) (boundary boundary' : List ObjectId) (consumer : C)
-    (told : Result (Option Outcome) Error) (new : Reading) (consumer' : C)
+    (report : Result (Option Outcome) Error) (new : Reading) (consumer' : C)
     → string_bytes held.agent ≡ agent → held.session_id ≡ None → held' ≡ held
     → OpensSession parameters parties.plain start shaken handshake
     → MapsInSession request (named_by held) handshake parties.plain shaken middle (Ok made)
     → kept ≡ record handshake { refs = kept.refs }
-    → FetchesInSession parties map_of knows
+    → FetchesInSession parties converts map_of knows
     (session_call kept (named_by held') (id_features kept.capabilities held'.session_id) request) made known
     boundary boundary' middle
-    consumer told new consumer'
-    → IsOneRun parties map_of knows (client_feature agent) [] request start made known boundary consumer told new consumer'
-named_run parties map_of knows law parameters agent held held' request start shaken middle handshake kept made known boundary boundary'
-    consumer told new consumer' n i e opens maps keeps fetched =
-    law parameters (client_feature agent) [] request start shaken middle handshake kept made known boundary boundary' consumer told new
+    consumer report new consumer'
+    → IsOneRun parties converts map_of knows (client_feature agent) [] request start made known boundary consumer report new consumer'
+named_run parties converts map_of knows law parameters agent held held' request start shaken middle handshake kept made known boundary boundary'
+    consumer report new consumer' n i e opens maps keeps fetched =
+    law parameters (client_feature agent) [] request start shaken middle handshake kept made known boundary boundary' consumer report new
     consumer' opens
     (subst (λ (x : List ℕ). MapsInSession request (client_feature x) handshake parties.plain shaken middle (Ok made)) n maps) keeps
-    (subst (λ (x : List FeatureValue). FetchesInSession parties map_of knows (session_call kept (client_feature agent) x request)
-    made known boundary boundary' middle consumer told new consumer') (nothing_more held kept.capabilities i)
-    (subst (λ (x : List ℕ). FetchesInSession parties map_of knows
+    (subst (λ (x : List FeatureValue). FetchesInSession parties converts map_of knows (session_call kept (client_feature agent) x request)
+    made known boundary boundary' middle consumer report new consumer') (nothing_more held kept.capabilities i)
+    (subst (λ (x : List ℕ). FetchesInSession parties converts map_of knows
     (session_call kept (client_feature x) (id_features kept.capabilities held.session_id) request)
-    made known boundary boundary' middle consumer told new consumer') n
-    (subst (λ (x : ClientName). FetchesInSession parties map_of knows
+    made known boundary boundary' middle consumer report new consumer') n
+    (subst (λ (x : ClientName). FetchesInSession parties converts map_of knows
     (session_call kept (named_by x) (id_features kept.capabilities x.session_id) request)
-    made known boundary boundary' middle consumer told new consumer') e fetched)))
+    made known boundary boundary' middle consumer report new consumer') e fetched)))

@@ -32,29 +32,29 @@ use Rattle.gixp_fetch.specs.Mapped.{Knowledge}
 use Rattle.gixp_client.specs.Tables.{asked_table}
 use Rattle.gixp_client.specs.Boundaries.{has_id}
 use Rattle.gixp_client.specs.Unshallowed.{unknown_id, unknown_unshallow, unless_taken, known_alone}
-use Rattle.gixp_client.specs.ClientCalls.{session_call, TellsKnown, CarriesFetch, HoldsFetch, FetchesMap, FetchesInSession}
+use Rattle.gixp_client.specs.ClientCalls.{session_call, ReportsKnown, CarriesFetch, HoldsFetch, FetchesMap, FetchesInSession}
 use Rattle.gixp_client.specs.declared.request.Request.{Request}
-use Rattle.gixp_client.specs.SessionStates.{behind_fetch, IsRefusedFetch}
+use Rattle.gixp_client.specs.SessionStates.{state_after_fetch, IsRefusedFetch}
 use Rattle.gixp_client.specs.declared.state.State.{State}
-use Rattle.gixp_client.specs.declared.watched.Watched.{Watched}
+use Rattle.gixp_client.specs.declared.unshallow_check.UnshallowCheck.{UnshallowCheck}
 use Rattle.gixp_packetline.specs.declared.protocol.Protocol.{Protocol}
 
 -- a fetch with equal arguments is the session's fetch
 pub as_session : {N I S A C P X : Type 0} (parties : Parties N I A S C P X) (table : TableValue) (agent agent' : FeatureValue)
     (more more' : List FeatureValue) (shaken : Handshake) (request : Request) (old : World N I S C)
-    (came : Result (Option Outcome) (FetchError A X)) (new : World N I S C) (progress : P)
+    (received : Result (Option Outcome) (FetchError A X)) (new : World N I S C) (progress : P)
     → table ≡ asked_table request.wants_progress request.uri_protocols → agent ≡ agent' → more ≡ more'
     → Fetches parties (call_of table shaken agent more request.tags (shallow_value request.shallow) request.rejects_shallow)
-    old came new progress
-    → CarriesFetch parties (session_call shaken agent' more' request) old came new progress
-as_session parties table agent agent' more more' shaken request old came new progress t a m f = record {
+    old received new progress
+    → CarriesFetch parties (session_call shaken agent' more' request) old received new progress
+as_session parties table agent agent' more more' shaken request old received new progress t a m f = record {
   fetched =
       subst (λ (x : TableValue). Fetches parties (call_of x shaken agent' more' request.tags (shallow_value request.shallow)
-      request.rejects_shallow) old came new progress) t
+      request.rejects_shallow) old received new progress) t
       (subst (λ (x : List FeatureValue). Fetches parties (call_of table shaken agent' x request.tags (shallow_value request.shallow)
-      request.rejects_shallow) old came new progress) m
+      request.rejects_shallow) old received new progress) m
       (subst (λ (x : FeatureValue). Fetches parties (call_of table shaken x more request.tags (shallow_value request.shallow)
-      request.rejects_shallow) old came new progress) a f));
+      request.rejects_shallow) old received new progress) a f));
 }
 
 -- a fetch that failed to allocate its arguments is a fetch, too
@@ -103,30 +103,32 @@ alone_alike f g same (Ok (Some outcome)) None =
     ap (unless_taken outcome) (unshallow_alike f g same outcome.last_response.shallow_updates)
 
 -- equal tests of the boundary lead to the same result of a fetch
-tells_alike : {N A X : Type 0} (f g : ObjectId → Bool) (first last : Watched N) (came : Result (Option Outcome) (FetchError A X))
-    (told told' : Result (Option Outcome) Error) → ((id : ObjectId) → f id ≡ g id) → told ≡ told'
-    → TellsKnown f first last came told → TellsKnown g first last came told'
-tells_alike f g first last came told told' same e t = record {
+tells_alike : {N A X : Type 0} (converts : X → Error → Type 0) (f g : ObjectId → Bool) (first last : UnshallowCheck N)
+    (received : Result (Option Outcome) (FetchError A X)) (report report' : Result (Option Outcome) Error)
+    → ((id : ObjectId) → f id ≡ g id) → report ≡ report'
+    → ReportsKnown converts f first last received report → ReportsKnown converts g first last received report'
+tells_alike converts f g first last received report report' same e t = record {
   watches = λ id. t.watches id ∙ same id;
   unnoted = t.unnoted;
   owned = t.owned;
   owns = t.owns;
-  tells = sym e ∙ t.tells ∙ alone_alike f g same t.owned last.unknown;
+  reports = sym e ∙ t.reports ∙ alone_alike f g same t.owned last.unknown;
 }
 
 -- a fetch that starts from this boundary, and its result
-pub in_session : {N I A C P X : Type 0} (parties : Parties (Watched N) I A ShallowMemory C P X) (map_of : Watched N → RefMap)
-    (knows : Watched N → Knowledge) (shaken : Handshake) (request : Request) (made : RefMap) (known : Knowledge)
+pub in_session : {N I A C P X : Type 0} (parties : Parties (UnshallowCheck N) I A ShallowMemory C P X)
+    (converts : X → Error → Type 0) (map_of : UnshallowCheck N → RefMap) (knows : UnshallowCheck N → Knowledge)
+    (shaken : Handshake) (request : Request) (made : RefMap) (known : Knowledge)
     (is_in : ObjectId → Bool) (boundary boundary' : List ObjectId) (old : Reading) (consumer : C)
-    (told told' : Result (Option Outcome) Error) (new new' : Reading) (consumer' : C) (store store' : ShallowMemory)
+    (report report' : Result (Option Outcome) Error) (new new' : Reading) (consumer' : C) (store store' : ShallowMemory)
     (agent agent' : FeatureValue) (more more' : List FeatureValue) → store.ids.items ≡ boundary → store'.ids.items ≡ boundary'
-    → agent ≡ agent' → more ≡ more' → told ≡ told' → new ≡ new'
+    → agent ≡ agent' → more ≡ more' → report ≡ report' → new ≡ new'
     → ((id : ObjectId) → is_in id ≡ has_id boundary id)
-    → FetchesMap parties map_of knows (session_call shaken agent more request) made known is_in old store consumer told new store' consumer'
-    → FetchesInSession parties map_of knows (session_call shaken agent' more' request) made known boundary boundary' old
-    consumer told' new' consumer'
-in_session parties map_of knows shaken request made known is_in boundary boundary' old consumer told told' new new' consumer' store store'
-    agent agent' more more' before after named said tells stands same f = record {
+    → FetchesMap parties converts map_of knows (session_call shaken agent more request) made known is_in old store consumer report new store' consumer'
+    → FetchesInSession parties converts map_of knows (session_call shaken agent' more' request) made known boundary boundary' old
+    consumer report' new' consumer'
+in_session parties converts map_of knows shaken request made known is_in boundary boundary' old consumer report report' new new' consumer' store store'
+    agent agent' more more' before after named message_text reports position same f = record {
       store = store;
       store' = store';
       before = before;
@@ -136,70 +138,71 @@ in_session parties map_of knows shaken request made known is_in boundary boundar
         last = f.last;
         negotiates = f.negotiates;
         knowing = f.knowing;
-        came = f.came;
-        tells = tells_alike is_in (has_id boundary) f.first f.last f.came told told' same tells f.tells;
+        received = f.received;
+        reports = tells_alike converts is_in (has_id boundary) f.first f.last f.received report report' same reports f.reports;
         holds =
-            subst (λ (x : Reading). HoldsFetch parties (session_call shaken agent' more' request) f.first old store consumer f.came f.last x
-            store' consumer') stands (subst (λ (x : List FeatureValue). HoldsFetch parties (session_call shaken agent' x request) f.first
-            old store consumer f.came f.last new store' consumer') said
+            subst (λ (x : Reading). HoldsFetch parties (session_call shaken agent' more' request) f.first old store consumer f.received f.last x
+            store' consumer') position (subst (λ (x : List FeatureValue). HoldsFetch parties (session_call shaken agent' x request) f.first
+            old store consumer f.received f.last new store' consumer') message_text
             (subst (λ (x : FeatureValue). HoldsFetch parties (session_call shaken x more request) f.first old store
-            consumer f.came f.last new store' consumer') named f.holds));
-        unsent = λ h. let u = f.unsent h in (sym stands ∙ u.0, u.1);
+            consumer f.received f.last new store' consumer') named f.holds));
+        unsent = λ h. let u = f.unsent h in (sym position ∙ u.0, u.1);
       };
     }
 
 -- the same for a failed fetch, and the state after it
-pub refused_in_session : {N I A C P X : Type 0} (parties : Parties (Watched N) I A ShallowMemory C P X) (map_of : Watched N → RefMap)
-    (knows : Watched N → Knowledge) (shaken : Handshake) (request : Request) (made : RefMap) (known : Knowledge)
+pub refused_in_session : {N I A C P X : Type 0} (parties : Parties (UnshallowCheck N) I A ShallowMemory C P X)
+    (converts : X → Error → Type 0) (map_of : UnshallowCheck N → RefMap) (knows : UnshallowCheck N → Knowledge)
+    (shaken : Handshake) (request : Request) (made : RefMap) (known : Knowledge)
     (is_in : ObjectId → Bool) (boundary boundary' : List ObjectId) (old : Reading) (consumer : C)
-    (told : Result (Option Outcome) Error) (new new' : Reading) (consumer' : C) (store store' : ShallowMemory)
+    (report : Result (Option Outcome) Error) (new new' : Reading) (consumer' : C) (store store' : ShallowMemory)
     (agent agent' : FeatureValue) (more more' : List FeatureValue) (version : Protocol)
     (e : Error) (state : State) (held kept : Handshake) → store.ids.items ≡ boundary → store'.ids.items ≡ boundary'
     → agent ≡ agent' → more ≡ more' → new ≡ new'
     → ((id : ObjectId) → is_in id ≡ has_id boundary id)
-    → (f : FetchesMap parties map_of knows (session_call shaken agent more request) made known is_in old store consumer told new store'
-    consumer') → IsRefusedFetch f.last.negotiated version told e state → (f.last.negotiated ≡ false → kept ≡ held)
-    → (s : FetchesInSession parties map_of knows (session_call shaken agent' more' request) made known boundary boundary' old
-    consumer told new' consumer') × IsRefusedFetch s.fetches.last.negotiated version told e state
+    → (f : FetchesMap parties converts map_of knows (session_call shaken agent more request) made known is_in old store consumer report new store'
+    consumer') → IsRefusedFetch f.last.negotiated version report e state → (f.last.negotiated ≡ false → kept ≡ held)
+    → (s : FetchesInSession parties converts map_of knows (session_call shaken agent' more' request) made known boundary boundary' old
+    consumer report new' consumer') × IsRefusedFetch s.fetches.last.negotiated version report e state
     × (s.fetches.last.negotiated ≡ false → kept ≡ held)
 unfolding in_session
-refused_in_session parties map_of knows shaken request made known is_in boundary boundary' old consumer told new new' consumer' store
-    store' agent agent' more more' version e state held kept before after named said stands same f h k = (
-      in_session parties map_of knows shaken request made known is_in boundary boundary' old consumer told told new new' consumer'
-          store store' agent agent' more more' before after named said refl stands same f,
+refused_in_session parties converts map_of knows shaken request made known is_in boundary boundary' old consumer report new new' consumer' store
+    store' agent agent' more more' version e state held kept before after named message_text position same f h k = (
+      in_session parties converts map_of knows shaken request made known is_in boundary boundary' old consumer report report new new' consumer'
+          store store' agent agent' more more' before after named message_text refl position same f,
       h,
       k,
     )
 
 -- a copy of the shallow updates of the handshake leads to the same call
-pub same_call : (shaken : Handshake) (told : Option (Vec ShallowUpdate Global)) (agent : FeatureValue) (more : List FeatureValue)
-    (request : Request) → update_items told ≡ update_items shaken.v1_shallow_updates
-    → session_call (record shaken { v1_shallow_updates = told }) agent more request ≡ session_call shaken agent more request
-same_call shaken told agent more request e =
+pub same_call : (shaken : Handshake) (report : Option (Vec ShallowUpdate Global)) (agent : FeatureValue) (more : List FeatureValue)
+    (request : Request) → update_items report ≡ update_items shaken.v1_shallow_updates
+    → session_call (record shaken { v1_shallow_updates = report }) agent more request ≡ session_call shaken agent more request
+same_call shaken report agent more request e =
     ap (λ (x : List ShallowUpdate). let call = session_call shaken agent more request in
-    record call { wishes = record call.wishes { told = x } }) e
+    record call { fetch_options = record call.fetch_options { reported = x } }) e
 
 -- a fetch with the same call, and the state after it
-pub carried_by : {N I S A C P X : Type 0} (parties : Parties (Watched N) I A S C P X) (map_of : Watched N → RefMap)
-    (knows : Watched N → Knowledge) (made : RefMap) (known : Knowledge) (is_in : ObjectId → Bool) (old : Reading) (store : S)
-    (consumer : C) (told : Result (Option Outcome) Error) (new : Reading) (store' : S) (consumer' : C) (call call' : FetchCall)
+pub carried_by : {N I S A C P X : Type 0} (parties : Parties (UnshallowCheck N) I A S C P X) (converts : X → Error → Type 0)
+    (map_of : UnshallowCheck N → RefMap) (knows : UnshallowCheck N → Knowledge) (made : RefMap) (known : Knowledge) (is_in : ObjectId → Bool) (old : Reading) (store : S)
+    (consumer : C) (report : Result (Option Outcome) Error) (new : Reading) (store' : S) (consumer' : C) (call call' : FetchCall)
     (is_negotiated : Bool) (version : Protocol) (state : State) (shaken kept : Handshake) → call ≡ call'
-    → ((f : FetchesMap parties map_of knows call made known is_in old store consumer told new store' consumer')
-    × (f.last.negotiated ≡ is_negotiated)) → state ≡ behind_fetch is_negotiated version told
+    → ((f : FetchesMap parties converts map_of knows call made known is_in old store consumer report new store' consumer')
+    × (f.last.negotiated ≡ is_negotiated)) → state ≡ state_after_fetch is_negotiated version report
     → (is_negotiated ≡ false → kept ≡ shaken)
-    → (f : FetchesMap parties map_of knows call' made known is_in old store consumer told new store' consumer')
-    × (state ≡ behind_fetch f.last.negotiated version told) × (f.last.negotiated ≡ false → kept ≡ shaken)
-carried_by parties map_of knows made known is_in old store consumer told new store' consumer' call call' is_negotiated version state
+    → (f : FetchesMap parties converts map_of knows call' made known is_in old store consumer report new store' consumer')
+    × (state ≡ state_after_fetch f.last.negotiated version report) × (f.last.negotiated ≡ false → kept ≡ shaken)
+carried_by parties converts map_of knows made known is_in old store consumer report new store' consumer' call call' is_negotiated version state
     shaken kept e f s k =
-    subst (λ (x : FetchCall). (f : FetchesMap parties map_of knows x made known is_in old store consumer told new store' consumer')
-    × (state ≡ behind_fetch f.last.negotiated version told) × (f.last.negotiated ≡ false → kept ≡ shaken)) e
-    (f.0, s ∙ ap (λ (b : Bool). behind_fetch b version told) (sym f.1), λ h. k (sym f.1 ∙ h))
+    subst (λ (x : FetchCall). (f : FetchesMap parties converts map_of knows x made known is_in old store consumer report new store' consumer')
+    × (state ≡ state_after_fetch f.last.negotiated version report) × (f.last.negotiated ≡ false → kept ≡ shaken)) e
+    (f.0, s ∙ ap (λ (b : Bool). state_after_fetch b version report) (sym f.1), λ h. k (sym f.1 ∙ h))
 
 -- without a negotiated round the handshake is unchanged
-pub kept_whole : (shaken now : Handshake) (told first left : Option (Vec ShallowUpdate Global)) (is_negotiated : Bool)
-    → now ≡ record shaken { v1_shallow_updates = told } → first ≡ shaken.v1_shallow_updates
+pub kept_whole : (shaken now : Handshake) (report first left : Option (Vec ShallowUpdate Global)) (is_negotiated : Bool)
+    → now ≡ record shaken { v1_shallow_updates = report } → first ≡ shaken.v1_shallow_updates
     → left ≡ (if is_negotiated then None else first) → is_negotiated ≡ false → record now { v1_shallow_updates = left } ≡ shaken
-kept_whole shaken now told first left is_negotiated n f l e =
+kept_whole shaken now report first left is_negotiated n f l e =
     ap (λ (x : Handshake). record x { v1_shallow_updates = left }) n
     ∙ ap (λ (x : Option (Vec ShallowUpdate Global)). record shaken { v1_shallow_updates = x })
     (l ∙ ap (λ (b : Bool). let o : Option (Vec ShallowUpdate Global) = if b then None else first in o) e ∙ f)

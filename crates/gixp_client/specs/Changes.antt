@@ -63,8 +63,8 @@ change_by refs m =
 -- ---- refs to prune
 
 -- a name matches a destination: it is equal, or a part of it is in place of the asterisk
-abbrev pub stands_for : List ℕ → List ℕ → Bool
-stands_for destination name =
+abbrev pub matches : List ℕ → List ℕ → Bool
+matches destination name =
     if is_pattern destination
     then starts_with nat_eq name (before_star destination)
     && ends_with nat_eq (drop (length (before_star destination)) name) (after_star destination)
@@ -72,7 +72,7 @@ stands_for destination name =
 
 -- a positive refspec has a destination that matches the name
 abbrev pub writes : Spec → List ℕ → Bool
-writes s name = not (is_negative s.sign) && option_map_or (λ destination. stands_for destination name) s.destination false
+writes s name = not (is_negative s.sign) && option_map_or (λ destination. matches destination name) s.destination false
 
 abbrev pub is_written : List RefSpec → List ℕ → Bool
 is_written specs name = list_any (λ s. writes (owned_value_of s) name) specs

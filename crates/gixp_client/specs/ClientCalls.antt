@@ -1,10 +1,10 @@
 -- The calls of a client's session: one handshake, then ref maps and fetches.
-use Rattle.std.specs.Prelude.{◌≡◌, ℕ, Bool, false, List, [], ◌∷◌, map, Option, Some, None, Vec, Result, Ok, Err}
+use Rattle.std.specs.Prelude.{◌≡◌, ◌⊎◌, ℕ, Bool, false, List, [], ◌∷◌, map, Option, Some, None, Vec, Result, Ok, Err}
 use Rattle.std.specs.BTreeSet.{contains}
 use Rattle.std.specs.declared.alloc.Global.{Global}
 use Rattle.gixp_packetline.specs.Reading.{Reading}
-use Rattle.gixp_wire.specs.Greeting.{Parameter}
-use Rattle.gixp_wire.specs.declared.service.Service.TheVariants.{UploadPack}
+use Rattle.gixp_transport.specs.Greeting.{Parameter}
+use Rattle.gixp_transport.specs.declared.service.Service.TheVariants.{UploadPack}
 use Rattle.gixp_hash.specs.declared.object_id.ObjectId.{ObjectId}
 use Rattle.gixp_hash.specs.ObjectId.{id_cmp}
 use Rattle.gixp_requests.specs.Feature.{FeatureValue}
@@ -20,7 +20,10 @@ use Rattle.gixp_refmap.specs.declared.refmap.init.Context.{Context}
 use Rattle.gixp_refmap.specs.declared.refmap.init.Error.{Error as MapError}
 use Rattle.gixp_refmap.specs.declared.refmap.map.RefMap.{RefMap}
 use Rattle.gixp_handshake.specs.declared.handshake.read.Handshake.{Handshake}
-use Rattle.gixp_handshake.specs.Shake.{CredentialCall, CompletesHandshake}
+use Rattle.gixp_handshake.specs.declared.credentials.Action.{Action}
+use Rattle.gixp_handshake.specs.declared.handshake.error.Error.{Error as ShakeError}
+use Rattle.gixp_handshake.specs.Shake.{CredentialCall, CredentialAnswer, AsksCredentials, CompletesHandshake}
+use Rattle.gixp_handshake.specs.WithoutAccount.{GreetsWithoutAccount}
 use Rattle.gixp_handshake.specs.Obtain.{Obtains}
 use Rattle.gixp_handshake.specs.Ending.{EndsInteraction}
 use Rattle.gixp_capabilities.specs.declared.client.Error.{Error as ClientError}
@@ -35,13 +38,14 @@ use Rattle.gixp_fetch.specs.Fetched.{FetchCall, Fetches, call_of, unlocked_world
 use Rattle.gixp_fetch.specs.Mapped.{Knowledge}
 use Rattle.gixp_client.specs.Boundaries.{has_id}
 use Rattle.gixp_client.specs.Unshallowed.{known_alone}
-use Rattle.gixp_client.specs.ClientError.{IsToldOf, of_request}
+use Rattle.gixp_client.specs.ClientError.{IsReportOf, of_request, of_shake}
 use Rattle.gixp_client.specs.Tables.{asked_table}
 use Rattle.gixp_client.specs.declared.error.Error.{Error}
+use Rattle.gixp_client.specs.declared.error.Error.TheVariants.{Memory}
 use Rattle.gixp_client.specs.declared.request.Request.{Request}
 use Rattle.gixp_client.specs.declared.state.State.{State}
 use Rattle.gixp_client.specs.declared.state.State.TheVariants.{AtStop, Ended, Broken}
-use Rattle.gixp_client.specs.declared.watched.Watched.{Watched}
+use Rattle.gixp_client.specs.declared.unshallow_check.UnshallowCheck.{UnshallowCheck}
 
 abbrev pub some_spec : Option Spec → List Spec
 some_spec None = []
@@ -55,6 +59,17 @@ asked_specs r = record { explicit = map owned_value_of r.refspecs.items; extra =
 pub record OpensSession (parameters : List Parameter) (plain : Bool) (old new : Reading) (shaken : Handshake) : Type 0 where
   pub credentials : List CredentialCall
   pub shakes : CompletesHandshake UploadPack parameters plain old new credentials (Ok shaken)
+
+-- `Session::open_with` fails with the error of its handshake, for which it made these calls, or because an allocation failed
+abbrev pub FailsToOpen : {A : Type 0} → (A → Action → CredentialAnswer → A → Type 0) → A → List Parameter → Bool → Reading → Error → Type 0
+FailsToOpen {A} asks authenticate parameters plain old e = (e ≡ Memory) ⊎ ((x : ShakeError) × (new : Reading) × (last : A)
+    × AsksCredentials asks authenticate last (λ turns. CompletesHandshake UploadPack parameters plain old new turns (Err x))
+    × (e ≡ of_shake x))
+
+-- `Session::open` fails with the error of its handshake without an account, or because an allocation failed
+abbrev pub FailsWithoutAccount : Bool → Reading → Error → Type 0
+FailsWithoutAccount plain old e =
+    (e ≡ Memory) ⊎ ((x : ShakeError) × (new : Reading) × GreetsWithoutAccount plain old new (Err x) × (e ≡ of_shake x))
 
 -- the result of listing all refs, without prefixes (gitprotocol-v2, "ls-refs")
 abbrev pub ListsInSession : FeatureValue → Handshake → Bool → Reading → Reading → Result (Vec Ref Global) ListError → Type 0
@@ -74,54 +89,55 @@ pub record MapsInSession (request : Request) (agent : FeatureValue) (shaken : Ha
   pub obtains : Obtains (asked_table request.wants_progress request.uri_protocols) agent context shaken plain old new r
 
 -- the result of a fetch, without a type of the caller's
-abbrev pub IsToldCame : {A X : Type 0} → Result (Option Outcome) (FetchError A X) → Result (Option Outcome) Error → Type 0
-IsToldCame (Ok o) (Ok t) = t ≡ o
-IsToldCame (Err x) (Err e) = IsToldOf x e
-IsToldCame _ _ = ⊥
+abbrev pub IsReportedResult : {A X : Type 0} → (X → Error → Type 0) → Result (Option Outcome) (FetchError A X) → Result (Option Outcome) Error
+    → Type 0
+IsReportedResult converts (Ok o) (Ok t) = t ≡ o
+IsReportedResult converts (Err x) (Err e) = IsReportOf converts x e
+IsReportedResult converts _ _ = ⊥
 
 -- the result of a fetch whose negotiation checks the shallow updates against this boundary: a successful fetch fails with the first
 -- id that the server unshallows though it isn't in the boundary
-pub record TellsKnown {N A X : Type 0} (is_in : ObjectId → Bool) (first last : Watched N) (came : Result (Option Outcome) (FetchError A X))
-    (told : Result (Option Outcome) Error) : Type 0 where
+pub record ReportsKnown {N A X : Type 0} (converts : X → Error → Type 0) (is_in : ObjectId → Bool) (first last : UnshallowCheck N)
+    (received : Result (Option Outcome) (FetchError A X)) (report : Result (Option Outcome) Error) : Type 0 where
   pub watches : (id : ObjectId) → contains id_cmp first.boundary.now id ≡ is_in id
   pub unnoted : first.unknown ≡ None
   pub owned : Result (Option Outcome) Error
-  pub owns : IsToldCame came owned
-  pub tells : told ≡ known_alone is_in owned last.unknown
+  pub owns : IsReportedResult converts received owned
+  pub reports : report ≡ known_alone is_in owned last.unknown
 
 module _ {N I A S C P X : Type 0} (parties : Parties N I A S C P X) where
-  pub record CarriesFetch (call : FetchCall) (old : World N I S C) (came : Result (Option Outcome) (FetchError A X)) (new : World N I S C)
+  pub record CarriesFetch (call : FetchCall) (old : World N I S C) (received : Result (Option Outcome) (FetchError A X)) (new : World N I S C)
       (progress : P) : Type 0 where
-    pub fetched : Fetches parties call old came new progress
+    pub fetched : Fetches parties call old received new progress
 
   -- a fetch with some interrupt and some progress reporter, and without a lock before and after it
   pub record HoldsFetch (call : FetchCall) (negotiate : N) (old : Reading) (store : S) (consumer : C)
-      (came : Result (Option Outcome) (FetchError A X)) (negotiate' : N) (new : Reading) (store' : S) (consumer' : C) : Type 0 where
+      (received : Result (Option Outcome) (FetchError A X)) (negotiate' : N) (new : Reading) (store' : S) (consumer' : C) : Type 0 where
     pub interrupt : I
     pub interrupt' : I
     pub progress : P
-    pub carries : CarriesFetch call (unlocked_world negotiate old interrupt store consumer) came
+    pub carries : CarriesFetch call (unlocked_world negotiate old interrupt store consumer) received
         (unlocked_world negotiate' new interrupt' store' consumer') progress
 
   -- the same with the result that the caller gets
-  pub record HoldsAndTells (call : FetchCall) (negotiate : N) (old : Reading) (store : S) (consumer : C)
-      (told : Result (Option Outcome) Error) (negotiate' : N) (new : Reading) (store' : S) (consumer' : C) : Type 0 where
-    pub came : Result (Option Outcome) (FetchError A X)
-    pub tells : IsToldCame came told
-    pub holds : HoldsFetch call negotiate old store consumer came negotiate' new store' consumer'
+  pub record HoldsAndReports (converts : X → Error → Type 0) (call : FetchCall) (negotiate : N) (old : Reading) (store : S) (consumer : C)
+      (report : Result (Option Outcome) Error) (negotiate' : N) (new : Reading) (store' : S) (consumer' : C) : Type 0 where
+    pub received : Result (Option Outcome) (FetchError A X)
+    pub reports : IsReportedResult converts received report
+    pub holds : HoldsFetch call negotiate old store consumer received negotiate' new store' consumer'
 
-module _ {N I S A C P X : Type 0} (parties : Parties (Watched N) I A S C P X) (map_of : Watched N → RefMap)
-    (knows : Watched N → Knowledge) where
+module _ {N I S A C P X : Type 0} (parties : Parties (UnshallowCheck N) I A S C P X) (converts : X → Error → Type 0)
+    (map_of : UnshallowCheck N → RefMap) (knows : UnshallowCheck N → Knowledge) where
   -- a fetch whose negotiation is over this map, has this knowledge, and checks the shallow updates against this boundary
   pub record FetchesMap (call : FetchCall) (made : RefMap) (known : Knowledge) (is_in : ObjectId → Bool) (old : Reading) (store : S)
-      (consumer : C) (told : Result (Option Outcome) Error) (new : Reading) (store' : S) (consumer' : C) : Type 0 where
-    pub first : Watched N
-    pub last : Watched N
+      (consumer : C) (report : Result (Option Outcome) Error) (new : Reading) (store' : S) (consumer' : C) : Type 0 where
+    pub first : UnshallowCheck N
+    pub last : UnshallowCheck N
     pub negotiates : map_of first ≡ made
     pub knowing : knows first ≡ known
-    pub came : Result (Option Outcome) (FetchError A X)
-    pub tells : TellsKnown is_in first last came told
-    pub holds : HoldsFetch parties call first old store consumer came last new store' consumer'
+    pub received : Result (Option Outcome) (FetchError A X)
+    pub reports : ReportsKnown converts is_in first last received report
+    pub holds : HoldsFetch parties call first old store consumer received last new store' consumer'
     -- without a negotiated round nothing was sent, and the consumer received nothing
     pub unsent : last.negotiated ≡ false → (new ≡ old) × (consumer' ≡ consumer)
 
@@ -135,24 +151,24 @@ abbrev pub session_knowledge : Request → Objects → LocalRefs → Knowledge
 session_knowledge request objects refs =
     record { tags = request.tags; shallow = request.shallow; commits = objects; existing = objects; refs = refs }
 
-module _ {N I A C P X : Type 0} (parties : Parties (Watched N) I A ShallowMemory C P X) (map_of : Watched N → RefMap)
-    (knows : Watched N → Knowledge) where
+module _ {N I A C P X : Type 0} (parties : Parties (UnshallowCheck N) I A ShallowMemory C P X) (converts : X → Error → Type 0)
+    (map_of : UnshallowCheck N → RefMap) (knows : UnshallowCheck N → Knowledge) where
   -- a session's fetch, which leads from one shallow boundary to another
   pub record FetchesInSession (call : FetchCall) (made : RefMap) (known : Knowledge) (boundary boundary' : List ObjectId) (old : Reading)
-      (consumer : C) (told : Result (Option Outcome) Error) (new : Reading) (consumer' : C) : Type 0 where
+      (consumer : C) (report : Result (Option Outcome) Error) (new : Reading) (consumer' : C) : Type 0 where
     pub store : ShallowMemory
     pub store' : ShallowMemory
     pub before : store.ids.items ≡ boundary
     pub after : store'.ids.items ≡ boundary'
-    pub fetches : FetchesMap parties map_of knows call made known (has_id boundary) old store consumer told new store' consumer'
+    pub fetches : FetchesMap parties converts map_of knows call made known (has_id boundary) old store consumer report new store' consumer'
 
 -- the result of `close`
-abbrev pub IsToldEnd : Result (Unit {0}) ClientError → Result (Unit {0}) Error → Type 0
-IsToldEnd (Ok u) r = r ≡ Ok tt
-IsToldEnd (Err e) r = r ≡ Err (of_request e)
+abbrev pub IsReportedEnd : Result (Unit {0}) ClientError → Result (Unit {0}) Error → Type 0
+IsReportedEnd (Ok u) r = r ≡ Ok tt
+IsReportedEnd (Err e) r = r ≡ Err (of_request e)
 
 -- `close` sends the end of the session in the state `AtStop`, and does nothing in the others
 abbrev pub ClosesSession : State → Reading → Reading → Result (Unit {0}) Error → Type 0
-ClosesSession AtStop old new r = (ended : Result (Unit {0}) ClientError) × EndsInteraction old new ended × IsToldEnd ended r
+ClosesSession AtStop old new r = (ended : Result (Unit {0}) ClientError) × EndsInteraction old new ended × IsReportedEnd ended r
 ClosesSession Ended old new r = (new ≡ old) × (r ≡ Ok tt)
 ClosesSession Broken old new r = (new ≡ old) × (r ≡ Ok tt)

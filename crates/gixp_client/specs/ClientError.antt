@@ -1,5 +1,5 @@
 -- The error of a session's call, by the error of the lower call.
-use Rattle.std.specs.Prelude.{◌≡◌, ◌⊎◌, ℕ, ⊤, List, codes, Option, Some, None, String, string_bytes}
+use Rattle.std.specs.Prelude.{◌≡◌, ◌≢◌, ◌⊎◌, ℕ, ⊤, false, List, codes, Option, Some, None, String, string_bytes}
 use Rattle.std.specs.declared.io.ErrorKind.{ErrorKind}
 use Rattle.std.specs.declared.alloc.Global.{Global}
 use Rattle.bstr.specs.Owned.{bstring_bytes}
@@ -21,26 +21,33 @@ use Rattle.gixp_refmap.specs.declared.refmap.init.Error.TheVariants as init
 use Rattle.gixp_handshake.specs.HandshakeMessage.{handshake_message}
 use Rattle.gixp_handshake.specs.declared.handshake.error.Error.{Error as ShakeError}
 use Rattle.gixp_handshake.specs.declared.handshake.error.Error.TheVariants as shake
+use Rattle.gixp_handshake.specs.declared.handshake.read.Handshake.{Handshake as ServerGreeting}
 use Rattle.gixp_negotiate.specs.declared.negotiate.Error.{Error as NegotiateError}
 use Rattle.gixp_negotiate.specs.declared.negotiate.Error.TheVariants as negotiation
 use Rattle.gixp_client.specs.declared.consumer.PackError.{PackError}
 use Rattle.gixp_client.specs.declared.consumer.PackError.TheVariants as pack
 use Rattle.gixp_graph.specs.declared.refs.RefStoreError.TheVariants as refs
+use Rattle.gixp_fetch.specs.declared.consume.copy.CopyError.{CopyError}
+use Rattle.gixp_fetch.specs.declared.consume.copy.CopyError.TheVariants as copy
 use Rattle.gixp_fetch.specs.declared.error.Error.{Error as FetchError}
 use Rattle.gixp_fetch.specs.declared.error.Error.TheVariants as fetch
 use Rattle.gixp_client.specs.declared.error.Error.{Error}
 use Rattle.gixp_client.specs.declared.error.Error.TheVariants.{Handshake, Refs, UnsupportedListing, UnknownObjectFormat, Conflicts, Request, Answer, Unnegotiated, Objects, LocalRefs, MissingFeature, ShallowServer, Pack, Rest, Reported, Over, Memory}
+use Rattle.gixp_client.specs.declared.request.Request.{Request as FetchRequest}
+use Rattle.gixp_client.specs.declared.state.State.{State}
+use Rattle.gixp_client.specs.declared.state.State.TheVariants.{AtStop}
+use Rattle.gixp_client.specs.Filters.{offers_filter}
 
 -- the server's message
-abbrev pub said_in : Error → Option (List ℕ)
-said_in (Handshake e) = handshake_message e
-said_in (Refs e) = refs_message e
-said_in (Request e) = client_message e
-said_in (Answer e) = answer_message e
-said_in (Pack (pack.Read e)) = read_message e
-said_in (Rest e) = read_message e
-said_in (Reported message) = Some (bstring_bytes message)
-said_in _ = None
+abbrev pub message_in : Error → Option (List ℕ)
+message_in (Handshake e) = handshake_message e
+message_in (Refs e) = refs_message e
+message_in (Request e) = client_message e
+message_in (Answer e) = answer_message e
+message_in (Pack (pack.Read e)) = read_message e
+message_in (Rest e) = read_message e
+message_in (Reported message) = Some (bstring_bytes message)
+message_in _ = None
 
 -- ---- failed reads and writes
 
@@ -85,7 +92,7 @@ place_of (Handshake _) = codes "the handshake"
 place_of (Request e) = codes "a request"
 place_of (Answer e) = codes "an answer"
 place_of (Pack e) = codes "the pack"
-place_of (Rest e) = codes "what comes behind the pack"
+place_of (Rest e) = codes "the data after the pack"
 place_of _ = codes "the session"
 
 -- ---- errors of the lower calls
@@ -131,6 +138,11 @@ of_negotiation negotiation.PeelToId = LocalRefs refs.Peel
 of_negotiation (negotiation.AlternateRefsAndObjects e) = LocalRefs refs.Iter
 of_negotiation negotiation.Memory = Memory
 
+-- the error of a consumer that copies the pack
+abbrev pub of_copy : CopyError → PackError
+of_copy (copy.Read e) = pack.Read e
+of_copy (copy.Write kind) = pack.Write kind
+
 -- the error of a pack's consumer
 abbrev pub of_refused_pack : PackError → Error
 of_refused_pack (pack.Read read.Memory) = Memory
@@ -140,24 +152,25 @@ of_refused_pack e = Pack e
 abbrev pub NamesMissing : List ℕ → Error → Type 0
 NamesMissing feature e = ((text : String Global) × (string_bytes text ≡ feature) × (e ≡ MissingFeature text)) ⊎ (e ≡ Memory)
 
--- the error of a failed fetch; a consumer's error is converted
-abbrev pub IsToldOf : {A X : Type 0} → FetchError A X → Error → Type 0
-IsToldOf (fetch.FetchResponse x) e = e ≡ Answer x
-IsToldOf (fetch.Negotiate x) e = e ≡ of_negotiation x
-IsToldOf (fetch.Client x) e = e ≡ of_request x
-IsToldOf (fetch.MissingServerFeature feature description) e = NamesMissing feature.now e
-IsToldOf (fetch.WriteShallowFile x) e = e ≡ Memory
-IsToldOf (fetch.ReadShallowFile x) e = e ≡ Memory
-IsToldOf (fetch.LockShallowFile x) e = e ≡ Memory
-IsToldOf fetch.RejectShallowRemote e = e ≡ ShallowServer
-IsToldOf (fetch.ConsumePack x) e = ⊤
-IsToldOf (fetch.ReadRemainingBytes x) e = e ≡ Rest x
-IsToldOf fetch.Memory e = e ≡ Memory
+-- the error of a failed fetch; a consumer's error is converted as its type says
+abbrev pub IsReportOf : {A X : Type 0} → (X → Error → Type 0) → FetchError A X → Error → Type 0
+IsReportOf converts (fetch.FetchResponse x) e = e ≡ Answer x
+IsReportOf converts (fetch.Negotiate x) e = e ≡ of_negotiation x
+IsReportOf converts (fetch.Client x) e = e ≡ of_request x
+IsReportOf converts (fetch.MissingServerFeature feature description) e = NamesMissing feature.now e
+IsReportOf converts (fetch.WriteShallowFile x) e = e ≡ Memory
+IsReportOf converts (fetch.ReadShallowFile x) e = e ≡ Memory
+IsReportOf converts (fetch.LockShallowFile x) e = e ≡ Memory
+IsReportOf converts fetch.RejectShallowRemote e = e ≡ ShallowServer
+IsReportOf converts (fetch.ConsumePack x) e = converts x e
+IsReportOf converts (fetch.ReadRemainingBytes x) e = e ≡ Rest x
+IsReportOf converts fetch.Memory e = e ≡ Memory
 
--- the error of a call that failed before anything was sent: the session is over, the server doesn't offer a feature, or an
--- allocation failed
-abbrev pub IsUnsent : Error → Type 0
-IsUnsent Over = ⊤
-IsUnsent Memory = ⊤
-IsUnsent (MissingFeature feature) = ⊤
-IsUnsent _ = ⊥
+-- the error of a fetch that failed before anything was sent, in this state of the session: the session is over; or the request has a
+-- filter, which the server doesn't offer; or an allocation failed
+abbrev pub IsUnsent : State → FetchRequest → ServerGreeting → Error → Type 0
+IsUnsent state request shaken Over = state ≢ AtStop
+IsUnsent state request shaken (MissingFeature feature) =
+    (string_bytes feature ≡ codes "filter") × (request.filter ≢ None) × (offers_filter shaken ≡ false)
+IsUnsent state request shaken Memory = ⊤
+IsUnsent state request shaken _ = ⊥

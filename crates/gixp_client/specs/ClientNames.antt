@@ -35,5 +35,5 @@ abbrev pub named_by : ClientName → FeatureValue
 named_by name = client_feature (string_bytes name.agent)
 
 -- the values of the features in fetch requests to a server with these capabilities
-abbrev pub SaysOfItself : ClientName → List CapabilityValue → SentName → Type 0
-SaysOfItself name caps sent = (agent_of sent.agent ≡ named_by name) × (own_features sent.session_id ≡ id_features caps name.session_id)
+abbrev pub NamesItself : ClientName → List CapabilityValue → SentName → Type 0
+NamesItself name caps sent = (agent_of sent.agent ≡ named_by name) × (own_features sent.session_id ≡ id_features caps name.session_id)

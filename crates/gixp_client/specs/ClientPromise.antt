@@ -15,22 +15,22 @@ use Rattle.gixp_fetch.specs.Fetched.{unlocked_world}
 use Rattle.gixp_fetch.specs.Mapped.{Knowledge}
 use Rattle.gixp_fetch.specs.Headline.{Run, Promise}
 use Rattle.gixp_client.specs.Boundaries.{has_id}
-use Rattle.gixp_client.specs.ClientCalls.{asked_specs, session_call, TellsKnown}
+use Rattle.gixp_client.specs.ClientCalls.{asked_specs, session_call, ReportsKnown}
 use Rattle.gixp_client.specs.declared.error.Error.{Error}
 use Rattle.gixp_client.specs.declared.request.Request.{Request}
-use Rattle.gixp_client.specs.declared.watched.Watched.{Watched}
+use Rattle.gixp_client.specs.declared.unshallow_check.UnshallowCheck.{UnshallowCheck}
 
-module _ {N I A C P X : Type 0} (parties : Parties (Watched N) I A ShallowMemory C P X) (map_of : Watched N → RefMap)
-    (knows : Watched N → Knowledge) where
+module _ {N I A C P X : Type 0} (parties : Parties (UnshallowCheck N) I A ShallowMemory C P X) (converts : X → Error → Type 0)
+    (map_of : UnshallowCheck N → RefMap) (knows : UnshallowCheck N → Knowledge) where
   -- a session from the start of its transport to the result of its fetch is one run of the law, with its promise
   pub record IsOneRun (agent : FeatureValue) (more : List FeatureValue) (request : Request) (start : Reading) (made : RefMap) (known : Knowledge)
-      (boundary : List ObjectId) (consumer : C) (told : Result (Option Outcome) Error) (new : Reading) (consumer' : C) : Type 0 where
+      (boundary : List ObjectId) (consumer : C) (report : Result (Option Outcome) Error) (new : Reading) (consumer' : C) : Type 0 where
     pub context : Context
     pub asked : context_value context ≡ asked_specs request
     pub shaken : Handshake
     pub middle : Reading
-    pub first : Watched N
-    pub last : Watched N
+    pub first : UnshallowCheck N
+    pub last : UnshallowCheck N
     pub knowing : knows first ≡ known
     pub interrupt : I
     pub interrupt' : I
@@ -38,9 +38,9 @@ module _ {N I A C P X : Type 0} (parties : Parties (Watched N) I A ShallowMemory
     pub store' : ShallowMemory
     pub before : store.ids.items ≡ boundary
     pub progress : P
-    pub came : Result (Option Outcome) (FetchError A X)
-    pub tells : TellsKnown (has_id boundary) first last came told
+    pub received : Result (Option Outcome) (FetchError A X)
+    pub reports : ReportsKnown converts (has_id boundary) first last received report
     pub run : Run parties map_of knows (session_call shaken agent more request) context start made
-        (unlocked_world first middle interrupt store consumer) came (unlocked_world last new interrupt' store' consumer') progress
+        (unlocked_world first middle interrupt store consumer) received (unlocked_world last new interrupt' store' consumer') progress
     pub promise : Promise parties map_of knows (session_call shaken agent more request) context start made
-        (unlocked_world first middle interrupt store consumer) came (unlocked_world last new interrupt' store' consumer') progress run
+        (unlocked_world first middle interrupt store consumer) received (unlocked_world last new interrupt' store' consumer') progress run

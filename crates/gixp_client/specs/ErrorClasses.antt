@@ -20,7 +20,7 @@ use Rattle.gixp_client.specs.declared.class.ErrorClass.{ErrorClass}
 use Rattle.gixp_client.specs.declared.class.ErrorClass.TheVariants.{Server, Connection, Protocol, Refused, Conflict, Local, Memory}
 use Rattle.gixp_client.specs.declared.error.Error.{Error}
 use Rattle.gixp_client.specs.declared.error.Error.TheVariants as failure
-use Rattle.gixp_client.specs.ClientError.{said_in, kind_in}
+use Rattle.gixp_client.specs.ClientError.{message_in, kind_in}
 
 -- the class of an error of the reader of packet lines
 abbrev pub read_class : ReadError → ErrorClass
@@ -96,4 +96,4 @@ rest_class _ = Refused
 
 -- a server message comes first, then a failed connection
 abbrev pub class_of : Error → ErrorClass
-class_of e = if is_some (said_in e) then Server else if is_some (kind_in e) then Connection else rest_class e
+class_of e = if is_some (message_in e) then Server else if is_some (kind_in e) then Connection else rest_class e

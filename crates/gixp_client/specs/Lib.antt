@@ -14,8 +14,9 @@ pub mod Reasons
 pub mod Sentences
 pub mod ClientMaps
 pub mod ClientPromise
+pub mod SessionRefs
+pub mod SessionFetch
 pub mod Listening
-pub mod Heard
 pub mod Boundaries
 pub mod Changes
 pub mod Requests

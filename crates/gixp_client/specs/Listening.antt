@@ -1,8 +1,9 @@
 -- The messages of bands 2 and 3 that a listener keeps and shows (gitprotocol-pack, "Packfile Data").
-use Rattle.std.specs.Prelude.{◌≡◌, ◌⊎◌, ◌+◌, ◌-◌, ◌==◌, ◌&&◌, ◌||◌, nat_lt, nat_le, not, ℕ, Bool, true, false, if◌then◌else◌, List, [], ◌∷◌, ◌++◌, length, take, map, codes, Option, Some, None, unwrap_or}
+use Rattle.std.specs.Prelude.{◌≡◌, ◌⊎◌, ◌+◌, ◌-◌, ◌==◌, ◌||◌, ℕ, Bool, true, false, if◌then◌else◌, List, [], ◌∷◌, ◌++◌, length, take, map, codes, Option, Some, None, unwrap_or}
 use Rattle.std.specs.List.{slice_get}
 use Rattle.std.specs.Io.KnownBytes.{Appends}
 use Rattle.bstr.specs.Owned.{bstring_bytes}
+use Rattle.gixp_utils.specs.Printable.{visible}
 use Rattle.gixp_client.specs.declared.listen.ServerText.{ServerText}
 use Rattle.gixp_client.specs.declared.listen.Kept.{Kept}
 
@@ -54,28 +55,25 @@ pub record LosesText (old new : Kept) : Type 0 where
   pub cut : new.is_cut ≡ true
 
 -- a text is kept or missing; an error is recorded in both cases
-abbrev pub HearsText : Bool → List ℕ → Kept → Kept → Type 0
-HearsText is_error text old new =
+abbrev pub ReceivesText : Bool → List ℕ → Kept → Kept → Type 0
+ReceivesText is_error text old new =
     (KeepsText is_error text old new ⊎ LosesText old new) × (new.has_error ≡ (old.has_error || is_error))
+
+-- a message is reported and kept, or recorded as missing; a line without one changes neither the listener nor the kept messages
+abbrev pub ReceivesLine : {L : Type 0} → (L → Bool → List ℕ → L → Type 0) → Option (Bool × List ℕ) → L → Kept → L → Kept → Type 0
+ReceivesLine receives None listener kept listener' kept' = (listener' ≡ listener) × (kept' ≡ kept)
+ReceivesLine receives (Some text) listener kept listener' kept' = receives listener text.0 text.1 listener' × ReceivesText text.0 text.1 kept kept'
 
 -- ---- shown messages
 
--- a terminal may interpret the byte: it is an ASCII control character other than a tab, or in UTF-8 the end of one of Latin-1
-abbrev pub is_control : ℕ → ℕ → Bool
-is_control before b = (nat_lt b 32 && not (b == 9)) || b == 127 || (before == 194 && nat_le 128 b && nat_lt b 160)
-
--- a question mark replaces such a byte
-abbrev pub visible : ℕ → ℕ → ℕ
-visible before b = if is_control before b then 63 else b
-
 -- blanks after a line, which overwrite the rest of a longer line
-abbrev pub blanks_behind : List ℕ → List ℕ
-blanks_behind [] = []
-blanks_behind (b ∷ line) = codes "        "
+abbrev pub trailing_blanks : List ℕ → List ℕ
+trailing_blanks [] = []
+trailing_blanks (b ∷ line) = codes "        "
 
 -- a server's line as it is shown, with its terminator
 abbrev pub remote_line : List ℕ → ℕ → List ℕ
-remote_line line end = codes "remote: " ++ line ++ blanks_behind line ++ end ∷ []
+remote_line line end = codes "remote: " ++ line ++ trailing_blanks line ++ end ∷ []
 
 -- the written output, and the unfinished line after it
 pub record ShownLines : Type 0 where

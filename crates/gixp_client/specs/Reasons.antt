@@ -18,9 +18,9 @@ use Rattle.gixp_client.specs.declared.error.Error.TheVariants.{Handshake, Refs, 
 -- a reader's error; the server's own error and an allocation failure have other texts
 abbrev pub read_reason : ReadError → Option (List ℕ)
 read_reason (read.Io kind) = Some (codes "the connection can't be read")
-read_reason (read.Decode e) = Some (codes "protocol error: the server sent what is no packet line")
-read_reason read.UnexpectedFrame = Some (codes "protocol error: the server sent a packet that has no place there")
-read_reason read.NotUtf8 = Some (codes "protocol error: the server sent a line that is no UTF-8")
+read_reason (read.Decode e) = Some (codes "protocol error: the server sent something that is not a packet line")
+read_reason read.UnexpectedFrame = Some (codes "protocol error: the server sent an unexpected packet")
+read_reason read.NotUtf8 = Some (codes "protocol error: the server sent a line that is not UTF-8")
 read_reason (read.BadBand band) = Some (codes "protocol error: bad band")
 read_reason read.Interrupted = Some (codes "it was interrupted")
 read_reason (read.Server message) = None
@@ -31,16 +31,16 @@ abbrev pub client_reason : ClientError → Option (List ℕ)
 client_reason (client.Io kind) = Some (codes "the connection broke")
 client_reason (client.Read e) = read_reason e
 client_reason client.LineTooLong = Some (codes "a line is too long for a packet")
-client_reason client.AuthenticationUnsupported = Some (codes "this connection takes no account")
+client_reason client.AuthenticationUnsupported = Some (codes "this connection can't use an account")
 client_reason (client.UnsupportedProtocolVersion word) =
-    Some (codes "the server speaks a version of the protocol that isn't known")
-client_reason client.MissingDelimitingNullByte = Some (codes "protocol error: the server says no capabilities")
+    Some (codes "the server speaks an unknown version of the protocol")
+client_reason client.MissingDelimitingNullByte = Some (codes "protocol error: the server sent no capabilities")
 client_reason client.Memory = None
 
 -- the error of a list of refs; a malformed ref line has another text
 abbrev pub refs_reason : ParseError → Option (List ℕ)
 refs_reason (parse.Io kind) = Some (codes "the connection can't be read")
-refs_reason (parse.DecodePacketline e) = Some (codes "protocol error: the server sent what is no packet line")
+refs_reason (parse.DecodePacketline e) = Some (codes "protocol error: the server sent something that is not a packet line")
 refs_reason (parse.Reader e) = read_reason e
 refs_reason _ = None
 

@@ -30,7 +30,7 @@ pub record IsDefaultRequest (r : Request) : Type 0 where
 pub record AddsSpec (text : List ℕ) (old new : Request) : Type 0 where
   pub added : RefSpec
   pub value : spec_of text ≡ Ok (owned_value_of added)
-  pub behind : new.refspecs.items ≡ old.refspecs.items ++ added ∷ []
+  pub following : new.refspecs.items ≡ old.refspecs.items ++ added ∷ []
 
 -- the text isn't a refspec, for this reason; or an allocation failed
 abbrev pub IsSpecRefusal : List ℕ → Error → Type 0

@@ -4,7 +4,7 @@ use Rattle.std.specs.Fmt.{decimal}
 use Rattle.std.specs.declared.io.ErrorKind.{ErrorKind}
 use Rattle.std.specs.declared.io.ErrorKind.TheVariants.{UnexpectedEof}
 use Rattle.gixp_hash.specs.Hex.{encode_lower}
-use Rattle.gixp_client.specs.ClientError.{said_in, place_of, kind_in}
+use Rattle.gixp_client.specs.ClientError.{message_in, place_of, kind_in}
 use Rattle.gixp_client.specs.Reasons.{reason}
 use Rattle.gixp_client.specs.declared.consumer.PackError.TheVariants as pack
 use Rattle.gixp_client.specs.declared.error.Error.{Error}
@@ -13,7 +13,7 @@ use Rattle.gixp_client.specs.declared.error.Error.TheVariants.{UnsupportedListin
 -- the text of an error without a server message, a failed read or write, or a violation of the protocol
 abbrev pub rest_sentence : Error → Option (List ℕ)
 rest_sentence UnsupportedListing = Some (codes "the server doesn't list refs as it is asked to")
-rest_sentence (Unnegotiated rounds) = Some (codes "no pack came after " ++ decimal rounds ++ codes " round(s) of the negotiation")
+rest_sentence (Unnegotiated rounds) = Some (codes "the negotiation ended without a pack after " ++ decimal rounds ++ codes " round(s)")
 rest_sentence (MissingFeature feature) = Some (codes "the server doesn't offer " ++ string_bytes feature)
 rest_sentence ShallowServer = Some (codes "the server's repository is shallow")
 rest_sentence (UnknownUnshallow id) = Some (codes "the server takes " ++ encode_lower id.bytes
@@ -40,9 +40,9 @@ unsaid_sentence (Pack (pack.Write kind)) = None
 unsaid_sentence e = kind_sentence e (kind_in e)
 
 -- the text that has a server message is undefined
-abbrev pub said_sentence : Error → Option (List ℕ) → Option (List ℕ)
-said_sentence e (Some words) = None
-said_sentence e None = unsaid_sentence e
+abbrev pub message_sentence : Error → Option (List ℕ) → Option (List ℕ)
+message_sentence e (Some words) = None
+message_sentence e None = unsaid_sentence e
 
 abbrev pub sentence_of : Error → Option (List ℕ)
-sentence_of e = said_sentence e (said_in e)
+sentence_of e = message_sentence e (message_in e)

@@ -126,9 +126,10 @@ fn updates_between(
 ) -> Result<Vec<ShallowUpdate>, AllocError>
     ensures { IfOk result (λ updates. updates.items ≡ updates_between before.now after.now) }
 {
-    let came = ids_beyond(alloc, after, before)?;
+    let received = ids_beyond(alloc, after, before)?;
     let went = ids_beyond(alloc, before, after)?;
-    came.iter()
+    received
+        .iter()
         .map(|id| ShallowUpdate::Shallow(*id))
         .chain(went.iter().map(|id| ShallowUpdate::Unshallow(*id)))
         .collect(alloc)

@@ -7,7 +7,7 @@ ghost use Rattle.std.specs.FinMap as finite;
 ghost use Rattle.bstr.specs.Owned.{bstring_bytes};
 ghost use Rattle.gixp_hash.specs.declared.object_id.ObjectId.{ObjectId};
 ghost use Rattle.gixp_refspec.specs.RefSpec.{owned_value_of};
-ghost use Rattle.gixp_client.specs.Changes.{change_value, change_values, listed_value, change_to, change_by, stands_for, writes, is_written, goes_to, is_mapped, has_key, removals, removals_of, changes_of};
+ghost use Rattle.gixp_client.specs.Changes.{change_value, change_values, listed_value, change_to, change_by, matches, writes, is_written, goes_to, is_mapped, has_key, removals, removals_of, changes_of};
 
 use bstr::BString;
 use gixp_graph::RefStore;
@@ -142,8 +142,8 @@ fn mapped_changes<R: RefStore>(
 }
 
 // Whether the destination of a refspec, which may contain a `*`, matches a name.
-fn stands_for(destination: &[u8], name: &[u8]) -> bool
-    ensures { result ≡ stands_for destination.now name.now }
+fn matches(destination: &[u8], name: &[u8]) -> bool
+    ensures { result ≡ matches destination.now name.now }
 {
     match around_star(destination) {
         Some((front, back)) => name.starts_with(front) && name[front.len()..].ends_with(back),
@@ -155,7 +155,7 @@ fn writes(spec: &RefSpec, name: &[u8]) -> bool
     ensures { result ≡ writes (owned_value_of spec.now) name.now }
 {
     match spec.to_ref().instruction() {
-        Instruction::Fetch(Fetch::AndUpdate { dst, .. }) => stands_for(dst.as_bytes(), name),
+        Instruction::Fetch(Fetch::AndUpdate { dst, .. }) => matches(dst.as_bytes(), name),
         Instruction::Fetch(Fetch::Only { .. } | Fetch::Exclude { .. }) => false,
     }
 }

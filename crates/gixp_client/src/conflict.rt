@@ -9,7 +9,7 @@ ghost use Rattle.bstr.specs.Owned.{bstring_bytes};
 ghost use Rattle.gixp_client.specs.Clashes.{clash_value, clash_in, clash_of, conflict_in};
 
 use crate::error::Error;
-use crate::words::Words;
+use crate::printable::Words;
 use bstr::BString;
 use gixp_matching::match_group::SourceRef;
 use gixp_matching::match_group::validate::{self, Issue};

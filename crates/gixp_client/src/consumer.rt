@@ -1,4 +1,7 @@
 //! The error of a pack's consumer.
+ghost use Rattle.std.specs.Prelude.{◌≡◌};
+ghost use Rattle.gixp_client.specs.ClientError.{of_copy};
+
 use gixp_fetch::consume::CopyError;
 use gixp_packetline::read;
 use std::io::ErrorKind;
@@ -15,6 +18,8 @@ pub enum PackError {
 }
 
 impl From<CopyError> for PackError {
+    ghost from_gives = { λ e error. error ≡ of_copy e };
+
     fn from(e: CopyError) -> PackError {
         match e {
             CopyError::Read(e) => PackError::Read(e),

@@ -2,15 +2,15 @@
 ghost use Rattle.std.specs.Prelude.{◌≡◌};
 ghost use Rattle.std.specs.Option.{option_map};
 ghost use Rattle.bstr.specs.BStr.{bstr_bytes};
-ghost use Rattle.gixp_client.specs.ClientError.{said_in, place_of, kind_in, of_shake, of_refs, of_list, of_init, of_request, of_negotiation, of_refused_pack};
+ghost use Rattle.gixp_client.specs.ClientError.{message_in, place_of, kind_in, of_shake, of_refs, of_list, of_init, of_request, of_negotiation, of_copy, of_refused_pack};
 ghost use Rattle.gixp_client.specs.Reasons.{reason};
 
 use crate::consumer::PackError;
+use crate::printable::Words;
 use crate::reason::{
     answer_reason, client_reason, handshake_reason, pack_reason, read_reason, refs_reason,
 };
 use crate::refusal::{answer_kind, client_kind, pack_kind, parse_kind};
-use crate::words::Words;
 use bstr::{BStr, BString};
 use gixp_capabilities::client;
 use gixp_fetch::consume::CopyError;
@@ -101,7 +101,7 @@ pub enum Error {
 impl Error {
     /// The server's message, if the error is the server's.
     pub fn server_message(&self) -> Option<BStr<'_>>
-        ensures { option_map bstr_bytes result ≡ said_in self.now }
+        ensures { option_map bstr_bytes result ≡ message_in self.now }
     {
         match self {
             Error::Handshake(e) => e.server_message(),
@@ -125,7 +125,7 @@ impl Error {
             Error::Request(_) => "a request",
             Error::Answer(_) => "an answer",
             Error::Pack(_) => "the pack",
-            Error::Rest(_) => "what comes behind the pack",
+            Error::Rest(_) => "the data after the pack",
             _ => "the session",
         }
     }
@@ -180,13 +180,13 @@ impl Display for Rest<'_> {
 
     fn fmt<W: fmt::Write>(&self, f: &mut fmt::Formatter<W>) -> fmt::Result {
         match self.error {
-            Error::Refspec { spec, why } => write!(f, "{spec:?} is no refspec: {why}"),
-            Error::Handshake(e) => write!(f, "the handshake was refused: {e:?}"),
+            Error::Refspec { spec, why } => write!(f, "{spec:?} is not a refspec: {why}"),
+            Error::Handshake(e) => write!(f, "the handshake failed: {e:?}"),
             Error::Refs(e) => write!(f, "the list of refs can't be read: {e:?}"),
             Error::UnsupportedListing => f.write_str(
                 "the server doesn't list refs as it is asked to",
             ),
-            Error::UnterminatedRefs => f.write_str("the list of refs isn't whole"),
+            Error::UnterminatedRefs => f.write_str("the list of refs is incomplete"),
             Error::UnknownObjectFormat { format } => {
                 write!(f, "mismatched algorithms: client sha1; server {format}")
             }
@@ -194,13 +194,16 @@ impl Display for Rest<'_> {
                 Some(conflict) => conflict.fmt(f),
                 None => f.write_str("the refs can't be mapped"),
             },
-            Error::Request(e) => write!(f, "a request wasn't sent: {e:?}"),
+            Error::Request(e) => write!(f, "sending a request failed: {e:?}"),
             Error::Answer(response::Error::MissingServerCapability { feature }) => {
                 write!(f, "the server doesn't offer {feature}")
             }
-            Error::Answer(e) => write!(f, "an answer can't be read: {e:?}"),
+            Error::Answer(e) => write!(f, "a response can't be read: {e:?}"),
             Error::Unnegotiated { rounds } => {
-                write!(f, "no pack came after {rounds} round(s) of the negotiation")
+                write!(
+                    f,
+                    "the negotiation ended without a pack after {rounds} round(s)"
+                )
             }
             Error::Objects(e) => write!(f, "an object of the repository can't be read: {e:?}"),
             Error::LocalRefs(e) => write!(f, "the refs of the repository can't be read: {e:?}"),
@@ -212,9 +215,12 @@ impl Display for Rest<'_> {
                     "the server takes {id} out of the shallow boundary, which doesn't have it"
                 )
             }
-            Error::Pack(PackError::Refused(why)) => write!(f, "the pack is refused: {why}"),
+            Error::Pack(PackError::Refused(why)) => write!(
+                f,
+                "the consumer refused the pack: {why}"
+            ),
             Error::Pack(e) => write!(f, "the pack can't be read: {e:?}"),
-            Error::Rest(e) => write!(f, "what comes behind the pack can't be read: {e:?}"),
+            Error::Rest(e) => write!(f, "the data after the pack can't be read: {e:?}"),
             Error::Reported { message: _ } => f.write_str("the server reported an error"),
             Error::Over => f.write_str("the session is over"),
             Error::Memory => f.write_str("out of memory"),
@@ -228,11 +234,11 @@ impl Display for Error {
     ghost output = { sentence_of };
 
     fn fmt<W: fmt::Write>(&self, f: &mut fmt::Formatter<W>) -> fmt::Result {
-        if let Some(said) = self.server_message() {
+        if let Some(message_text) = self.server_message() {
             let words = Words {
-                words: said.as_bytes(),
+                words: message_text.as_bytes(),
             };
-            return write!(f, "the server said: {words}");
+            return write!(f, "the server reported: {words}");
         }
         if let Error::Pack(PackError::Write(kind)) = self {
             return write!(f, "the pack can't be written: {kind:?}");
@@ -343,6 +349,8 @@ impl From<PackError> for Error {
 }
 
 impl From<CopyError> for Error {
+    ghost from_gives = { λ e error. error ≡ of_refused_pack (of_copy e) };
+
     fn from(e: CopyError) -> Error {
         Error::from(PackError::from(e))
     }

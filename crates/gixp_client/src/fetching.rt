@@ -1,32 +1,31 @@
 //! The fetches of a session.
-ghost use Rattle.std.specs.Prelude.{◌≡◌, ◌≢◌, ◌⊎◌, true, false, [], List, None, Ok, Err, IfOk, IfErr, Option, Result};
+ghost use Rattle.std.specs.Prelude.{◌≡◌, ◌≢◌, ◌⊎◌, true, false, None, Ok, Err, IfOk, IfErr, Option, Result};
 ghost use Rattle.std.specs.BTreeSet.{contains};
 ghost use Rattle.gixp_hash.specs.ObjectId.{id_cmp};
-ghost use Rattle.gixp_hash.specs.declared.object_id.ObjectId.{ObjectId as Id};
 ghost use Rattle.gixp_response.specs.Answer.{update_items};
 ghost use Rattle.gixp_fetch.specs.declared.options.Outcome.{Outcome};
 ghost use Rattle.gixp_fetch.specs.Fetch.{parties_of};
-ghost use Rattle.gixp_fetch.specs.FetchShallow.{shallow_value, is_change};
-ghost use Rattle.gixp_client.specs.Boundaries.{IsLeftBoundary, IsBoundaryAfter};
+ghost use Rattle.gixp_client.specs.ClientCalls.{session_call, session_knowledge, FetchesMap};
 ghost use Rattle.gixp_client.specs.ClientError.{IsUnsent};
-ghost use Rattle.gixp_client.specs.ClientCalls.{session_call, session_knowledge, FetchesMap, FetchesInSession};
-ghost use Rattle.gixp_client.specs.ClientNames.{agent_of, own_features, named_by, id_features};
+ghost use Rattle.gixp_client.specs.ClientNames.{agent_of, own_features};
 ghost use Rattle.gixp_client.specs.Unshallowed.{TakesKnown, KnowsAll};
-ghost use Rattle.gixp_client.specs.SessionStates.{behind_outcome, behind_fetch, is_reported, IsReportIn, IsRefusedFetch};
+ghost use Rattle.gixp_client.specs.SessionStates.{state_after_outcome, state_after_fetch, is_reported, IsReportIn};
 
 use crate::boundary::{Boundary, set_of};
 use crate::error::Error;
 use crate::fetched::Fetched;
 use crate::listen::{Kept, Listener};
 use crate::name::SentName;
+use crate::outcome::{
+    can_filter, copied_updates, finish_fetch, is_reported, reported, store_of, updates_left,
+};
+use crate::refusal::missing;
 use crate::repository::Repository;
 use crate::request::Request;
 use crate::run::{Peer, SessionNegotiation, Wanted, fetch_mapped};
 use crate::session::Session;
-use crate::settle::{
-    copied_updates, expect_filter, is_reported, reported, settled, store_of, untaken,
-};
-use crate::state::{State, behind_fetch};
+use crate::session_fetch::SessionFetch;
+use crate::state::{State, state_after_fetch};
 use gixp_fetch::consume::ConsumePack;
 use gixp_fetch::mapped::NegotiatesMap;
 use gixp_fetch::options::Outcome;
@@ -37,63 +36,75 @@ use gixp_progress::NestedProgress;
 use gixp_refmap::RefMap;
 use gixp_shallow::{ShallowMemory, ShallowStore, ShallowUpdate};
 use gixp_sidebands::{Interrupt, NeverInterrupt};
-use gixp_wire::Transport;
+use gixp_transport::Transport;
 use std::alloc::Global;
 
 impl<T: Transport + Drop, L: Listener + Drop, P: NestedProgress + Drop> Session<T, L, P>
 where
     P::SubProgress: Drop,
 {
+    // Returns `MissingFeature` if the request has a filter and the server offers none.
+    fn expect_filter(&self, request: &Request) -> Result<(), Error>
+        ensures { IfErr result (IsUnsent self.now.state request.now self.now.shaken) }
+    {
+        if request.filter.is_none() || can_filter(self.alloc, &self.shaken)? {
+            Ok(())
+        } else {
+            Err(missing(self.alloc, "filter"))
+        }
+    }
+
     // Fetches, and sets the state of the session. The fetch consumes the shallow updates that the handshake received, so it gets
-    // the copy `told`. If it negotiates no round, the session keeps the updates.
+    // the copy `report`. If it negotiates no round, the session keeps the updates.
     fn carry_out<'a, F: Find, R: RefStore, N: Negotiator, C: ConsumePack<P>>(
         &mut self,
         wanted: Wanted<'a, F, R, N>,
         name: SentName,
-        told: Option<Vec<ShallowUpdate>>,
+        report: Option<Vec<ShallowUpdate>>,
         store: &mut ShallowMemory,
         pack: &mut C,
     ) -> Result<Option<Outcome>, Error>
     where
         C::Error: Into<Error>,
-        requires { update_items told ≡ update_items self.old.shaken.v1_shallow_updates }
+        requires { update_items report ≡ update_items self.old.shaken.v1_shallow_updates }
         ensures fetched { (f : FetchesMap
             (parties_of ⟦<SessionNegotiation<'a, F, R, N> as Negotiate>⟧.calls ⟦<ShallowMemory as ShallowStore>⟧.calls
-            ⟦<NeverInterrupt as Interrupt>⟧.says C.consumes T.is_plain)
+            ⟦<NeverInterrupt as Interrupt>⟧.polls C.consumes T.is_plain)
+            ⟦<C::Error as Into<Error>>⟧.converts
             ⟦<SessionNegotiation<'a, F, R, N> as NegotiatesMap>⟧.map_of ⟦<SessionNegotiation<'a, F, R, N> as NegotiatesMap>⟧.knows
             (session_call self.old.shaken (agent_of name.agent) (own_features name.session_id)
             wanted.entry.request.now) wanted.entry.map.now
             (session_knowledge wanted.entry.request.now (F.contents wanted.entry.objects.now) (R.refs wanted.entry.refs.now))
             (contains id_cmp wanted.entry.boundary.now)
             (T.reading self.old.transport.inner) store.old pack.old result (T.reading self.new.transport.inner) store.new pack.new)
-            × (self.new.state ≡ behind_fetch f.last.negotiated self.old.shaken.server_protocol_version result)
+            × (self.new.state ≡ state_after_fetch f.last.negotiated self.old.shaken.server_protocol_version result)
             × (f.last.negotiated ≡ false → self.new.shaken ≡ self.old.shaken) }
         ensures known { IfOk result (TakesKnown (contains id_cmp wanted.entry.boundary.now)) }
     {
         let version = self.shaken.server_protocol_version;
         let alloc = self.alloc;
         let first = self.shaken.v1_shallow_updates.take();
-        self.shaken.v1_shallow_updates = told;
+        self.shaken.v1_shallow_updates = report;
         let peer = Peer {
             shaken: &mut self.shaken,
             transport: &mut self.transport,
             progress: &mut self.progress,
         };
-        let (came, is_negotiated) = fetch_mapped(alloc, wanted, name, peer, store, pack);
-        self.shaken.v1_shallow_updates = untaken(first, is_negotiated);
-        self.state = behind_fetch(is_negotiated, version, &came);
-        came
+        let (received, is_negotiated) = fetch_mapped(alloc, wanted, name, peer, store, pack);
+        self.shaken.v1_shallow_updates = updates_left(first, is_negotiated);
+        self.state = state_after_fetch(is_negotiated, version, &received);
+        received
     }
 
     // Returns the error that the server reported on band 3, if any, in place of the result. A server that reports one closes the
     // connection.
     fn unless_reported(
         &mut self,
-        came: Result<Option<Outcome>, Error>,
+        received: Result<Option<Outcome>, Error>,
         messages: &Kept,
         goes_on: bool,
     ) -> Result<Option<Outcome>, Error>
-        ensures reported { ((is_reported goes_on messages.now.has_error ≡ false) × (result ≡ came) × (self.new.state ≡ self.old.state))
+        ensures reported { ((is_reported goes_on messages.now.has_error ≡ false) × (result ≡ received) × (self.new.state ≡ self.old.state))
             ⊎ ((is_reported goes_on messages.now.has_error ≡ true) × IsReportIn result × (self.new.state ≡ State.Ended)) }
         ensures transport { self.new.transport.inner ≡ self.old.transport.inner }
         ensures others { self.new ≡ record self.old { state = self.new.state } }
@@ -102,7 +113,7 @@ where
             self.state = State::Ended;
             return Err(reported(messages));
         }
-        came
+        received
     }
 
     /// Fetches the refs of the map as the request says. The pack goes to the consumer, for example a `CopyPack` over a writer. If
@@ -114,6 +125,8 @@ where
     /// Those of [`Error`]. The caller must then discard what the consumer received, and leave the boundary and the refs unchanged.
     /// `state` says whether another call is possible. If no round was negotiated, nothing was sent, and only the listener and the
     /// progress reporter have changed.
+    ///
+    /// [`SessionFetch`](crate::SessionFetch) has the relations of the contract.
     pub fn fetch<'a, F: Find, R: RefStore, C: ConsumePack<P>>(
         &mut self,
         map: &'a RefMap,
@@ -124,35 +137,12 @@ where
     where
         C::Error: Into<Error>,
         ensures over { self.old.state ≢ State.AtStop → (result ≡ Err Error.Over) × (self.new ≡ self.old) × (pack.new ≡ pack.old) }
-        ensures fetched { IfOk result (λ f. ((map.now.mappings.items ≡ []) × (f.outcome ≡ None) × (self.new ≡ self.old)
-            × (pack.new ≡ pack.old)
-            × IsLeftBoundary repository.entry.boundary.now [] [] f.boundary)
-            ⊎ ((after : List Id) × FetchesInSession
-            (parties_of ⟦<SessionNegotiation<'a, F, R, AnyNegotiator> as Negotiate>⟧.calls ⟦<ShallowMemory as ShallowStore>⟧.calls
-            ⟦<NeverInterrupt as Interrupt>⟧.says C.consumes T.is_plain)
-            ⟦<SessionNegotiation<'a, F, R, AnyNegotiator> as NegotiatesMap>⟧.map_of
-            ⟦<SessionNegotiation<'a, F, R, AnyNegotiator> as NegotiatesMap>⟧.knows
-            (session_call self.old.shaken (named_by self.old.name) (id_features self.old.shaken.capabilities self.old.name.session_id)
-            request.now) map.now
-            (session_knowledge request.now (F.contents repository.entry.objects.now) (R.refs repository.entry.refs.now))
-            repository.entry.boundary.now after (T.reading self.old.transport.inner) pack.old (Ok f.outcome)
-            (T.reading self.new.transport.inner) pack.new
-            × IsBoundaryAfter (is_change (shallow_value request.now.shallow)) repository.entry.boundary.now after f.boundary)) }
-        ensures stands { IfOk result (λ f. self.new.state ≡ behind_outcome self.old.shaken.server_protocol_version f.outcome) }
+        ensures fetched { IfOk result (⟦<AnyNegotiator as SessionFetch<'a, T, L, P, F, R, C>>⟧.succeeds map.now repository.entry
+            request.now self.old self.new pack.old pack.new) }
+        ensures position { IfOk result (λ f. self.new.state ≡ state_after_outcome self.old.shaken.server_protocol_version f.outcome) }
         ensures known { IfOk result (λ f. KnowsAll repository.entry.boundary.now f.outcome) }
-        ensures refused { IfErr result (λ e. (IsUnsent e × (self.new ≡ self.old) × (pack.new ≡ pack.old))
-            ⊎ ((told : Result (Option Outcome) Error) × (after : List Id) × (f : FetchesInSession
-            (parties_of ⟦<SessionNegotiation<'a, F, R, AnyNegotiator> as Negotiate>⟧.calls ⟦<ShallowMemory as ShallowStore>⟧.calls
-            ⟦<NeverInterrupt as Interrupt>⟧.says C.consumes T.is_plain)
-            ⟦<SessionNegotiation<'a, F, R, AnyNegotiator> as NegotiatesMap>⟧.map_of
-            ⟦<SessionNegotiation<'a, F, R, AnyNegotiator> as NegotiatesMap>⟧.knows
-            (session_call self.old.shaken (named_by self.old.name) (id_features self.old.shaken.capabilities self.old.name.session_id)
-            request.now) map.now
-            (session_knowledge request.now (F.contents repository.entry.objects.now) (R.refs repository.entry.refs.now))
-            repository.entry.boundary.now after (T.reading self.old.transport.inner) pack.old told
-            (T.reading self.new.transport.inner) pack.new)
-            × IsRefusedFetch f.fetches.last.negotiated self.old.shaken.server_protocol_version told e self.new.state
-            × (f.fetches.last.negotiated ≡ false → self.new.shaken ≡ self.old.shaken))) }
+        ensures refused { IfErr result (⟦<AnyNegotiator as SessionFetch<'a, T, L, P, F, R, C>>⟧.fails map.now repository.entry
+            request.now self.old self.new pack.old pack.new) }
     {
         let mut negotiator = request.algorithm.negotiator(self.alloc);
         self.fetch_with(map, repository, request, &mut negotiator, pack)
@@ -174,33 +164,12 @@ where
     where
         C::Error: Into<Error>,
         ensures over { self.old.state ≢ State.AtStop → (result ≡ Err Error.Over) × (self.new ≡ self.old) × (pack.new ≡ pack.old) }
-        ensures fetched { IfOk result (λ f. ((map.now.mappings.items ≡ []) × (f.outcome ≡ None) × (self.new ≡ self.old)
-            × (pack.new ≡ pack.old)
-            × IsLeftBoundary repository.entry.boundary.now [] [] f.boundary)
-            ⊎ ((after : List Id) × FetchesInSession
-            (parties_of ⟦<SessionNegotiation<'a, F, R, N> as Negotiate>⟧.calls ⟦<ShallowMemory as ShallowStore>⟧.calls
-            ⟦<NeverInterrupt as Interrupt>⟧.says C.consumes T.is_plain)
-            ⟦<SessionNegotiation<'a, F, R, N> as NegotiatesMap>⟧.map_of ⟦<SessionNegotiation<'a, F, R, N> as NegotiatesMap>⟧.knows
-            (session_call self.old.shaken (named_by self.old.name) (id_features self.old.shaken.capabilities self.old.name.session_id)
-            request.now) map.now
-            (session_knowledge request.now (F.contents repository.entry.objects.now) (R.refs repository.entry.refs.now))
-            repository.entry.boundary.now after (T.reading self.old.transport.inner) pack.old (Ok f.outcome)
-            (T.reading self.new.transport.inner) pack.new
-            × IsBoundaryAfter (is_change (shallow_value request.now.shallow)) repository.entry.boundary.now after f.boundary)) }
-        ensures stands { IfOk result (λ f. self.new.state ≡ behind_outcome self.old.shaken.server_protocol_version f.outcome) }
+        ensures fetched { IfOk result (⟦<N as SessionFetch<'a, T, L, P, F, R, C>>⟧.succeeds map.now repository.entry
+            request.now self.old self.new pack.old pack.new) }
+        ensures position { IfOk result (λ f. self.new.state ≡ state_after_outcome self.old.shaken.server_protocol_version f.outcome) }
         ensures known { IfOk result (λ f. KnowsAll repository.entry.boundary.now f.outcome) }
-        ensures refused { IfErr result (λ e. (IsUnsent e × (self.new ≡ self.old) × (pack.new ≡ pack.old))
-            ⊎ ((told : Result (Option Outcome) Error) × (after : List Id) × (f : FetchesInSession
-            (parties_of ⟦<SessionNegotiation<'a, F, R, N> as Negotiate>⟧.calls ⟦<ShallowMemory as ShallowStore>⟧.calls
-            ⟦<NeverInterrupt as Interrupt>⟧.says C.consumes T.is_plain)
-            ⟦<SessionNegotiation<'a, F, R, N> as NegotiatesMap>⟧.map_of ⟦<SessionNegotiation<'a, F, R, N> as NegotiatesMap>⟧.knows
-            (session_call self.old.shaken (named_by self.old.name) (id_features self.old.shaken.capabilities self.old.name.session_id)
-            request.now) map.now
-            (session_knowledge request.now (F.contents repository.entry.objects.now) (R.refs repository.entry.refs.now))
-            repository.entry.boundary.now after (T.reading self.old.transport.inner) pack.old told
-            (T.reading self.new.transport.inner) pack.new)
-            × IsRefusedFetch f.fetches.last.negotiated self.old.shaken.server_protocol_version told e self.new.state
-            × (f.fetches.last.negotiated ≡ false → self.new.shaken ≡ self.old.shaken))) }
+        ensures refused { IfErr result (⟦<N as SessionFetch<'a, T, L, P, F, R, C>>⟧.fails map.now repository.entry
+            request.now self.old self.new pack.old pack.new) }
     {
         self.expect_open()?;
         let alloc = self.alloc;
@@ -212,9 +181,9 @@ where
                 messages: Kept::new(alloc),
             });
         }
-        expect_filter(alloc, &self.shaken, request)?;
+        self.expect_filter(request)?;
         let name = self.name.sent(alloc, &self.shaken.capabilities)?;
-        let told = copied_updates(alloc, &self.shaken.v1_shallow_updates)?;
+        let report = copied_updates(alloc, &self.shaken.v1_shallow_updates)?;
         let mut store = store_of(alloc, before)?;
         let known = set_of(alloc, before)?;
         let Repository {
@@ -230,11 +199,11 @@ where
             negotiator,
             boundary: &known,
         };
-        let came = self.carry_out(wanted, name, told, &mut store, pack);
+        let received = self.carry_out(wanted, name, report, &mut store, pack);
         let messages = self.transport.take_kept(alloc);
-        let came = self.unless_reported(came, &messages, request.goes_on);
+        let received = self.unless_reported(received, &messages, request.goes_on);
         let after = store.ids();
-        match settled(alloc, came, messages, request, before, after) {
+        match finish_fetch(alloc, received, messages, request, before, after) {
             Ok(fetched) => Ok(fetched),
             Err(why) => Err(why),
         }

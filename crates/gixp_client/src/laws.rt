@@ -5,7 +5,7 @@ ghost use Rattle.gixp_refs.specs.declared.handshake.Ref.{Ref};
 ghost use Rattle.gixp_refmap.specs.declared.refmap.init.Error.{Error as MapError};
 ghost use Rattle.gixp_packetline.specs.Reading.{Reading};
 ghost use Rattle.gixp_hash.specs.declared.object_id.ObjectId.{ObjectId};
-ghost use Rattle.gixp_wire.specs.Greeting.{Parameter};
+ghost use Rattle.gixp_transport.specs.Greeting.{Parameter};
 ghost use Rattle.gixp_requests.specs.Feature.{FeatureValue};
 ghost use Rattle.gixp_refmap.specs.declared.refmap.map.RefMap.{RefMap};
 ghost use Rattle.gixp_handshake.specs.declared.handshake.read.Handshake.{Handshake};
@@ -15,10 +15,11 @@ ghost use Rattle.gixp_fetch.specs.Mapped.{Knowledge};
 ghost use Rattle.gixp_client.specs.ClientCalls.{OpensSession, MapsInSession, FetchesInSession, session_call};
 ghost use Rattle.gixp_client.specs.ClientMaps.{MapsRefsHere, ListsForMap};
 ghost use Rattle.gixp_client.specs.ClientPromise.{IsOneRun};
-ghost use Rattle.gixp_client.specs.declared.error.Error.{Error};
+ghost use Rattle.gixp_client.specs.declared.error.Error.{Error as SessionError};
 ghost use Rattle.gixp_client.specs.declared.request.Request.{Request};
 
-use crate::watched::Watched;
+use crate::error::Error;
+use crate::unshallow_check::UnshallowCheck;
 use gixp_fetch::consume::ConsumePack;
 use gixp_fetch::laws::headline;
 use gixp_fetch::mapped::NegotiatesMap;
@@ -31,22 +32,26 @@ use gixp_sidebands::Interrupt;
 /// [`headline`](gixp_fetch::laws::headline). So its clauses `refs`, `mappings`, `requests`, `few`, `pack` hold. Between these calls
 /// only the refs of the handshake may change.
 pub fn sessions_are_runs<'a, N: PaysForHaves + NegotiatesMap, I: Interrupt, P, C: ConsumePack<P>>()
+where
+    C::Error: Into<Error>,
     ensures { (plain : Bool) (parameters : List Parameter) (agent : FeatureValue) (more : List FeatureValue) (request : Request)
         (start shaken middle : Reading)
         (handshake kept : Handshake) (made : RefMap) (known : Knowledge) (boundary after : List ObjectId) (consumer : C)
-        (told : Result (Option Outcome) Error) (new : Reading) (consumer' : C)
+        (report : Result (Option Outcome) SessionError) (new : Reading) (consumer' : C)
         → OpensSession parameters plain start shaken handshake
         → MapsInSession request agent handshake plain shaken middle (Ok made)
         → kept ≡ record handshake { refs = kept.refs }
         → FetchesInSession
-        (parties_of ⟦<Watched<'a, N> as Negotiate>⟧.calls ⟦<ShallowMemory as ShallowStore>⟧.calls I.says C.consumes plain)
-        ⟦<Watched<'a, N> as NegotiatesMap>⟧.map_of ⟦<Watched<'a, N> as NegotiatesMap>⟧.knows (session_call kept agent more request)
-        made known boundary after middle consumer told new consumer'
-        → IsOneRun (parties_of ⟦<Watched<'a, N> as Negotiate>⟧.calls ⟦<ShallowMemory as ShallowStore>⟧.calls I.says C.consumes plain)
-        ⟦<Watched<'a, N> as NegotiatesMap>⟧.map_of ⟦<Watched<'a, N> as NegotiatesMap>⟧.knows agent more request start made known boundary
-        consumer told new consumer' }
+        (parties_of ⟦<UnshallowCheck<'a, N> as Negotiate>⟧.calls ⟦<ShallowMemory as ShallowStore>⟧.calls I.polls C.consumes plain)
+        ⟦<C::Error as Into<Error>>⟧.converts
+        ⟦<UnshallowCheck<'a, N> as NegotiatesMap>⟧.map_of ⟦<UnshallowCheck<'a, N> as NegotiatesMap>⟧.knows (session_call kept agent more request)
+        made known boundary after middle consumer report new consumer'
+        → IsOneRun (parties_of ⟦<UnshallowCheck<'a, N> as Negotiate>⟧.calls ⟦<ShallowMemory as ShallowStore>⟧.calls I.polls C.consumes plain)
+        ⟦<C::Error as Into<Error>>⟧.converts
+        ⟦<UnshallowCheck<'a, N> as NegotiatesMap>⟧.map_of ⟦<UnshallowCheck<'a, N> as NegotiatesMap>⟧.knows agent more request start made known boundary
+        consumer report new consumer' }
 {
-    headline::<Watched<'a, N>, ShallowMemory, I, P, C>();
+    headline::<UnshallowCheck<'a, N>, ShallowMemory, I, P, C>();
 }
 
 /// If the session already has the server's refs, it makes a ref map from them and sends nothing. Otherwise the server lists the

@@ -1,21 +1,21 @@
 //! Checks of the object format and of the end of a list of refs.
-ghost use Rattle.std.specs.Prelude.{◌≡◌, None, Some, Ok, true, IfOk, IfErr, OnOk};
+ghost use Rattle.std.specs.Prelude.{◌≡◌, Ok, true, IfOk};
 ghost use Rattle.std.specs.Option.{option_map};
 ghost use Rattle.bstr.specs.BStr.{bstr_bytes};
+ghost use Rattle.gixp_response.specs.Sections.{is_flush};
 ghost use Rattle.gixp_refmap.specs.Mapping.{unknown_format};
-ghost use Rattle.gixp_client.specs.ListEnds.{IsUnasked, is_flush, are_whole, whole_refs, of_unended, whole_map};
+ghost use Rattle.gixp_client.specs.ListEnds.{are_whole, whole_refs, of_unended, whole_map};
 
 use crate::error::Error;
-use bstr::{BStr, BString};
+use bstr::BStr;
 use gixp_capabilities::Capabilities;
 use gixp_packetline::{ExtendedBufRead, MessageKind};
 use gixp_refmap::refmap::init;
 use gixp_refmap::{RefMap, ls_refs};
 use gixp_refs::handshake::Ref;
-use std::alloc::Global;
 
-// The object format that the server names, if it isn't SHA-1.
-fn unknown_format(capabilities: &Capabilities) -> Option<BStr<'_>>
+/// The object format that the server names, if it isn't SHA-1. A server that names none uses SHA-1 (gitprotocol-v2, "object-format").
+pub(crate) fn unknown_format(capabilities: &Capabilities) -> Option<BStr<'_>>
     ensures { option_map bstr_bytes result ≡ unknown_format capabilities.now }
 {
     let value = match capabilities.capability(b"object-format") {
@@ -31,20 +31,6 @@ fn unknown_format(capabilities: &Capabilities) -> Option<BStr<'_>>
                 Some(format)
             }
         }
-    }
-}
-
-/// Returns `UnknownObjectFormat` if the server names an object format other than SHA-1. A server that names none uses SHA-1
-/// (gitprotocol-v2, "object-format").
-pub(crate) fn expect_format(alloc: Global, capabilities: &Capabilities) -> Result<(), Error>
-    ensures known { OnOk result (unknown_format capabilities.now ≡ None) }
-    ensures refused { IfErr result (IsUnasked capabilities.now) }
-{
-    match unknown_format(capabilities) {
-        None => Ok(()),
-        Some(format) => Err(Error::UnknownObjectFormat {
-            format: BString::from_slice(alloc, format.as_bytes())?,
-        }),
     }
 }
 

@@ -3,24 +3,26 @@ ghost use Rattle.std.specs.Prelude.{◌≡◌, ◌||◌, ℕ, Bool, List, [], �
 ghost use Rattle.std.specs.List.{find};
 ghost use Rattle.std.specs.Option.{option_copied};
 ghost use Rattle.std.specs.Io.KnownBytes.{Appends};
-ghost use Rattle.gixp_client.specs.Listening.{without_end, is_control, visible, last_byte, remote_line, unshown, after_byte, after_text, ended, shown_of, ShowsLines, KeepsText, KeepsTexts, HearsText, kept_texts};
+ghost use Rattle.gixp_utils.specs.Printable.{visible};
+ghost use Rattle.gixp_client.specs.Listening.{without_end, last_byte, remote_line, unshown, after_byte, after_text, ended, shown_of, ShowsLines, KeepsText, KeepsTexts, ReceivesText, kept_texts};
 
 use bstr::BString;
+use gixp_utils::visible;
 use std::alloc::{AllocError, Global};
 use std::io;
 use std::io::Write;
 
 /// A listener for the messages of bands 2 and 3 (gitprotocol-pack, "Packfile Data").
 ///
-/// An implementation has nothing to prove: `hears` has a default, so the method is enough.
+/// An implementation has nothing to prove: `receives` has a default, so the method is enough.
 pub trait Listener {
     /// How `hear` changes the listener: before, whether the message is an error, its bytes, after. The default allows any change.
-    ghost hears: { Self → Bool → List ℕ → Self → Type 0 } = { λ _ _ _ _. ⊤ };
+    ghost receives: { Self → Bool → List ℕ → Self → Type 0 } = { λ _ _ _ _. ⊤ };
 
     /// Receives the message of one packet line. The message may be part of a line, or contain several lines. It is progress or an
     /// error (band 3). `git fetch` stops at an error.
     fn hear(&mut self, is_error: bool, text: &[u8])
-        ensures { hears self.old is_error text.now self.new };
+        ensures { receives self.old is_error text.now self.new };
 }
 
 /// A listener that ignores all messages.
@@ -103,12 +105,12 @@ impl Kept {
 
     /// The first error whose text was kept.
     pub fn first_error(&self) -> Option<&ServerText>
-        ensures { option_copied result ≡ find (λ said. said.is_error) self.now.texts.items }
+        ensures { option_copied result ≡ find (λ message_text. message_text.is_error) self.now.texts.items }
     {
-        self.texts.iter().find(|said| said.is_error)
+        self.texts.iter().find(|message_text| message_text.is_error)
     }
 
-    fn note(&mut self, is_error: bool)
+    fn record_error(&mut self, is_error: bool)
         ensures { self.new ≡ record self.old { has_error = self.old.has_error || is_error } }
     {
         self.has_error = self.has_error || is_error;
@@ -136,10 +138,10 @@ impl Kept {
 }
 
 impl Listener for Kept {
-    ghost hears = { λ k is_error text n. HearsText is_error text k n };
+    ghost receives = { λ k is_error text n. ReceivesText is_error text k n };
 
     fn hear(&mut self, is_error: bool, text: &[u8]) {
-        self.note(is_error);
+        self.record_error(is_error);
         if self.keep(is_error, text).is_err() {
             self.is_cut = true;
         }
@@ -157,20 +159,6 @@ pub struct RemoteLines<W: Write + Drop> {
 
 // Overwrites the rest of a longer line.
 const BLANKS: &[u8] = b"        ";
-
-// Whether a terminal may interpret the byte as a control character. Tabs don't count. `before` is the byte before it: in UTF-8 the
-// C1 control characters are 194 and a byte from 128 to 159.
-fn is_control(before: u8, byte: u8) -> bool
-    ensures { result ≡ is_control before byte }
-{
-    (byte < 32 && byte != b'\t') || byte == 127 || (before == 194 && 128 <= byte && byte < 160)
-}
-
-fn visible(before: u8, byte: u8) -> u8
-    ensures { result ≡ visible before byte }
-{
-    if is_control(before, byte) { b'?' } else { byte }
-}
 
 fn last_byte(line: &[u8]) -> u8
     ensures { result ≡ last_byte line.now }
@@ -277,7 +265,7 @@ impl<W: Write + Drop> RemoteLines<W> {
 }
 
 impl<W: Write + Drop> Listener for RemoteLines<W> {
-    ghost hears = { λ l is_error text n. ShowsLines l.is_cut (W.contents l.writer) n.is_cut (W.contents n.writer) n.line.items
+    ghost receives = { λ l is_error text n. ShowsLines l.is_cut (W.contents l.writer) n.is_cut (W.contents n.writer) n.line.items
         (shown_of is_error l.line.items text) };
 
     fn hear(&mut self, is_error: bool, text: &[u8]) {

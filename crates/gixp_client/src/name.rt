@@ -1,7 +1,7 @@
 //! The client's agent name and session id.
 ghost use Rattle.std.specs.Prelude.{◌≡◌, IfOk};
 ghost use Rattle.gixp_requests.specs.Feature.{feature_value, feature_values};
-ghost use Rattle.gixp_client.specs.ClientNames.{is_session_id, agent_of, own_features, id_features, named_by, SaysOfItself};
+ghost use Rattle.gixp_client.specs.ClientNames.{is_session_id, agent_of, own_features, id_features, named_by, NamesItself};
 
 use gixp_capabilities::Capabilities;
 use gixp_requests::command::Feature;
@@ -54,7 +54,7 @@ impl ClientName {
         alloc: Global,
         capabilities: &Capabilities,
     ) -> Result<SentName, AllocError>
-        ensures { IfOk result (SaysOfItself self.now capabilities.now) }
+        ensures { IfOk result (NamesItself self.now capabilities.now) }
     {
         Ok(SentName {
             agent: agent(alloc, self.agent.as_str())?,

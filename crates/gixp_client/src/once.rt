@@ -1,10 +1,5 @@
 //! A session with one fetch.
-ghost use Rattle.std.specs.Prelude.{◌≡◌, ◌⊎◌, [], None, Ok, IfOk};
-ghost use Rattle.gixp_packetline.specs.Reading.{Reading};
-ghost use Rattle.gixp_fetch.specs.Fetch.{parties_of};
-ghost use Rattle.gixp_client.specs.ClientCalls.{session_knowledge};
-ghost use Rattle.gixp_client.specs.ClientNames.{client_feature};
-ghost use Rattle.gixp_client.specs.ClientPromise.{IsOneRun};
+ghost use Rattle.std.specs.Prelude.{IfOk};
 
 use crate::error::Error;
 use crate::fetched::Fetched;
@@ -12,18 +7,16 @@ use crate::laws::sessions_are_runs;
 use crate::listen::Listener;
 use crate::repository::Repository;
 use crate::request::Request;
-use crate::run::{FilteredNegotiation, SessionNegotiation};
+use crate::run::FilteredNegotiation;
 use crate::session::Session;
+use crate::session_fetch::SessionFetch;
 use gixp_fetch::consume::ConsumePack;
-use gixp_fetch::mapped::NegotiatesMap;
 use gixp_graph::{Find, Negotiator, RefStore};
-use gixp_negotiate::negotiate::Negotiate;
 use gixp_negotiators::AnyNegotiator;
 use gixp_progress::Discard;
 use gixp_refmap::RefMap;
-use gixp_shallow::{ShallowMemory, ShallowStore};
-use gixp_sidebands::{Interrupt, NeverInterrupt};
-use gixp_wire::Transport;
+use gixp_sidebands::NeverInterrupt;
+use gixp_transport::Transport;
 use std::alloc::Global;
 
 /// Opens a session, maps and fetches what the request asks for, and closes the session. This is one run of the law
@@ -50,15 +43,8 @@ pub fn fetch_once<
 ) -> Result<(RefMap, Fetched), Error>
 where
     C::Error: Into<Error>,
-    ensures { IfOk result (λ came. ((came.0.mappings.items ≡ []) × (came.1.outcome ≡ None) × (pack.new ≡ pack.old))
-        ⊎ ((end : Reading) × IsOneRun
-        (parties_of ⟦<SessionNegotiation<'a, F, R, AnyNegotiator> as Negotiate>⟧.calls ⟦<ShallowMemory as ShallowStore>⟧.calls
-        ⟦<NeverInterrupt as Interrupt>⟧.says C.consumes T.is_plain)
-        ⟦<SessionNegotiation<'a, F, R, AnyNegotiator> as NegotiatesMap>⟧.map_of
-        ⟦<SessionNegotiation<'a, F, R, AnyNegotiator> as NegotiatesMap>⟧.knows
-        (client_feature agent.now) [] request.now (T.reading transport) came.0
-        (session_knowledge request.now (F.contents repository.entry.objects.now) (R.refs repository.entry.refs.now))
-        repository.entry.boundary.now pack.old (Ok came.1.outcome) end pack.new)) }
+    ensures { IfOk result (⟦<AnyNegotiator as SessionFetch<'a, T, L, Discard, F, R, C>>⟧.succeeds_once agent.now
+        repository.entry request.now transport pack.old pack.new) }
 {
     let mut negotiator = request.algorithm.negotiator(alloc);
     fetch_once_with(
@@ -98,15 +84,8 @@ pub fn fetch_once_with<
 ) -> Result<(RefMap, Fetched), Error>
 where
     C::Error: Into<Error>,
-    ensures { IfOk result (λ came. ((came.0.mappings.items ≡ []) × (came.1.outcome ≡ None) × (pack.new ≡ pack.old))
-        ⊎ ((end : Reading) × IsOneRun
-        (parties_of ⟦<SessionNegotiation<'a, F, R, N> as Negotiate>⟧.calls ⟦<ShallowMemory as ShallowStore>⟧.calls
-        ⟦<NeverInterrupt as Interrupt>⟧.says C.consumes T.is_plain)
-        ⟦<SessionNegotiation<'a, F, R, N> as NegotiatesMap>⟧.map_of
-        ⟦<SessionNegotiation<'a, F, R, N> as NegotiatesMap>⟧.knows
-        (client_feature agent.now) [] request.now (T.reading transport) came.0
-        (session_knowledge request.now (F.contents repository.entry.objects.now) (R.refs repository.entry.refs.now))
-        repository.entry.boundary.now pack.old (Ok came.1.outcome) end pack.new)) }
+    ensures { IfOk result (⟦<N as SessionFetch<'a, T, L, Discard, F, R, C>>⟧.succeeds_once agent.now
+        repository.entry request.now transport pack.old pack.new) }
 {
     let mut session = Session::open(alloc, transport, agent, listener)?;
     let map = session.map(request)?;

@@ -1,11 +1,11 @@
 //! A transport over two streams.
 ghost use Rattle.std.specs.Prelude.{[], None, IfOk};
 ghost use Rattle.gixp_packetline.specs.declared.protocol.Protocol.TheVariants.{V2};
-ghost use Rattle.gixp_wire.specs.Connection.{IsNewConnection, connection_reading};
+ghost use Rattle.gixp_transport.specs.Connection.{IsNewConnection, connection_reading};
 
 use bstr::BString;
 use gixp_packetline::Protocol;
-use gixp_wire::Connection;
+use gixp_transport::Connection;
 use std::alloc::{AllocError, Global};
 use std::io::{Read, Write};
 

@@ -16,11 +16,13 @@ pub(crate) fn read_reason(e: &read::Error) -> Option<&'static str>
 {
     match e {
         read::Error::Io(_) => Some("the connection can't be read"),
-        read::Error::Decode(_) => Some("protocol error: the server sent what is no packet line"),
+        read::Error::Decode(_) => Some(
+            "protocol error: the server sent something that is not a packet line",
+        ),
         read::Error::UnexpectedFrame => {
-            Some("protocol error: the server sent a packet that has no place there")
+            Some("protocol error: the server sent an unexpected packet")
         }
-        read::Error::NotUtf8 => Some("protocol error: the server sent a line that is no UTF-8"),
+        read::Error::NotUtf8 => Some("protocol error: the server sent a line that is not UTF-8"),
         read::Error::BadBand(_) => Some("protocol error: bad band"),
         read::Error::Interrupted => Some("it was interrupted"),
         read::Error::Server { message: _ } | read::Error::Memory => None,
@@ -35,12 +37,12 @@ pub(crate) fn client_reason(e: &client::Error) -> Option<&'static str>
         client::Error::Io(_) => Some("the connection broke"),
         client::Error::Read(e) => read_reason(e),
         client::Error::LineTooLong => Some("a line is too long for a packet"),
-        client::Error::AuthenticationUnsupported => Some("this connection takes no account"),
+        client::Error::AuthenticationUnsupported => Some("this connection can't use an account"),
         client::Error::UnsupportedProtocolVersion(_) => {
-            Some("the server speaks a version of the protocol that isn't known")
+            Some("the server speaks an unknown version of the protocol")
         }
         client::Error::MissingDelimitingNullByte => {
-            Some("protocol error: the server says no capabilities")
+            Some("protocol error: the server sent no capabilities")
         }
         client::Error::Memory => None,
     }
@@ -53,7 +55,7 @@ pub(crate) fn refs_reason(e: &parse::Error) -> Option<&'static str>
     match e {
         parse::Error::Io(_) => Some("the connection can't be read"),
         parse::Error::DecodePacketline(_) => {
-            Some("protocol error: the server sent what is no packet line")
+            Some("protocol error: the server sent something that is not a packet line")
         }
         parse::Error::Reader(e) => read_reason(e),
         _ => None,

@@ -1,7 +1,7 @@
 //! The `ErrorKind` in lower errors, and the error of a failed fetch.
 ghost use Rattle.std.specs.Prelude.{◌≡◌};
-ghost use Rattle.gixp_client.specs.ClientError.{NamesMissing, IsToldOf, client_kind, parse_kind, answer_kind, pack_kind};
-ghost use Rattle.gixp_client.specs.ClientCalls.{IsToldCame};
+ghost use Rattle.gixp_client.specs.ClientError.{NamesMissing, IsReportOf, client_kind, parse_kind, answer_kind, pack_kind};
+ghost use Rattle.gixp_client.specs.ClientCalls.{IsReportedResult};
 
 use crate::consumer::PackError;
 use crate::error::Error;
@@ -68,7 +68,7 @@ pub(crate) fn missing(alloc: Global, feature: &str) -> Error
 
 // The error of a failed fetch, without a type of the caller's. `ShallowMemory` fails only when an allocation fails.
 fn refusal<A: Drop, E: Into<Error>>(alloc: Global, e: FetchError<A, E>) -> Error
-    ensures { IsToldOf e result }
+    ensures { IsReportOf E.converts e result }
 {
     match e {
         FetchError::FetchResponse(e) => Error::Answer(e),
@@ -89,13 +89,13 @@ fn refusal<A: Drop, E: Into<Error>>(alloc: Global, e: FetchError<A, E>) -> Error
 }
 
 /// The result of a fetch, without a type of the caller's.
-pub(crate) fn told<A: Drop, E: Into<Error>>(
+pub(crate) fn report<A: Drop, E: Into<Error>>(
     alloc: Global,
-    came: Result<Option<Outcome>, FetchError<A, E>>,
+    received: Result<Option<Outcome>, FetchError<A, E>>,
 ) -> Result<Option<Outcome>, Error>
-    ensures { IsToldCame came result }
+    ensures { IsReportedResult E.converts received result }
 {
-    match came {
+    match received {
         Ok(outcome) => Ok(outcome),
         Err(e) => Err(refusal(alloc, e)),
     }

@@ -4,16 +4,16 @@ ghost use Rattle.std.specs.BTreeSet.{contains};
 ghost use Rattle.gixp_hash.specs.ObjectId.{id_cmp};
 ghost use Rattle.gixp_packetline.specs.declared.protocol.Protocol.TheVariants.{V2};
 ghost use Rattle.gixp_fetch.specs.Fetch.{parties_of};
-ghost use Rattle.gixp_client.specs.ClientCalls.{HoldsAndTells, FetchesMap, session_call, session_knowledge};
+ghost use Rattle.gixp_client.specs.ClientCalls.{HoldsAndReports, FetchesMap, session_call, session_knowledge};
 ghost use Rattle.gixp_client.specs.ClientNames.{agent_of, own_features};
 ghost use Rattle.gixp_client.specs.Unshallowed.{TakesKnown};
 
 use crate::error::Error;
+use crate::filter::Filtered;
 use crate::name::{SentName, identified, named};
-use crate::over::Filtered;
-use crate::refusal::told;
+use crate::refusal::report;
 use crate::request::Request;
-use crate::watched::{Watched, known_alone};
+use crate::unshallow_check::{UnshallowCheck, known_alone};
 use crate::windows::{MOST_HAVES, Windowed};
 use gixp_fetch::consume::ConsumePack;
 use gixp_fetch::fetch::fetch_with_features;
@@ -30,7 +30,7 @@ use gixp_progress::NestedProgress;
 use gixp_refmap::RefMap;
 use gixp_shallow::{ShallowMemory, ShallowStore};
 use gixp_sidebands::{Interrupt, NeverInterrupt};
-use gixp_wire::Transport;
+use gixp_transport::Transport;
 use std::alloc::Global;
 use std::collections::BTreeSet;
 
@@ -41,7 +41,7 @@ pub type FilteredNegotiation<'a, F, R, N> = Filtered<
 >;
 
 /// The negotiation of a session's fetch.
-pub type SessionNegotiation<'a, F, R, N> = Watched<'a, FilteredNegotiation<'a, F, R, N>>;
+pub type SessionNegotiation<'a, F, R, N> = UnshallowCheck<'a, FilteredNegotiation<'a, F, R, N>>;
 
 /// The limit of haves in one request.
 pub(crate) fn most_haves(version: Protocol, is_over_pipes: bool) -> usize
@@ -94,8 +94,9 @@ where
     P::SubProgress: Drop,
     C::Error: Into<Error>,
     ensures taken { peer.exit.0.now ≡ record peer.entry.shaken.now { v1_shallow_updates = None } }
-    ensures fetched { HoldsAndTells
-        (parties_of N.calls ⟦<ShallowMemory as ShallowStore>⟧.calls ⟦<NeverInterrupt as Interrupt>⟧.says C.consumes T.is_plain)
+    ensures fetched { HoldsAndReports
+        (parties_of N.calls ⟦<ShallowMemory as ShallowStore>⟧.calls ⟦<NeverInterrupt as Interrupt>⟧.polls C.consumes T.is_plain)
+        ⟦<C::Error as Into<Error>>⟧.converts
         (session_call peer.entry.shaken.now (agent_of name.agent) (own_features name.session_id) request.now) negotiation.old
         (T.reading peer.entry.transport.now) store.old pack.old result negotiation.new (T.reading peer.exit.1.0.now) store.new
         pack.new }
@@ -121,7 +122,7 @@ where
         reject_shallow_remote: request.rejects_shallow,
     };
     let mut never = NeverInterrupt;
-    let came = fetch_with_features(
+    let received = fetch_with_features(
         alloc,
         negotiation,
         pack,
@@ -132,7 +133,7 @@ where
         context,
         options,
     );
-    told(alloc, came)
+    report(alloc, received)
 }
 
 /// Fetches the mapped refs, and returns whether a round was negotiated. Everything that the negotiation borrows is local to this
@@ -159,7 +160,8 @@ where
     ensures taken { peer.exit.0.now ≡ record peer.entry.shaken.now { v1_shallow_updates = None } }
     ensures fetched { (f : FetchesMap
         (parties_of ⟦<SessionNegotiation<'a, F, R, N> as Negotiate>⟧.calls ⟦<ShallowMemory as ShallowStore>⟧.calls
-        ⟦<NeverInterrupt as Interrupt>⟧.says C.consumes T.is_plain)
+        ⟦<NeverInterrupt as Interrupt>⟧.polls C.consumes T.is_plain)
+        ⟦<C::Error as Into<Error>>⟧.converts
         ⟦<SessionNegotiation<'a, F, R, N> as NegotiatesMap>⟧.map_of ⟦<SessionNegotiation<'a, F, R, N> as NegotiatesMap>⟧.knows
         (session_call peer.entry.shaken.now (agent_of name.agent) (own_features name.session_id) wanted.entry.request.now) wanted.entry.map.now
         (record {
@@ -195,8 +197,16 @@ where
     let negotiation = Negotiation::new(context, map, &request.shallow, request.tags);
     let windowed = Windowed::new(negotiation, most);
     let filtered = Filtered::new(windowed, request.filter.as_deref());
-    let mut watched = Watched::new(filtered, boundary);
-    let came = fetch_over(alloc, &mut watched, name, request, peer, store, pack);
-    let told = known_alone(came, watched.unknown(), boundary);
-    (told, watched.is_negotiated())
+    let mut unshallow_check = UnshallowCheck::new(filtered, boundary);
+    let received = fetch_over(
+        alloc,
+        &mut unshallow_check,
+        name,
+        request,
+        peer,
+        store,
+        pack,
+    );
+    let report = known_alone(received, unshallow_check.unknown(), boundary);
+    (report, unshallow_check.is_negotiated())
 }

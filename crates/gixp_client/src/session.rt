@@ -1,31 +1,33 @@
 //! A session with a server.
-ghost use Rattle.std.specs.Prelude.{◌≡◌, ◌≢◌, ◌⊎◌, true, [], Some, None, Ok, Err, IfOk, IfErr, OnOk, MatchResult, is_some, string_bytes, Bool, Vec, Result};
+ghost use Rattle.std.specs.Prelude.{◌≡◌, ◌≢◌, ◌⊎◌, true, [], Some, None, Ok, Err, IfOk, IfErr, OnOk, MatchResult, is_some, string_bytes, Result};
 ghost use Rattle.std.specs.Option.{option_map};
-ghost use Rattle.std.specs.declared.alloc.Global.{Global as Allocator};
-ghost use Rattle.gixp_wire.specs.declared.service.Service.TheVariants.{UploadPack};
-ghost use Rattle.gixp_wire.specs.Greeting.{parameters_of};
-ghost use Rattle.gixp_refs.specs.declared.handshake.Ref.{Ref as ListedRef};
-ghost use Rattle.gixp_refmap.specs.declared.ls_refs.error.Error.{Error as ListError};
+ghost use Rattle.gixp_transport.specs.declared.service.Service.TheVariants.{UploadPack};
+ghost use Rattle.gixp_transport.specs.Greeting.{parameters_of};
 ghost use Rattle.gixp_refmap.specs.declared.refmap.init.Error.{Error as MapError};
 ghost use Rattle.gixp_refmap.specs.declared.refmap.map.RefMap.{RefMap as MadeMap};
+ghost use Rattle.gixp_response.specs.Sections.{is_flush};
 ghost use Rattle.gixp_refmap.specs.Mapping.{unknown_format};
 ghost use Rattle.gixp_handshake.specs.HandshakeValues.{refs_value};
-ghost use Rattle.gixp_handshake.specs.ObtainProgress.{TellsObtained};
-ghost use Rattle.gixp_handshake.specs.ShakeProgress.{TellsShake};
-ghost use Rattle.gixp_client.specs.ClientCalls.{OpensSession, ListsInSession, GivesRefs, MapsInSession, ClosesSession};
+ghost use Rattle.gixp_handshake.specs.ObtainProgress.{ReportsObtained};
+ghost use Rattle.gixp_handshake.specs.ShakeProgress.{ReportsHandshake};
+ghost use Rattle.gixp_client.specs.ClientCalls.{OpensSession, FailsToOpen, FailsWithoutAccount, GivesRefs, MapsInSession, ClosesSession};
 ghost use Rattle.gixp_client.specs.ClientNames.{is_session_id, named_by};
 ghost use Rattle.gixp_client.specs.Filters.{offers_filter};
-ghost use Rattle.gixp_client.specs.ListEnds.{IsUnasked, is_flush, are_whole, whole_refs, whole_map};
-ghost use Rattle.gixp_client.specs.SessionStates.{behind_refusal, behind_map};
+ghost use Rattle.gixp_client.specs.ListEnds.{IsUnasked, are_whole, whole_map};
+ghost use Rattle.gixp_client.specs.SessionRefs.{KeepsListedRefs, ListFailsInSession};
+ghost use Rattle.gixp_client.specs.SessionStates.{state_after_map};
+ghost use Rattle.gixp_client.specs.declared.session.Session.{Session as AnySession};
 
 use crate::error::Error;
-use crate::heard::Heard;
-use crate::list_ends::{are_whole, expect_format, is_at_flush, whole_map, whole_refs};
+use crate::list_ends::{are_whole, is_at_flush, unknown_format, whole_map, whole_refs};
 use crate::listen::Listener;
+use crate::messages::Messages;
 use crate::name::{ClientName, is_session_id};
+use crate::outcome::can_filter;
 use crate::request::Request;
-use crate::settle::can_filter;
-use crate::state::{State, behind_map, behind_refusal};
+use crate::state::{State, state_after_map, state_after_refusal};
+use crate::tap::Tap;
+use bstr::BString;
 use gixp_capabilities::Capabilities;
 use gixp_handshake::credentials::{self, Action};
 use gixp_handshake::handshake::{handshake, obtain};
@@ -36,7 +38,7 @@ use gixp_refmap::refmap::copied_refs;
 use gixp_refmap::{LsRefsCommand, RefMap};
 use gixp_refs::handshake::Ref;
 use gixp_requests::command::CommandTable;
-use gixp_wire::{Service, Transport};
+use gixp_transport::{Service, Transport};
 use std::alloc::{AllocError, Global};
 
 /// A session with a server. After the handshake, the caller can list and map its refs, and fetch what is mapped. Under version 2 it
@@ -52,7 +54,7 @@ use std::alloc::{AllocError, Global};
 /// After the latter two every call returns `Error::Over` and sends nothing. Dropping a session closes it.
 pub struct Session<T: Transport + Drop, L: Listener + Drop, P: NestedProgress + Drop = Discard> {
     pub(crate) alloc: Global,
-    pub(crate) transport: Heard<T, L>,
+    pub(crate) transport: Tap<T, Messages<L>>,
     pub(crate) shaken: Handshake,
     pub(crate) name: ClientName,
     pub(crate) state: State,
@@ -86,16 +88,22 @@ impl<T: Transport + Drop, L: Listener + Drop> Session<T, L, Discard> {
         ensures named { IfOk result (λ s. string_bytes s.name.agent ≡ agent.now) }
         ensures nameless { IfOk result (λ s. s.name.session_id ≡ None) }
         ensures state { IfOk result (λ s. s.state ≡ State.AtStop) }
+        ensures refused { IfErr result (FailsWithoutAccount T.is_plain (T.reading transport)) }
     {
-        Session::open_with(
+        match Session::open_with(
             alloc,
             transport,
             agent,
             listener,
-            |_: Action| -> Result<Option<credentials::Outcome>, credentials::Error> { Ok(None) },
+            |_: Action| -> Result<Option<credentials::Outcome>, credentials::Error>
+                ensures { result ≡ Ok None }
+            { Ok(None) },
             Vec::new(alloc),
             Discard,
-        )
+        ) {
+            Ok(session) => Ok(session),
+            Err(why) => Err(why),
+        }
     }
 }
 
@@ -124,11 +132,12 @@ impl<T: Transport + Drop, L: Listener + Drop, P: NestedProgress + Drop> Session<
         ensures named { IfOk result (λ s. string_bytes s.name.agent ≡ agent.now) }
         ensures nameless { IfOk result (λ s. s.name.session_id ≡ None) }
         ensures state { IfOk result (λ s. s.state ≡ State.AtStop) }
-        ensures told { IfOk result (λ s. TellsShake P.told UploadPack (parameters_of extra_parameters.items) (T.reading transport) progress
+        ensures report { IfOk result (λ s. ReportsHandshake P.reported UploadPack (parameters_of extra_parameters.items) (T.reading transport) progress
             (Ok s.shaken) s.progress) }
+        ensures refused { IfErr result (FailsToOpen A.step authenticate (parameters_of extra_parameters.items) T.is_plain (T.reading transport)) }
     {
         let agent = String::from_str(alloc, agent)?;
-        let mut transport = Heard::new(alloc, transport, listener);
+        let mut transport = Tap::new(transport, Messages::new(alloc, listener));
         let mut progress = progress;
         let shaken = handshake(
             alloc,
@@ -206,9 +215,9 @@ impl<T: Transport + Drop, L: Listener + Drop, P: NestedProgress + Drop> Session<
 
     /// The listener.
     pub fn listener(&self) -> &L
-        ensures { result.now ≡ self.now.transport.listener }
+        ensures { result.now ≡ self.now.transport.observer.listener }
     {
-        &self.transport.listener
+        &self.transport.observer.listener
     }
 
     /// The progress reporter.
@@ -228,25 +237,32 @@ impl<T: Transport + Drop, L: Listener + Drop, P: NestedProgress + Drop> Session<
         }
     }
 
+    // Returns `UnknownObjectFormat` if the server names an object format other than SHA-1.
+    fn expect_format(&self) -> Result<(), Error>
+        ensures known { OnOk result (unknown_format self.now.shaken.capabilities ≡ None) }
+        ensures refused { IfErr result (IsUnasked self.now.state self.now.shaken.capabilities) }
+    {
+        match unknown_format(&self.shaken.capabilities) {
+            None => Ok(()),
+            Some(format) => Err(Error::UnknownObjectFormat {
+                format: BString::from_slice(self.alloc, format.as_bytes())?,
+            }),
+        }
+    }
+
     // Lists all refs, and keeps them.
     fn ask_refs(&mut self) -> Result<(), Error>
         ensures over { self.old.state ≢ State.AtStop → (result ≡ Err Error.Over) × (self.new ≡ self.old) }
         ensures other { unknown_format self.old.shaken.capabilities ≢ None → self.new ≡ self.old }
         ensures format { OnOk result (unknown_format self.old.shaken.capabilities ≡ None) }
-        ensures listed { OnOk result ((refs : Vec ListedRef Allocator) × ListsInSession (named_by self.old.name)
-            self.old.shaken T.is_plain (T.reading self.old.transport.inner) (T.reading self.new.transport.inner) (Ok refs)
-            × (self.new.shaken ≡ record self.old.shaken { refs = Some refs })) }
+        ensures listed { OnOk result (KeepsListedRefs T.is_plain T.reading self.old self.new) }
         ensures ended { OnOk result (is_flush (T.reading self.new.transport.inner).stopped ≡ true) }
-        ensures refused { IfErr result (λ e. ((self.new ≡ self.old) × IsUnasked self.old.shaken.capabilities e)
-            ⊎ ((listed : Result (Vec ListedRef Allocator) ListError) × ListsInSession (named_by self.old.name)
-            self.old.shaken T.is_plain (T.reading self.old.transport.inner) (T.reading self.new.transport.inner) listed
-            × (whole_refs listed (is_flush (T.reading self.new.transport.inner).stopped) ≡ Err e)
-            × (self.new.state ≡ behind_refusal self.old.shaken.server_protocol_version e) × (self.new.shaken ≡ self.old.shaken))) }
+        ensures refused { IfErr result (ListFailsInSession T.is_plain T.reading self.old self.new) }
         ensures stays { OnOk result (self.new.state ≡ self.old.state) }
         ensures name { self.new.name ≡ self.old.name }
     {
         self.expect_open()?;
-        expect_format(self.alloc, &self.shaken.capabilities)?;
+        self.expect_format()?;
         let table = CommandTable::git();
         let name = self.name.agent_feature(self.alloc)?;
         let command = LsRefsCommand::new(
@@ -263,7 +279,7 @@ impl<T: Transport + Drop, L: Listener + Drop, P: NestedProgress + Drop> Session<
                 Ok(())
             }
             Err(e) => {
-                self.state = behind_refusal(self.shaken.server_protocol_version, &e);
+                self.state = state_after_refusal(self.shaken.server_protocol_version, &e);
                 Err(e)
             }
         }
@@ -285,15 +301,9 @@ impl<T: Transport + Drop, L: Listener + Drop, P: NestedProgress + Drop> Session<
         ensures over { self.old.shaken.refs ≡ None → self.old.state ≢ State.AtStop → (result ≡ Err Error.Over) × (self.new ≡ self.old) }
         ensures other { unknown_format self.old.shaken.capabilities ≢ None → self.new ≡ self.old }
         ensures format { self.old.shaken.refs ≡ None → OnOk result (unknown_format self.old.shaken.capabilities ≡ None) }
-        ensures listed { self.old.shaken.refs ≡ None → OnOk result ((refs : Vec ListedRef Allocator) × ListsInSession
-            (named_by self.old.name) self.old.shaken T.is_plain (T.reading self.old.transport.inner)
-            (T.reading self.new.transport.inner) (Ok refs) × (self.new.shaken ≡ record self.old.shaken { refs = Some refs })) }
+        ensures listed { self.old.shaken.refs ≡ None → OnOk result (KeepsListedRefs T.is_plain T.reading self.old self.new) }
         ensures ended { self.old.shaken.refs ≡ None → OnOk result (is_flush (T.reading self.new.transport.inner).stopped ≡ true) }
-        ensures refused { IfErr result (λ e. ((self.new ≡ self.old) × IsUnasked self.old.shaken.capabilities e)
-            ⊎ ((listed : Result (Vec ListedRef Allocator) ListError) × ListsInSession (named_by self.old.name)
-            self.old.shaken T.is_plain (T.reading self.old.transport.inner) (T.reading self.new.transport.inner) listed
-            × (whole_refs listed (is_flush (T.reading self.new.transport.inner).stopped) ≡ Err e)
-            × (self.new.state ≡ behind_refusal self.old.shaken.server_protocol_version e) × (self.new.shaken ≡ self.old.shaken))) }
+        ensures refused { IfErr result (ListFailsInSession T.is_plain T.reading self.old self.new) }
         ensures stays { OnOk result (self.new.state ≡ self.old.state) }
         ensures name { self.new.name ≡ self.old.name }
     {
@@ -311,10 +321,12 @@ impl<T: Transport + Drop, L: Listener + Drop, P: NestedProgress + Drop> Session<
     pub fn refs(&mut self) -> Result<&[Ref], Error>
         ensures given { IfOk result (λ refs. GivesRefs (named_by self.old.name) self.old.shaken T.is_plain
             (T.reading self.old.transport.inner) self.old.shaken.refs refs.now) }
-        ensures refused { IfErr result (λ e. IsUnasked self.old.shaken.capabilities e
-            ⊎ ((listed : Result (Vec ListedRef Allocator) ListError) × (is_ended : Bool) × (whole_refs listed is_ended ≡ Err e))) }
+        ensures refused { IfErr result (λ e. (new : AnySession T L P P.SubProgress) × ListFailsInSession T.is_plain T.reading self.old new e) }
     {
-        self.list()?;
+        match self.list() {
+            Ok(()) => {}
+            Err(e) => return Err(e),
+        }
         match &self.shaken.refs {
             Some(refs) => Ok(refs),
             None => Ok(&[]),
@@ -352,19 +364,19 @@ impl<T: Transport + Drop, L: Listener + Drop, P: NestedProgress + Drop> Session<
         ensures whole { OnOk result (are_whole (is_some self.old.shaken.refs) (T.reading self.new.transport.inner).stopped ≡ true) }
         ensures format { OnOk result (unknown_format self.old.shaken.capabilities ≡ None) }
         ensures other { unknown_format self.old.shaken.capabilities ≢ None → self.new ≡ self.old }
-        ensures refused { IfErr result (λ e. ((self.new ≡ self.old) × IsUnasked self.old.shaken.capabilities e)
+        ensures refused { IfErr result (λ e. ((self.new ≡ self.old) × IsUnasked self.old.state self.old.shaken.capabilities e)
             ⊎ ((made : Result MadeMap MapError) × MapsInSession request.now (named_by self.old.name)
             self.old.shaken T.is_plain (T.reading self.old.transport.inner) (T.reading self.new.transport.inner) made
             × (whole_map made (are_whole (is_some self.old.shaken.refs) (T.reading self.new.transport.inner).stopped) ≡ Err e)
-            × (self.new.state ≡ behind_map (is_some self.old.shaken.refs) self.old.shaken.server_protocol_version e))) }
+            × (self.new.state ≡ state_after_map (is_some self.old.shaken.refs) self.old.shaken.server_protocol_version e))) }
         ensures stays { OnOk result (self.new.state ≡ self.old.state) }
-        ensures told { IfOk result (λ m. TellsObtained P.told self.old.shaken.refs self.old.progress (Ok m) self.new.progress) }
+        ensures report { IfOk result (λ m. ReportsObtained P.reported self.old.shaken.refs self.old.progress (Ok m) self.new.progress) }
         ensures handshake { self.new.shaken ≡ record self.old.shaken { refs = self.new.shaken.refs } }
         ensures refs { option_map refs_value self.new.shaken.refs ≡ option_map refs_value self.old.shaken.refs }
         ensures name { self.new.name ≡ self.old.name }
     {
         self.expect_open()?;
-        expect_format(self.alloc, &self.shaken.capabilities)?;
+        self.expect_format()?;
         let context = request.context()?;
         let name = self.name.agent_feature(self.alloc)?;
         let here = self.refs_here()?;
@@ -383,7 +395,7 @@ impl<T: Transport + Drop, L: Listener + Drop, P: NestedProgress + Drop> Session<
         match whole_map(made, are_whole(is_here, &self.transport)) {
             Ok(map) => Ok(map),
             Err(e) => {
-                self.state = behind_map(is_here, version, &e);
+                self.state = state_after_map(is_here, version, &e);
                 Err(e)
             }
         }

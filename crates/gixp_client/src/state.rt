@@ -1,7 +1,7 @@
 //! The state of a session.
 ghost use Rattle.std.specs.Prelude.{◌≡◌, is_some};
-ghost use Rattle.gixp_client.specs.ClientError.{said_in};
-ghost use Rattle.gixp_client.specs.SessionStates.{behind_answers, behind_request, behind_answer, behind_unsaid, behind_refusal, behind_map, behind_outcome, behind_fetch};
+ghost use Rattle.gixp_client.specs.ClientError.{message_in};
+ghost use Rattle.gixp_client.specs.SessionStates.{state_after_answers, state_after_request, state_after_answer, state_after_silent_error, state_after_refusal, state_after_map, state_after_outcome, state_after_fetch};
 
 use crate::error::Error;
 use gixp_capabilities::client;
@@ -22,8 +22,8 @@ pub enum State {
 }
 
 // The state after a complete response. Under versions 0 and 1 it is `otherwise`.
-fn behind_answers(version: Protocol, otherwise: State) -> State
-    ensures { result ≡ behind_answers version otherwise }
+fn state_after_answers(version: Protocol, otherwise: State) -> State
+    ensures { result ≡ state_after_answers version otherwise }
 {
     match version {
         Protocol::V2 => State::AtStop,
@@ -32,8 +32,8 @@ fn behind_answers(version: Protocol, otherwise: State) -> State
 }
 
 // The state after a request that couldn't be sent.
-fn behind_request(e: &client::Error) -> State
-    ensures { result ≡ behind_request e.now }
+fn state_after_request(e: &client::Error) -> State
+    ensures { result ≡ state_after_request e.now }
 {
     match e {
         client::Error::LineTooLong => State::AtStop,
@@ -42,8 +42,8 @@ fn behind_request(e: &client::Error) -> State
 }
 
 // The state after a response that couldn't be read.
-fn behind_answer(e: &response::Error) -> State
-    ensures { result ≡ behind_answer e.now }
+fn state_after_answer(e: &response::Error) -> State
+    ensures { result ≡ state_after_answer e.now }
 {
     match e {
         response::Error::MissingServerCapability { .. } => State::AtStop,
@@ -52,24 +52,24 @@ fn behind_answer(e: &response::Error) -> State
 }
 
 // The state after a call that failed without a server message.
-fn behind_unsaid(version: Protocol, e: &Error) -> State
-    ensures { result ≡ behind_unsaid version e.now }
+fn state_after_silent_error(version: Protocol, e: &Error) -> State
+    ensures { result ≡ state_after_silent_error version e.now }
 {
     match e {
         Error::Refspec { .. } | Error::UnsupportedListing => State::AtStop,
         Error::UnknownObjectFormat { .. } | Error::Conflicts(_) => State::AtStop,
         Error::MissingFeature { .. } | Error::LocalRefs(_) => State::AtStop,
-        Error::Request(e) => behind_request(e),
-        Error::Answer(e) => behind_answer(e),
-        Error::Unnegotiated { .. } => behind_answers(version, State::Ended),
-        Error::UnknownUnshallow { .. } => behind_answers(version, State::Ended),
-        Error::Objects(_) => behind_answers(version, State::Broken),
+        Error::Request(e) => state_after_request(e),
+        Error::Answer(e) => state_after_answer(e),
+        Error::Unnegotiated { .. } => state_after_answers(version, State::Ended),
+        Error::UnknownUnshallow { .. } => state_after_answers(version, State::Ended),
+        Error::Objects(_) => state_after_answers(version, State::Broken),
         _ => State::Broken,
     }
 }
 
-fn is_said(e: &Error) -> bool
-    ensures { result ≡ is_some (said_in e.now) }
+fn has_message(e: &Error) -> bool
+    ensures { result ≡ is_some (message_in e.now) }
 {
     match e.server_message() {
         Some(_) => true,
@@ -78,49 +78,49 @@ fn is_said(e: &Error) -> bool
 }
 
 /// The state after a call that failed with this error.
-pub(crate) fn behind_refusal(version: Protocol, e: &Error) -> State
-    ensures { result ≡ behind_refusal version e.now }
+pub(crate) fn state_after_refusal(version: Protocol, e: &Error) -> State
+    ensures { result ≡ state_after_refusal version e.now }
 {
-    if is_said(e) {
+    if has_message(e) {
         State::Ended
     } else {
-        behind_unsaid(version, e)
+        state_after_silent_error(version, e)
     }
 }
 
 /// The state after a failed ref map. `is_here`: whether the session had the refs already.
-pub(crate) fn behind_map(is_here: bool, version: Protocol, e: &Error) -> State
-    ensures { result ≡ behind_map is_here version e.now }
+pub(crate) fn state_after_map(is_here: bool, version: Protocol, e: &Error) -> State
+    ensures { result ≡ state_after_map is_here version e.now }
 {
     if is_here {
         State::AtStop
     } else {
-        behind_refusal(version, e)
+        state_after_refusal(version, e)
     }
 }
 
 // The state after a fetch with this outcome.
-fn behind_outcome(version: Protocol, outcome: &Option<Outcome>) -> State
-    ensures { result ≡ behind_outcome version outcome.now }
+fn state_after_outcome(version: Protocol, outcome: &Option<Outcome>) -> State
+    ensures { result ≡ state_after_outcome version outcome.now }
 {
     match outcome {
         None => State::AtStop,
-        Some(_) => behind_answers(version, State::Ended),
+        Some(_) => state_after_answers(version, State::Ended),
     }
 }
 
-pub(crate) fn behind_fetch(
+pub(crate) fn state_after_fetch(
     is_negotiated: bool,
     version: Protocol,
-    came: &Result<Option<Outcome>, Error>,
+    received: &Result<Option<Outcome>, Error>,
 ) -> State
-    ensures { result ≡ behind_fetch is_negotiated version came.now }
+    ensures { result ≡ state_after_fetch is_negotiated version received.now }
 {
-    match came {
-        Ok(outcome) => behind_outcome(version, outcome),
+    match received {
+        Ok(outcome) => state_after_outcome(version, outcome),
         Err(e) => {
             if is_negotiated {
-                behind_refusal(version, e)
+                state_after_refusal(version, e)
             } else {
                 State::AtStop
             }

@@ -2,5 +2,5 @@ pub mod Ids
 pub mod Lenient
 pub mod Recorder
 pub mod Repository
-pub mod Told
+pub mod ProgressLog
 pub use Rattle.gixp_memory.specs.Repository as MemoryRepository

@@ -7,15 +7,15 @@ mod ids;
 mod lenient;
 mod objects;
 mod paper;
+mod progress_log;
 mod recorder;
 mod refs;
-mod told;
 
 pub use device::{Device, Pieces, next_random};
 pub use ids::{numbered_id, numbered_ids};
 pub use lenient::Lenient;
 pub use objects::{LentObjects, MemoryObjects};
 pub use paper::Paper;
+pub use progress_log::{Call, Lent, ProgressLog};
 pub use recorder::Recorder;
 pub use refs::MemoryRefs;
-pub use told::{Call, Lent, Told};

@@ -94,7 +94,7 @@ impl MemoryObjects {
         ensures counted { OnOk result (self.new.calls + 1 ≡ self.old.calls) }
 
         // The call was to fail, or the object is corrupt, or an allocation failed.
-        ensures told { IfErr result (λ e. (e ≡ Memory) ⊎ (((self.old.calls ≡ 0) × (e ≡ self.old.error))
+        ensures reported { IfErr result (λ e. (e ≡ Memory) ⊎ (((self.old.calls ≡ 0) × (e ≡ self.old.error))
             ⊎ ((contains id_cmp self.old.corrupt id.now ≡ true) × (e ≡ Corrupt)))) }
         ensures unfailed { OnOk result (self.new.failures ≡ self.old.failures) }
         ensures failures { self.old.failures ≤ self.new.failures }

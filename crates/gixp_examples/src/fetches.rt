@@ -1,4 +1,7 @@
 //! One request for a pack, up to the start of the pack.
+ghost use Rattle.std.specs.Prelude.{IfOk};
+ghost use Rattle.gixp_examples.specs.OneCommit.{FetchesOne};
+
 use gix_protocol::command::{Command, CommandTable};
 use gix_protocol::fetch::{Arguments, Response, response};
 use gix_protocol::transport::{ObjectId, Service, Transport, client};
@@ -37,7 +40,9 @@ pub fn fetch_one<T: Transport>(
     alloc: Global,
     transport: &mut T,
     id: &ObjectId,
-) -> Result<bool, Error> {
+) -> Result<bool, Error>
+    ensures { IfOk result (FetchesOne id.now (T.reading transport.old) (T.reading transport.new)) }
+{
     let found = transport.handshake(alloc, Service::UploadPack, &[])?;
     let table = CommandTable::git();
     let version = found.actual_protocol;

@@ -12,7 +12,7 @@ use gix_protocol::client::{
 use gix_protocol::fetch::negotiate::{
     AnyNegotiator, Find, Negotiate, NegotiatesMap, RefStore, StoredObjects, StoredRefs,
 };
-use gix_protocol::fetch::{ConsumePack, CopyPack, RefMap, ShallowMemory, ShallowStore};
+use gix_protocol::fetch::{ConsumePack, CopyError, CopyPack, RefMap, ShallowMemory, ShallowStore};
 use gix_protocol::transport::{Discard, Interrupt, NeverInterrupt, Transport};
 use std::alloc::Global;
 use std::io::Write;
@@ -26,17 +26,18 @@ pub fn promised_fetch<'a, T: Transport + Drop, W: Write>(
     repository: Repository<'a, StoredObjects, StoredRefs>,
     pack: &mut CopyPack<W>,
 ) -> Result<(RefMap, Fetched), Error>
-    ensures { IfOk result (λ came. ((came.0.mappings.items ≡ []) × (came.1.outcome ≡ None) × (pack.new ≡ pack.old))
+    ensures { IfOk result (λ received. ((received.0.mappings.items ≡ []) × (received.1.outcome ≡ None) × (pack.new ≡ pack.old))
         ⊎ ((end : Reading) × IsOneRun
         (parties_of ⟦<SessionNegotiation<'a, StoredObjects, StoredRefs, AnyNegotiator> as Negotiate>⟧.calls
-        ⟦<ShallowMemory as ShallowStore>⟧.calls ⟦<NeverInterrupt as Interrupt>⟧.says ⟦<CopyPack<W> as ConsumePack<Discard>>⟧.consumes
+        ⟦<ShallowMemory as ShallowStore>⟧.calls ⟦<NeverInterrupt as Interrupt>⟧.polls ⟦<CopyPack<W> as ConsumePack<Discard>>⟧.consumes
         T.is_plain)
+        ⟦<CopyError as Into<Error>>⟧.converts
         ⟦<SessionNegotiation<'a, StoredObjects, StoredRefs, AnyNegotiator> as NegotiatesMap>⟧.map_of
         ⟦<SessionNegotiation<'a, StoredObjects, StoredRefs, AnyNegotiator> as NegotiatesMap>⟧.knows
-        (client_feature (codes "first/1.0")) [] request.now (T.reading transport) came.0
+        (client_feature (codes "first/1.0")) [] request.now (T.reading transport) received.0
         (session_knowledge request.now (⟦<StoredObjects as Find>⟧.contents repository.entry.objects.now)
         (⟦<StoredRefs as RefStore>⟧.refs repository.entry.refs.now))
-        repository.entry.boundary.now pack.old (Ok came.1.outcome) end pack.new)) }
+        repository.entry.boundary.now pack.old (Ok received.1.outcome) end pack.new)) }
 {
     fetch_once(
         alloc,

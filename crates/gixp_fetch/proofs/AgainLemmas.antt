@@ -11,9 +11,10 @@ use Rattle.gixp_requests.specs.Request.{sent_off}
 use Rattle.gixp_graph.specs.GraphLaws.{same_from}
 use Rattle.gixp_negotiate.specs.declared.negotiate.Round.{Round}
 use Rattle.gixp_negotiate.specs.Negotiate.{Window}
-use Rattle.gixp_negotiate.specs.Rounds.{commons, commons_of, is_same_id, has_id, keeping, keeping_all, kept_with, kept_ids, have_line}
+use Rattle.gixp_requests.specs.Line.{have_text}
+use Rattle.gixp_negotiate.specs.Rounds.{commons, commons_of, is_same_id, has_id, keeping, keeping_all, kept_with, kept_ids}
 use Rattle.gixp_fetch.specs.FetchRounds.{At, Turn, Manner, Turns, Rounds}
-use Rattle.gixp_fetch.specs.Again.{Renames, StandsAlone, NamesAgain, NamesAll, named_in}
+use Rattle.gixp_fetch.specs.Again.{Renames, HasIndependentRequests, NamesAgain, NamesAll, named_in}
 use Rattle.gixp_shallow.proofs.SetLemmas.{no_member, first_member, later_member, member_cases}
 use Rattle.gixp_fetch.proofs.SentLemmas.{turn_written}
 
@@ -60,14 +61,14 @@ all_join kept (id ∷ ids) q h = at (member_cases id ids q h) (all_join (keeping
     at (inl e) rest = all_stay (keeping kept id) ids q (subst (λ x. Contains (keeping kept id) x) (sym e) (joins kept id))
     at (inr b) rest = rest b
 
-lines_of_haves : (ids : List ObjectId) (q : ObjectId) → Contains ids q → Contains (map have_line ids) (have_line q)
+lines_of_haves : (ids : List ObjectId) (q : ObjectId) → Contains ids q → Contains (map have_text ids) (have_text q)
 lines_of_haves [] q h = absurd (no_member q h)
 lines_of_haves (id ∷ ids) q h = at (member_cases id ids q h) (lines_of_haves ids q)
   where
-    at : (q ≡ id) ⊎ Contains ids q → (Contains ids q → Contains (map have_line ids) (have_line q))
-        → Contains (have_line id ∷ map have_line ids) (have_line q)
-    at (inl e) rest = first_member (have_line id) (map have_line ids) (have_line q) (ap have_line e)
-    at (inr b) rest = later_member (have_line id) (map have_line ids) (have_line q) (rest b)
+    at : (q ≡ id) ⊎ Contains ids q → (Contains ids q → Contains (map have_text ids) (have_text q))
+        → Contains (have_text id ∷ map have_text ids) (have_text q)
+    at (inl e) rest = first_member (have_text id) (map have_text ids) (have_text q) (ap have_text e)
+    at (inr b) rest = later_member (have_text id) (map have_text ids) (have_text q) (rest b)
 
 -- the lines stay where each request has to be complete in itself
 lines_stay : (persists : Bool) (a : ArgumentsValue) → (is_v2 a.version ≡ true) ⊎ (persists ≡ false) → (sent_off persists a).lines ≡ a.lines
@@ -96,7 +97,7 @@ module _ {N I A : Type 0} (m : Manner N I A) (law : Renames m.goes) where
       → (window.kept ≡ Some (keeping_all k.kept (commons_of old.previous)))
       × (asked.lines ≡ lines) × (asked.version ≡ old.asked.version)
       × ((id : ObjectId) → Contains ids id → Contains (keeping_all k.kept (commons_of old.previous)) id)
-      × ((id : ObjectId) → Contains ids id → Contains asked.haves (have_line id))
+      × ((id : ObjectId) → Contains ids id → Contains asked.haves (have_text id))
   goes_names old lines ids k round done next window asked goes =
       let kept : window.kept ≡ Some (keeping_all k.kept (commons_of old.previous)) = law.keeps _ _ _ _ _ _ _ _ _ goes
       ∙ ap (λ o. kept_with o (commons_of old.previous)) k.is_kept in
@@ -107,8 +108,8 @@ module _ {N I A : Type 0} (m : Manner N I A) (law : Renames m.goes) where
         ap (λ (a : ArgumentsValue). a.lines) names.1 ∙ k.same,
         ap (λ (a : ArgumentsValue). a.version) names.1,
         all,
-        λ id c. subst (λ (a : ArgumentsValue). Contains a.haves (have_line id)) (sym names.1)
-            (Contains-append_right old.asked.haves (map have_line (kept_ids window.kept ++ names.0)) (have_line id)
+        λ id c. subst (λ (a : ArgumentsValue). Contains a.haves (have_text id)) (sym names.1)
+            (Contains-append_right old.asked.haves (map have_text (kept_ids window.kept ++ names.0)) (have_text id)
             (lines_of_haves (kept_ids window.kept ++ names.0) id
             (Contains-append_left (kept_ids window.kept) names.0 id
             (subst (λ o. Contains (kept_ids o) id) (sym kept) (all id c))))),
@@ -123,7 +124,7 @@ module _ {N I A : Type 0} (m : Manner N I A) (law : Renames m.goes) where
       → (t.after.window.kept ≡ Some (keeping_all k.kept (commons_of old.previous)))
       × (t.asked.lines ≡ lines) × (t.asked.version ≡ old.asked.version)
       × ((id : ObjectId) → Contains ids id → Contains (keeping_all k.kept (commons_of old.previous)) id)
-      × ((id : ObjectId) → Contains ids id → Contains t.asked.haves (have_line id))
+      × ((id : ObjectId) → Contains ids id → Contains t.asked.haves (have_text id))
   one_names old t lines ids k h =
       goes_names old lines ids k t.round t.done t.after.negotiate t.after.window t.asked h.negotiated
 
@@ -195,7 +196,7 @@ module _ {N I A : Type 0} (m : Manner N I A) (law : Renames m.goes) where
             (subst (λ xs. Contains xs id) (sym (append_assoc ids (commons t.reply.acknowledgements) (named_in ts))) c);
       }
 
-  first_knows : (start : At N I) → StandsAlone start → Knows start start.asked.lines []
+  first_knows : (start : At N I) → HasIndependentRequests start → Knows start start.asked.lines []
   first_knows start s = record {
     kept = [];
     is_kept = s.kept;
@@ -204,16 +205,16 @@ module _ {N I A : Type 0} (m : Manner N I A) (law : Renames m.goes) where
     alone = s.alone;
   }
 
-  pub rounds_name : (start end : At N I) (ts : List (Turn N I)) → StandsAlone start → Rounds m start ts end
+  pub rounds_name : (start end : At N I) (ts : List (Turn N I)) → HasIndependentRequests start → Rounds m start ts end
       → NamesAgain start.asked.lines [] ts
   rounds_name start end ts s r = run_names start end ts start.asked.lines [] (first_knows start s) r
 
-  pub last_names : (start before : At N I) (ts : List (Turn N I)) (last : Turn N I) → StandsAlone start → Rounds m start ts before
+  pub last_names : (start before : At N I) (ts : List (Turn N I)) (last : Turn N I) → HasIndependentRequests start → Rounds m start ts before
       → Turns m before last → NamesAgain start.asked.lines [] (ts ++ last ∷ [])
   last_names start before ts last s r h = more_names start before ts last start.asked.lines [] (first_knows start s) r h
 
   pub unanswered_names : (start before : At N I) (ts : List (Turn N I)) (round : Round) (done : Bool) (next : N) (window : Window)
-      (asked : ArgumentsValue) → StandsAlone start → Rounds m start ts before
+      (asked : ArgumentsValue) → HasIndependentRequests start → Rounds m start ts before
       → m.goes before.negotiate before.window before.asked before.previous round done next window asked
       → NamesAll start.asked.lines (named_in ts) asked
   unanswered_names start before ts round done next window asked s r goes =

@@ -15,7 +15,7 @@ use Rattle.gixp_packetline.specs.Reading.{Reading, Fails as reader_fails, refusa
 use Rattle.gixp_capabilities.specs.declared.client.Error.{Error as client_error}
 use Rattle.gixp_capabilities.specs.declared.client.Error.TheVariants.{Memory as client_memory}
 use Rattle.gixp_sidebands.specs.Bands.{side_reading}
-use Rattle.gixp_sidebands.specs.Questions.{one_if, SaysEach, Asked, TakesTexts}
+use Rattle.gixp_sidebands.specs.Questions.{one_if, PollsEach, Asked, TakesTexts}
 use Rattle.gixp_response.specs.ResponseError.{answer_refusal, is_interruption}
 use Rattle.gixp_response.specs.declared.fetch.response.error.Error.{Error as answer_error}
 use Rattle.gixp_response.specs.declared.fetch.response.error.Error.TheVariants.{Memory as answer_memory}
@@ -40,13 +40,13 @@ use Rattle.gixp_fetch.specs.declared.error.Error.TheVariants.{FetchResponse, Neg
 use Rattle.gixp_fetch.specs.declared.receive.PackFailure.{PackFailure}
 use Rattle.gixp_fetch.specs.declared.receive.PackFailure.TheVariants.{Consumer, Rest}
 use Rattle.gixp_fetch.specs.FetchError.{of_response, of_client, of_negotiate, of_read, of_lock, of_store_read, of_write}
-use Rattle.gixp_fetch.specs.FetchRounds.{At, Turn, Manner, Rounds, Interrupts, DoneWithout, TurnFails, RoundsFail, Breaks, AsksBroken, before_request, at_request, behind_request, at_answer, behind_answer}
+use Rattle.gixp_fetch.specs.FetchRounds.{At, Turn, Manner, Rounds, Interrupts, DoneWithout, TurnFails, RoundsFail, Breaks, AsksBroken, before_request, at_request, after_request, at_answer, after_answer}
 use Rattle.gixp_fetch.specs.FetchShallow.{Asking, ShallowValue, no_change, at_remote, deepens, since, excludes, is_change, is_some_id, if_can, with_boundary, with_excluded, asks_since, asks_excluded, then_asks, asks_depth, shallow_asks, IsMissing, description_of}
 use Rattle.gixp_fetch.specs.Prepare.{PrepareFails, no_room, unneeded, untagged, LocksFirst, ReleasesIf, asks_tags}
 use Rattle.gixp_fetch.specs.Receive.{DrainFails}
 use Rattle.gixp_fetch.specs.Received.{PackRefused, of_pack}
 use Rattle.gixp_fetch.specs.View.{view, view_plain, AsksThrough}
-use Rattle.gixp_fetch.specs.Kept.{SaysGoOn}
+use Rattle.gixp_fetch.specs.Kept.{PollsGoOn}
 use Rattle.gixp_fetch.specs.Sent.{request_of, requests_of, WroteRequests}
 use Rattle.gixp_shallow.specs.Store.{to_lock}
 use Rattle.gixp_fetch.specs.Session.{OpenFails, ReadyFails, is_any, HoldsBy, UnheldBy, DeliverFails, at_lock, at_pack, at_boundary}
@@ -306,24 +306,24 @@ module _ {N I S A C P X : Type 0} (parties : Parties N I A S C P X) (call : Fetc
 
 -- ---- whether a failed response asked the interrupt
 
-module _ {I : Type 0} (says : I → Bool → I → Type 0) where
-  none_more : (xs : List I) (a b : I) → SaysEach says xs false a b → SaysGoOn says (length xs) a b
+module _ {I : Type 0} (polls : I → Bool → I → Type 0) where
+  none_more : (xs : List I) (a b : I) → PollsEach polls xs false a b → PollsGoOn polls (length xs) a b
   none_more xs a b s =
       let k : length xs + 0 ≡ length xs = omega arith in
-      subst (λ n. SaysGoOn says n a b) k (goes_each says xs a b b 0 s refl)
+      subst (λ n. PollsGoOn polls n a b) k (goes_each polls xs a b b 0 s refl)
 
   -- all questions but the last
-  parts : (xs : List I) (a b : I) → SaysEach says xs true a b → (mid : I) × SaysEach says xs false a mid × says mid true b
+  parts : (xs : List I) (a b : I) → PollsEach polls xs true a b → (mid : I) × PollsEach polls xs false a mid × polls mid true b
   parts [] a b s = (a, refl, s)
   parts (x ∷ xs) a b s = let r = parts xs x b s.1 in (r.0, (s.0, r.1), r.2)
 
-  packets_by : (told : Bool) (old new : Reading) (a b : I) → Asked says told old new a b → AsksPackets says told old new a b
+  packets_by : (reported : Bool) (old new : Reading) (a b : I) → Asked polls reported old new a b → AsksPackets polls reported old new a b
   packets_by false old new a b h =
       let k : length h.after + one_if false ≡ length h.after = omega arith in
-      (length h.after, subst (λ n. IfSome old.to_come (TakesTexts n old new)) k h.each, none_more h.after a b h.said)
+      (length h.after, subst (λ n. IfSome old.to_come (TakesTexts n old new)) k h.each, none_more h.after a b h.polled)
   packets_by true old new a b h =
       let k : length h.after + one_if true ≡ suc (length h.after) = omega arith in
-      let r = parts h.after a b h.said in (
+      let r = parts h.after a b h.polled in (
         length h.after,
         r.0,
         subst (λ n. IfSome old.to_come (TakesTexts n old new)) k h.each,
@@ -331,11 +331,11 @@ module _ {I : Type 0} (says : I → Bool → I → Type 0) where
         r.2,
       )
 
-  asks_answer : (banded plain told : Bool) (old new : Reading) (a b : I) → AsksThrough says banded plain told old new a b
-      → AsksAnswer says banded plain told old new a b
-  asks_answer false plain told old new a b h = h
-  asks_answer true plain told old new a b (inl h) = inl (packets_by told old new a b h)
-  asks_answer true plain told old new a b (inr h) = inr (h.0, h.1, packets_by false old new a b h.2)
+  asks_answer : (banded plain reported : Bool) (old new : Reading) (a b : I) → AsksThrough polls banded plain reported old new a b
+      → AsksAnswer polls banded plain reported old new a b
+  asks_answer false plain reported old new a b h = h
+  asks_answer true plain reported old new a b (inl h) = inl (packets_by reported old new a b h)
+  asks_answer true plain reported old new a b (inr h) = inr (h.0, h.1, packets_by false old new a b h.2)
 
 -- ---- the lock
 
@@ -370,7 +370,7 @@ module _ {N I S A C P X : Type 0} (parties : Parties N I A S C P X) (call : Fetc
           → FeatureLacked parties call old new name text
       lacks name l text t = record {
         lacks = l;
-        says = t;
+        polls = t;
         negotiate = ap (λ (w : World N I S C). w.negotiate) s;
         reading = ap (λ (w : World N I S C). w.reading) s;
         interrupt = ap (λ (w : World N I S C). w.interrupt) s;
@@ -390,12 +390,12 @@ module _ {N I S A C P X : Type 0} (parties : Parties N I A S C P X) (call : Fetc
       at (untagged raw q n name a m) = by_missing parties call old new progress e name m
           (lacks name (lacks_tags call.tags call.table call.version (features call) name a))
   unstarted new (unlocked asked banded p m l s) =
-      by_lock parties call old new progress e l.error l.gives (inl (may_change call.wishes.shallow m, l.refused))
+      by_lock parties call old new progress e l.error l.gives (inl (may_change call.fetch_options.shallow m, l.refused))
 
   -- after the first arguments and the lock
   module _ (banded : Bool) (asked : ArgumentsValue) (held : S) (first : Bool) (last : World N I S C) (released : S)
       (bands : banded ≡ has_feature (codes "sideband-all") (features call)) (of : asked.features ≡ features call)
-      (locks : LocksFirst parties.store_calls.locks (is_change call.wishes.shallow) old.store held first)
+      (locks : LocksFirst parties.store_calls.locks (is_change call.fetch_options.shallow) old.store held first)
       (back : ReleasesIf parties.store_calls.releases last.locked last.store released) where
     abbrev new : World N I S C
     new = record last { store = released; locked = false }
@@ -410,16 +410,16 @@ module _ {N I S A C P X : Type 0} (parties : Parties N I A S C P X) (call : Fetc
     how = manner_of parties call banded
 
     back_as : last.locked ≡ first → IsGivenBack parties call old new last.store
-    back_as l = back_by parties.store_calls.locks parties.store_calls.releases call.wishes.shallow old.store released
-        (is_change call.wishes.shallow) first held last.store refl locks
+    back_as l = back_by parties.store_calls.locks parties.store_calls.releases call.fetch_options.shallow old.store released
+        (is_change call.fetch_options.shallow) first held last.store refl locks
         (subst (λ b. ReleasesIf parties.store_calls.releases b last.store released) l back)
 
-    unopened_cause : OpenFails parties.store_calls call.wishes.shallow held asked e last.store → last.negotiate ≡ old.negotiate
-        → Rests parties call.version banded call.wishes asked within last → Caused
+    unopened_cause : OpenFails parties.store_calls call.fetch_options.shallow held asked e last.store → last.negotiate ≡ old.negotiate
+        → Rests parties call.version banded call.fetch_options asked within last → Caused
     unopened_cause (inl b) n r = by_load parties call old new progress e b.error b.gives (record {
       held = held;
-      first = locked_by parties.store_calls.locks parties.store_calls.releases call.wishes.shallow old.store released
-          (is_change call.wishes.shallow) first held refl locks;
+      first = locked_by parties.store_calls.locks parties.store_calls.releases call.fetch_options.shallow old.store released
+          (is_change call.fetch_options.shallow) first held refl locks;
       last = last.store;
       refused = b.refused;
       back = back_as r.locked;
@@ -428,11 +428,11 @@ module _ {N I S A C P X : Type 0} (parties : Parties N I A S C P X) (call : Fetc
     })
     unopened_cause (inr u) n r = at u.why
       where
-        at : ((name : List ℕ) × (shallow_asks call.wishes.shallow u.ids asked ≡ Err name) × IsMissing name e) ⊎ (e ≡ Memory) → Caused
+        at : ((name : List ℕ) × (shallow_asks call.fetch_options.shallow u.ids asked ≡ Err name) × IsMissing name e) ⊎ (e ≡ Memory) → Caused
         at (inr m) = by_memory parties call old new progress e m
         at (inl (name, a, m)) = by_missing parties call old new progress e name m (λ text t. record {
-          lacks = ap (has_feature name) (sym of) ∙ lacks_feature call.wishes.shallow u.ids asked name a;
-          says = t;
+          lacks = ap (has_feature name) (sym of) ∙ lacks_feature call.fetch_options.shallow u.ids asked name a;
+          polls = t;
           negotiate = n;
           reading = r.reading;
           interrupt = r.interrupt;
@@ -441,8 +441,8 @@ module _ {N I S A C P X : Type 0} (parties : Parties N I A S C P X) (call : Fetc
             u.ids,
             held,
             last.store,
-            locked_by parties.store_calls.locks parties.store_calls.releases call.wishes.shallow old.store released
-                (is_change call.wishes.shallow) first held refl locks,
+            locked_by parties.store_calls.locks parties.store_calls.releases call.fetch_options.shallow old.store released
+                (is_change call.fetch_options.shallow) first held refl locks,
             u.reads,
             back_as r.locked,
           );
@@ -459,9 +459,9 @@ module _ {N I S A C P X : Type 0} (parties : Parties N I A S C P X) (call : Fetc
       begun_at = begin_at parties old ready wanted
 
       unanswered_cause : (turns : List (Turn N I)) (before : At N I) (i : I) → Rounds how begun_at turns before
-          → parties.says before.interrupt false i
+          → parties.polls before.interrupt false i
           → TurnFails how (record before { interrupt = i }) e last.negotiate last.reading last.interrupt → Caused
-      unanswered_cause turns before i run said (inl u) = by_negotiation parties call old new progress e u.error u.own u.gives
+      unanswered_cause turns before i run polled (inl u) = by_negotiation parties call old new progress e u.error u.own u.gives
           (inr (inr (
             before.negotiate,
             before.window,
@@ -472,12 +472,12 @@ module _ {N I S A C P X : Type 0} (parties : Parties N I A S C P X) (call : Fetc
             u.refused,
             (
               requests_of turns,
-              subst (λ (x : Reading). WroteRequests old.reading x (requests_of turns)) (sym u.stands)
+              subst (λ (x : Reading). WroteRequests old.reading x (requests_of turns)) (sym u.position)
                   (rounds_written how begun_at before turns run),
             ),
-            (before.interrupt, subst (λ x. parties.says before.interrupt false x) (sym u.unasked) said),
+            (before.interrupt, subst (λ x. parties.polls before.interrupt false x) (sym u.unasked) polled),
           )))
-      unanswered_cause turns before i run said (inr b) = at b.breaks b.asks
+      unanswered_cause turns before i run polled (inr b) = at b.breaks b.asks
         where
           at : (k : Breaks how (record before { interrupt = i }) b.asked b.done e last.reading) → AsksBroken how k last.interrupt → Caused
           at (before_request m r) asks = by_memory parties call old new progress e m
@@ -488,9 +488,9 @@ module _ {N I S A C P X : Type 0} (parties : Parties N I A S C P X) (call : Fetc
             asked = b.asked;
             done = b.done;
             refused = s;
-            asks = (before.interrupt, subst (λ x. parties.says before.interrupt false x) (sym asks) said);
+            asks = (before.interrupt, subst (λ x. parties.polls before.interrupt false x) (sym asks) polled);
           })
-          at (behind_request s m) asks = by_memory parties call old new progress e m.1
+          at (after_request s m) asks = by_memory parties call old new progress e m.1
           at (at_answer sent s error a h g) asks = by_answer parties call old new progress e error g (inr (record {
             banded = banded;
             bands = bands;
@@ -505,11 +505,11 @@ module _ {N I S A C P X : Type 0} (parties : Parties N I A S C P X) (call : Fetc
             held = h;
             before = before.interrupt;
             first = i;
-            goes_on = said;
-            asks = asks_answer parties.says banded parties.plain (is_interruption (answer_refusal error)) sent last.reading i last.interrupt
+            goes_on = polled;
+            asks = asks_answer parties.polls banded parties.plain (is_interruption (answer_refusal error)) sent last.reading i last.interrupt
                 asks;
           }))
-          at (behind_answer sent s reply a h m) asks = by_memory parties call old new progress e m
+          at (after_answer sent s reply a h m) asks = by_memory parties call old new progress e m
 
       packless_cause : (rounds : List Round) (n : ℕ) (end : At N I) → n ≡ length rounds → e ≡ Negotiate (NegotiationFailed n)
           → last.reading ≡ end.reading → last.interrupt ≡ end.interrupt
@@ -517,20 +517,20 @@ module _ {N I S A C P X : Type 0} (parties : Parties N I A S C P X) (call : Fetc
       packless_cause rounds n end c g r i (inl d) = by_this parties call old new progress e (Negotiate (NegotiationFailed n)) g (record {
         banded = banded;
         turns = d.turns;
-        count = count_same d.turns rounds n c d.told;
+        count = count_same d.turns rounds n c d.reported;
         answers = subst (λ ts. AreAnswers call.version banded ts) (append-nil d.turns)
             (rounds_answers how begun_at d.before d.turns [] d.run tt);
         wrote = subst (λ (x : Reading). WroteRequests old.reading x (requests_of d.turns))
-            (sym (r ∙ ap (λ (a : At N I). a.reading) d.stands)) (rounds_written how begun_at d.before d.turns d.run);
-        why = inl (d.before.interrupt, subst (λ x. parties.says d.before.interrupt true x) (sym i) d.said);
+            (sym (r ∙ ap (λ (a : At N I). a.reading) d.position)) (rounds_written how begun_at d.before d.turns d.run);
+        why = inl (d.before.interrupt, subst (λ x. parties.polls d.before.interrupt true x) (sym i) d.polled);
       })
       packless_cause rounds n end c g r i (inr d) = by_this parties call old new progress e (Negotiate (NegotiationFailed n)) g (record {
         banded = banded;
         turns = d.turns ++ d.last ∷ [];
-        count = count_more d.turns d.last.round rounds n c d.told ∙ sym (length-append d.turns (d.last ∷ []));
+        count = count_more d.turns d.last.round rounds n c d.reported ∙ sym (length-append d.turns (d.last ∷ []));
         answers = rounds_answers how begun_at d.before d.turns (d.last ∷ []) d.run (is_answer _ _ _ _ _ d.lasts.answer, tt);
         wrote = subst (λ (x : Reading). WroteRequests old.reading x (requests_of (d.turns ++ d.last ∷ [])))
-            (sym (r ∙ ap (λ (a : At N I). a.reading) d.stands))
+            (sym (r ∙ ap (λ (a : At N I). a.reading) d.position))
             (subst (λ rs. WroteRequests old.reading d.last.after.reading rs) (sym (requests_append d.turns d.last))
             (last_written how begun_at d.before d.turns d.last d.run d.lasts));
         why = inr (d.turns, d.last, refl, d.done, d.no_pack);
@@ -538,13 +538,13 @@ module _ {N I S A C P X : Type 0} (parties : Parties N I A S C P X) (call : Fetc
 
       unpacked_cause : (rounds : List Round) → RoundsFail how begun_at e rounds last.negotiate last.reading last.interrupt → Caused
       unpacked_cause rounds (inl f) = packless_cause rounds f.count f.end f.counted f.gives f.reads f.asks f.ends
-      unpacked_cause rounds (inr (inl l)) = unanswered_cause l.turns l.before l.asked l.run l.said l.refused
+      unpacked_cause rounds (inr (inl l)) = unanswered_cause l.turns l.before l.asked l.run l.polled l.refused
       unpacked_cause rounds (inr (inr u)) = by_memory parties call old new progress e u.gives
 
     -- ---- after a pack
     module _ (ids : List ObjectId) (read : S) (reads : parties.store_calls.reads held ids read) (us : List ShallowUpdate)
         (from : Reading) (stopped : from.stopped ≡ None) where
-      unheld_cause : (c u reject had : Bool) → is_change call.wishes.shallow ≡ c → call.wishes.reject ≡ reject → first ≡ had
+      unheld_cause : (c u reject had : Bool) → is_change call.fetch_options.shallow ≡ c → call.fetch_options.reject ≡ reject → first ≡ had
           → LocksFirst parties.store_calls.locks c old.store held had
           → UnheldBy parties.store_calls (u && not had) reject read had e last.store last.locked → last.consumer ≡ old.consumer → Caused
       unheld_cause c u reject true d j f l h k = absurd (never u h)
@@ -554,7 +554,7 @@ module _ {N I S A C P X : Type 0} (parties : Parties N I A S C P X) (call : Fetc
           never false h = h
       unheld_cause c false reject false d j f l h k = absurd h
       unheld_cause c true true false d j f l h k =
-          let x = unlocked_by parties.store_calls.locks parties.store_calls.releases call.wishes.shallow old.store released c held d l in
+          let x = unlocked_by parties.store_calls.locks parties.store_calls.releases call.fetch_options.shallow old.store released c held d l in
           let same : released ≡ read = subst (λ b. ReleasesIf parties.store_calls.releases b last.store released) h.2 back ∙ h.1 in
           by_this parties call old new progress e RejectShallowRemote h.0 (
             x.0,
@@ -567,7 +567,7 @@ module _ {N I S A C P X : Type 0} (parties : Parties N I A S C P X) (call : Fetc
             k,
           )
       unheld_cause c true false false d j f l h k =
-          let x = unlocked_by parties.store_calls.locks parties.store_calls.releases call.wishes.shallow old.store released c held d l in
+          let x = unlocked_by parties.store_calls.locks parties.store_calls.releases call.fetch_options.shallow old.store released c held d l in
           let same : released ≡ last.store = subst (λ b. ReleasesIf parties.store_calls.releases b last.store released) h.3 back in
           by_lock parties call old new progress e h.0 h.2 (inr (
             x.0,
@@ -602,9 +602,9 @@ module _ {N I S A C P X : Type 0} (parties : Parties N I A S C P X) (call : Fetc
       had_lock false true false mid q h = h.1
       had_lock false false reject mid q h = absurd (false≢true q)
 
-      undelivered_cause : DeliverFails parties.store_calls parties.consumes ids us call.wishes.reject old.consumer read first from e
+      undelivered_cause : DeliverFails parties.store_calls parties.consumes ids us call.fetch_options.reject old.consumer read first from e
           last.consumer last.store last.locked last.reading progress → Caused
-      undelivered_cause (at_lock h d r) = unheld_cause (is_change call.wishes.shallow) (is_any us) call.wishes.reject first refl refl refl
+      undelivered_cause (at_lock h d r) = unheld_cause (is_change call.fetch_options.shallow) (is_any us) call.fetch_options.reject first refl refl refl
           locks h d
       undelivered_cause (at_pack h (inl u)) = untaken_cause u
       undelivered_cause (at_pack h (inr m)) = by_memory parties call old new progress e m.0
@@ -614,20 +614,20 @@ module _ {N I S A C P X : Type 0} (parties : Parties N I A S C P X) (call : Fetc
         last.store,
         f,
         subst (λ b. ReleasesIf parties.store_calls.releases b last.store released)
-            (had_lock first (is_any us) call.wishes.reject mid some h) back,
+            (had_lock first (is_any us) call.fetch_options.reject mid some h) back,
       )
 
-    fails_cause : FetchFails parties call.version banded call.wishes asked within e last progress → Caused
+    fails_cause : FetchFails parties call.version banded call.fetch_options asked within e last progress → Caused
     fails_cause (unopened o n r) = unopened_cause o n r
     fails_cause (unready ids a o f r) = unready_cause a f
     fails_cause (unpacked rounds u l c) = unpacked_cause u.ready u.wanted rounds u.fails
     fails_cause (untold ids action rounds updates reply end g m n r i l c) = by_memory parties call old new progress e m
     fails_cause (undelivered ids read action rounds updates reply end g n d) =
-        undelivered_cause ids read g.begun.opened.reads (updates ++ call.wishes.told) end.reading
+        undelivered_cause ids read g.begun.opened.reads (updates ++ call.fetch_options.reported) end.reading
         (packed_running parties how (begin_at parties old g.ready g.wanted) rounds updates reply end g.packed) d
 
   pub caused : (new : World N I S C) → Fetches parties call old (Err e) new progress → IsCause parties call old new progress e
   caused new (inl u) = unstarted new u
-  caused new (inr h) = subst (λ (w : World N I S C). IsCause parties call old w progress e) (sym h.stands)
+  caused new (inr h) = subst (λ (w : World N I S C). IsCause parties call old w progress e) (sym h.position)
       (fails_cause h.banded h.asked h.held h.first h.last new.store h.prepared.bands
       (tags_features call.tags call.table call.version (features call) h.asked h.prepared.asks) h.locks h.releases h.meets)

@@ -11,14 +11,14 @@ use Rattle.gixp_packetline.specs.Pieces.{Pieces, pieces_of, pieces_from}
 use Rattle.gixp_packetline.specs.Reading.{Reading, lines_ahead}
 use Rattle.gixp_capabilities.specs.Capabilities.{CapabilityValue}
 use Rattle.gixp_capabilities.specs.declared.client.Error.{Error as client_error}
-use Rattle.gixp_wire.specs.declared.bodies.Body.{Body}
-use Rattle.gixp_wire.specs.declared.bodies.Body.TheVariants.{Bytes, Fail}
-use Rattle.gixp_wire.specs.Bodies.{answer_of as body_answer}
+use Rattle.gixp_transport.specs.declared.bodies.Body.{Body}
+use Rattle.gixp_transport.specs.declared.bodies.Body.TheVariants.{Bytes, Fail}
+use Rattle.gixp_transport.specs.Bodies.{answer_of as body_answer}
 use Rattle.gixp_packetline.specs.TransportState.{body}
-use Rattle.gixp_wire.specs.declared.service.Service.{Service}
-use Rattle.gixp_wire.specs.declared.service.SetServiceResponse.{SetServiceResponse}
-use Rattle.gixp_wire.specs.Greeting.{Parameter}
-use Rattle.gixp_wire.specs.Handshake.{Greets, Identifies, HandshakesBy, Handshakes}
+use Rattle.gixp_transport.specs.declared.service.Service.{Service}
+use Rattle.gixp_transport.specs.declared.service.SetServiceResponse.{SetServiceResponse}
+use Rattle.gixp_transport.specs.Greeting.{Parameter}
+use Rattle.gixp_transport.specs.Handshake.{Greets, Identifies, HandshakesBy, Handshakes}
 use Rattle.gixp_refs.specs.declared.handshake.Ref.{Ref}
 use Rattle.gixp_refs.specs.declared.handshake.refs.parse.Error.{Error as refs_error}
 use Rattle.gixp_refs.specs.declared.handshake.refs.parse.Error.TheVariants.{Memory as refs_memory}
@@ -59,7 +59,7 @@ use Rattle.gixp_fetch.specs.Fetch.{World, Parties}
 use Rattle.gixp_fetch.specs.Fetched.{FetchCall}
 use Rattle.gixp_fetch.specs.Mapped.{Knowledge, decided, lines_of, FollowsMap}
 use Rattle.gixp_fetch.specs.Sessions.{Starts, SessionFails, at_depth, at_wants, in_session, HoldsSession}
-use Rattle.gixp_fetch.specs.Headline.{AnswerBodies, said_call, IsOfAll, FindsRefMap, of_shown, of_listed, unlisted, unmade, MapsAreOfAll, AnswersAreRefused, RefsAreRefused, AdvertisementsAreRefused, WordsAreSaid, SaysBy, Greeted, ShownByHandshake, ListedByCommand, RefsRefused, AsksAccount, HasAccount, IsErased, NoAccount, unanswered, none_known, untaken, unheard_again, bad, unkept, HandshakeFails, unbegun, unheard, denied, unaccepted, unread, HandshakesAreRefused, WantsOfMap, NoWants, NoneOfMap, DecidesOfMap, RefusalOfMap, AsksOfMap, Run, Promise}
+use Rattle.gixp_fetch.specs.Headline.{AnswerBodies, run_call, IsOfAll, FindsRefMap, of_shown, of_listed, unlisted, unmade, MapsAreOfAll, AnswersAreRefused, RefsAreRefused, AdvertisementsAreRefused, WordsAreAdvertised, AdvertisesBy, Greeted, ShownByHandshake, ListedByCommand, RefsRefused, AsksAccount, HasAccount, IsErased, NoAccount, unanswered, none_known, untaken, unheard_again, bad, unkept, HandshakeFails, unbegun, unheard, denied, unaccepted, unread, HandshakesAreRefused, WantsOfMap, NoWants, NoneOfMap, DecidesOfMap, RefusalOfMap, AsksOfMap, Run, Promise}
 use Rattle.gixp_fetch.proofs.SessionLemmas.{session_held}
 
 -- ---- packet lines
@@ -116,7 +116,7 @@ abbrev By : Handshake → Option (Vec Ref Global) → SetServiceResponse → Rea
 By h (Some refs) found from shaken = ShownByHandshake found from shaken shaken h refs.items
 By h None found from shaken = (found.has_refs ≡ false) × (shaken ≡ from) × (h.v1_shallow_updates ≡ None)
 
-pub record Heard (service : Service) (ps : List Parameter) (turns : List CredentialCall) (start shaken : Reading)
+pub record CompletedHandshake (service : Service) (ps : List Parameter) (turns : List CredentialCall) (start shaken : Reading)
     (h : Handshake) : Type 0 where
   pub greeted : Greeted service ps turns start shaken h
   pub refs : By h h.refs greeted.found greeted.from shaken
@@ -135,8 +135,8 @@ module _ (service : Service) (ps : List Parameter) (plain : Bool) (turns : List 
         follow = e;
         refs = r.0;
         updates = r.1;
-        came = r.2;
-        told = r.3;
+        received = r.2;
+        reported = r.3;
         same = refl;
         table = a.0;
         symrefs = a.1;
@@ -148,10 +148,10 @@ module _ (service : Service) (ps : List Parameter) (plain : Bool) (turns : List 
       by_some : {x y : Vec Ref Global} → Some x ≡ Some y → x ≡ y
       by_some e = cc
 
-  heard_first : (mid : Reading) (found : SetServiceResponse) → is_accepted start.held.accepted found.actual_protocol ≡ true
+  completed_first : (mid : Reading) (found : SetServiceResponse) → is_accepted start.held.accepted found.actual_protocol ≡ true
       → Opens service ps start mid turns (Ok found) → shaken.held ≡ mid.held
-      → ReadsFirst found.has_refs found plain mid shaken (Ok h) → IsOf found (Ok h) → Heard service ps turns start shaken h
-  heard_first mid found a o s r is = record {
+      → ReadsFirst found.has_refs found plain mid shaken (Ok h) → IsOf found (Ok h) → CompletedHandshake service ps turns start shaken h
+  completed_first mid found a o s r is = record {
     greeted = record {
       found = found;
       from = mid;
@@ -164,22 +164,22 @@ module _ (service : Service) (ps : List Parameter) (plain : Bool) (turns : List 
     refs = refs_by found mid found.has_refs h.refs refl refl r;
   }
 
-  heard_kept : (accepted : Bool) (mid : Reading) (found : SetServiceResponse) → is_accepted start.held.accepted found.actual_protocol
+  completed_kept : (accepted : Bool) (mid : Reading) (found : SetServiceResponse) → is_accepted start.held.accepted found.actual_protocol
       ≡ accepted → Opens service ps start mid turns (Ok found) → shaken.held ≡ mid.held
-      → KeepsVersion accepted found plain mid shaken (Ok h) → Heard service ps turns start shaken h
-  heard_kept true mid found a o s k = heard_first mid found a o s k.0 k.1
-  heard_kept false mid found a o s k = cc k.1
+      → KeepsVersion accepted found plain mid shaken (Ok h) → CompletedHandshake service ps turns start shaken h
+  completed_kept true mid found a o s k = completed_first mid found a o s k.0 k.1
+  completed_kept false mid found a o s k = cc k.1
 
-  heard_opened : (opened : OpeningResult) (mid : Reading) → Opens service ps start mid turns opened
+  completed_opened : (opened : OpeningResult) (mid : Reading) → Opens service ps start mid turns opened
       ⊎ StopsForMemory start mid turns opened → shaken.held ≡ mid.held
       → FinishesHandshake start.held.accepted opened plain mid shaken (Ok h)
-      → Heard service ps turns start shaken h
-  heard_opened (Err x) mid o s g = cc g.1
-  heard_opened (Ok found) mid (inl o) s g = heard_kept (is_accepted start.held.accepted found.actual_protocol) mid found refl o s g
-  heard_opened (Ok found) mid (inr n) s g = cc n.error
+      → CompletedHandshake service ps turns start shaken h
+  completed_opened (Err x) mid o s g = cc g.1
+  completed_opened (Ok found) mid (inl o) s g = completed_kept (is_accepted start.held.accepted found.actual_protocol) mid found refl o s g
+  completed_opened (Ok found) mid (inr n) s g = cc n.error
 
-  heard : CompletesHandshake service ps plain start shaken turns (Ok h) → Heard service ps turns start shaken h
-  heard s = heard_opened s.opened s.mid s.opens s.held s.goes_on
+  completed : CompletesHandshake service ps plain start shaken turns (Ok h) → CompletedHandshake service ps turns start shaken h
+  completed s = completed_opened s.opened s.mid s.opens s.held s.goes_on
 
 abbrev ok_map : RefMap → Result RefMap map_error
 ok_map made = Ok made
@@ -187,7 +187,7 @@ ok_map made = Ok made
 -- the origin of the refs of a map: they were advertised, or listed
 pub record Stands (found : SetServiceResponse) (from shaken mapped : Reading) (h : Handshake) (table : TableValue)
     (agent : FeatureValue) (context : Context) (made : RefMap) : Type 0 where
-  pub came : ShownByHandshake found from shaken mapped h made.remote_refs.items ⊎ ((found.has_refs ≡ false) × (shaken ≡ from)
+  pub received : ShownByHandshake found from shaken mapped h made.remote_refs.items ⊎ ((found.has_refs ≡ false) × (shaken ≡ from)
       × (h.v1_shallow_updates ≡ None) × ListedByCommand table agent context h shaken mapped made.remote_refs.items)
   pub maps : MakesMap h.capabilities context made.remote_refs.items (Ok made)
 
@@ -214,7 +214,7 @@ module _ (plain : Bool) (found : SetServiceResponse) (from shaken mapped : Readi
       subst (λ x. MakesMap h.capabilities context refs.items (Ok x)) (sym same) p in
       let are : made.remote_refs.items ≡ refs.items = p'.refs in
       record {
-        came = inl (subst (λ (x : Reading). ShownByHandshake found from shaken x h made.remote_refs.items) (sym o.0)
+        received = inl (subst (λ (x : Reading). ShownByHandshake found from shaken x h made.remote_refs.items) (sym o.0)
             (subst (ShownByHandshake found from shaken shaken h) (sym are) b));
         maps = subst (λ given. MakesMap h.capabilities context given (Ok made)) (sym are) p';
       }
@@ -231,7 +231,7 @@ module _ (plain : Bool) (found : SetServiceResponse) (from shaken mapped : Readi
       let mapped_so : MakesMap h.capabilities context b.0.items (Ok made) =
       subst (λ ctx. MakesMap h.capabilities ctx b.0.items (Ok made)) p.1 maps in
       record {
-        came = inr (
+        received = inr (
           at.0,
           at.1,
           at.2,
@@ -259,19 +259,19 @@ why_refused : {A B C : Type 0} → (A × B) ⊎ C → A ⊎ C
 why_refused (inl h) = inl h.0
 why_refused (inr h) = inr h
 
-said_by : (persists : Bool) (service : Service) (ps : List Parameter) (old new : Reading) (r : Result SetServiceResponse client_error)
-    → HandshakesBy persists service ps old new r → SaysBy persists service ps old new r
-said_by true service ps old new (Ok found) (inl h) = cc h.1
-said_by true service ps old new (Err e) (inl h) = inl (subst (λ x. Greets service ps old new (Err x)) (sym (same_words h.1)) h.2)
-said_by true service ps old new (Ok found) (inr h) = (h.0, h.1, h.2.value, h.2.says)
-said_by true service ps old new (Err e) (inr h) = inr (h.0, h.1, why_refused h.2.why, h.2.caused)
-said_by false service ps old new (Ok found) (inl h) = cc h.1
-said_by false service ps old new (Err e) (inl h) = inl (h.0, same_words h.1, h.2, h.3)
-said_by false service ps old new (Ok found) (inr h) = (h.0, (h.1, h.2), h.3.value, h.3.says)
-said_by false service ps old new (Err e) (inr h) = inr (h.0, (h.1, h.2), why_refused h.3.why, h.3.caused)
+answer_by : (persists : Bool) (service : Service) (ps : List Parameter) (old new : Reading) (r : Result SetServiceResponse client_error)
+    → HandshakesBy persists service ps old new r → AdvertisesBy persists service ps old new r
+answer_by true service ps old new (Ok found) (inl h) = cc h.1
+answer_by true service ps old new (Err e) (inl h) = inl (subst (λ x. Greets service ps old new (Err x)) (sym (same_words h.1)) h.2)
+answer_by true service ps old new (Ok found) (inr h) = (h.0, h.1, h.2.value, h.2.says)
+answer_by true service ps old new (Err e) (inr h) = inr (h.0, h.1, why_refused h.2.why, h.2.caused)
+answer_by false service ps old new (Ok found) (inl h) = cc h.1
+answer_by false service ps old new (Err e) (inl h) = inl (h.0, same_words h.1, h.2, h.3)
+answer_by false service ps old new (Ok found) (inr h) = (h.0, (h.1, h.2), h.3.value, h.3.says)
+answer_by false service ps old new (Err e) (inr h) = inr (h.0, (h.1, h.2), why_refused h.3.why, h.3.caused)
 
-pub words_said : WordsAreSaid
-words_said service ps old new r h = said_by old.held.persists service ps old new r h
+pub words_said : WordsAreAdvertised
+words_said service ps old new r h = answer_by old.held.persists service ps old new r h
 
 no_table : (capabilities : List CapabilityValue) (e : refs_error) (r : Result (List Symref) RefsRefusal) → symref_table capabilities ≡ r
     → AnswersRefs symref_values r (Err e)
@@ -301,16 +301,16 @@ module _ (service : Service) (ps : List Parameter) (old new : Reading) (turns : 
   asks_so more l = record { all = asks.all ∙ ap (λ ts. turn ∷ ts) l; asked = asks.asked }
 
   module _ (account : Account) (now : Reading) (has : HasAccount old now turn account) where
-    by_erased : (answer : CredentialAnswer) (told : CredentialCall) → told.answer ≡ answer → Erased answer old.held.url (Err e)
+    by_erased : (answer : CredentialAnswer) (reported : CredentialCall) → reported.answer ≡ answer → Erased answer old.held.url (Err e)
         → IsErased answer old.held.url e
-    by_erased (Ok x) told a h = (h.0, h.1, same_opening h.2)
-    by_erased (Err x) told a h = same_opening h
+    by_erased (Ok x) reported a h = (h.0, h.1, same_opening h.2)
+    by_erased (Err x) reported a h = same_opening h
 
-    by_stored : (answer : CredentialAnswer) (told : CredentialCall) (found : SetServiceResponse) → told.answer ≡ answer
-        → Handshakes service ps now new (Ok found) → later ≡ told ∷ [] → credential_value told.action ≡ store (next_value account.next)
+    by_stored : (answer : CredentialAnswer) (reported : CredentialCall) (found : SetServiceResponse) → reported.answer ≡ answer
+        → Handshakes service ps now new (Ok found) → later ≡ reported ∷ [] → credential_value reported.action ≡ store (next_value account.next)
         → Stored answer found (Err e) → None_of
-    by_stored (Ok x) told found a h l t s = cc s
-    by_stored (Err x) told found a h l t s = unkept turn told (asks_so (told ∷ []) l) account now has found h t x a (same_opening s)
+    by_stored (Ok x) reported found a h l t s = cc s
+    by_stored (Err x) reported found a h l t s = unkept turn reported (asks_so (reported ∷ []) l) account now has found h t x a (same_opening s)
 
     by_refused : (b : Bool) (x : client_error) → is_denied x ≡ b → Handshakes service ps now new (Err x)
         → SecondHandshakeRefused b x account.next old.held.url later (Err e) → None_of
@@ -497,24 +497,24 @@ module _ {N I A S C P X : Type 0} (parties : Parties N I A S C P X) (map_of : N 
       (run : Run parties map_of knows call context start made old result new progress)
       → Promise parties map_of knows call context start made old result new progress run
   promised call context start made old result new progress run =
-      let g = heard run.service run.parameters parties.plain run.credentials start run.shaken run.handshake run.shakes in
+      let g = completed run.service run.parameters parties.plain run.credentials start run.shaken run.handshake run.shakes in
       let o = run.obtains in
       let s =
       by_prepared parties.plain g.greeted.found g.greeted.from run.shaken old.reading run.handshake call.table call.agent context
       made o.prepared run.handshake.refs refl g.refs o.prepares o.obtains in
-      let said : call ≡ said_call call run.handshake = ap (λ (v : Protocol). record call { version = v }) run.version
+      let polled : call ≡ run_call call run.handshake = ap (λ (v : Protocol). record call { version = v }) run.version
       ∙ ap (λ (c : List CapabilityValue). record call { version = run.handshake.server_protocol_version; capabilities = c })
       run.capabilities
-      ∙ ap (λ (us : List ShallowUpdate). record (said_call call run.handshake) { wishes = record call.wishes { told = us } }) run.told in
-      let held = subst (λ (c : FetchCall). HoldsSession parties c old result new progress) said
+      ∙ ap (λ (us : List ShallowUpdate). record (run_call call run.handshake) { fetch_options = record call.fetch_options { reported = us } }) run.reported in
+      let held = subst (λ (c : FetchCall). HoldsSession parties c old result new progress) polled
       (session_held parties lawful wide call old result new progress run.fetches) in
       record {
         greeted = g.greeted;
-        refs = s.came;
+        refs = s.received;
         mappings = (s.maps.maps, s.maps.filtered);
         placed = s.maps.found;
         explicit = s.maps.explicit;
         extra = s.maps.extra;
         conversation = held;
-        asks = asks_of_map parties map_of knows follows made (said_call call run.handshake) old result new progress run.negotiates held;
+        asks = asks_of_map parties map_of knows follows made (run_call call run.handshake) old result new progress run.negotiates held;
       }

@@ -21,7 +21,7 @@ use Rattle.gixp_fetch.specs.declared.error.Error.{Error}
 use Rattle.gixp_fetch.specs.declared.error.Error.TheVariants.{Negotiate}
 use Rattle.gixp_fetch.specs.declared.receive.PackFailure.{PackFailure}
 use Rattle.gixp_fetch.specs.declared.receive.PackFailure.TheVariants.{Consumer, Rest}
-use Rattle.gixp_fetch.specs.FetchRounds.{At, Turn, Manner, Rounds, Packed, Interrupts, DoneWithout, RoundsFail, TurnFails, Breaks, before_request, at_request, behind_request, at_answer, behind_answer, told_of, haves_of, windows_of}
+use Rattle.gixp_fetch.specs.FetchRounds.{At, Turn, Manner, Rounds, Packed, Interrupts, DoneWithout, RoundsFail, TurnFails, Breaks, before_request, at_request, after_request, at_answer, after_answer, reported_of, haves_of, windows_of}
 use Rattle.gixp_fetch.specs.Bound.{Bounded, but_last}
 use Rattle.gixp_fetch.specs.FetchShallow.{is_change}
 use Rattle.gixp_fetch.specs.Prepare.{Prepared, LocksFirst}
@@ -35,7 +35,7 @@ use Rattle.gixp_fetch.specs.Fetch.{World, Parties, Begun, Negotiated, FetchFails
 use Rattle.gixp_fetch.specs.Fetched.{FetchCall, features, Fetches}
 use Rattle.gixp_packetline.specs.TransportState.{TransportState as held_data}
 use Rattle.gixp_fetch.specs.Session as session
-use Rattle.gixp_fetch.specs.Sessions.{IsAnswer, AreAnswers, GoOn, begun_by, begun_in, AreNegotiated, manner_of, Asks, Starts, TakesPack, TakesAll, RefusesPack, Unpacks, lacks_memory, lacks_lock, lacks_room, untaken, unwritten, Unlent, RoundsBreakOff, unnamed, by_caller, exhausted, at_round, behind_pack, one_more, answered_at, unanswered, told_last, BrokenOff, SessionFails, at_depth, at_wants, in_session, HoldsSession}
+use Rattle.gixp_fetch.specs.Sessions.{IsAnswer, AreAnswers, GoOn, begun_by, begun_in, AreNegotiated, manner_of, Asks, Starts, TakesPack, TakesAll, RefusesPack, Unpacks, lacks_memory, lacks_lock, lacks_room, untaken, unwritten, Unlent, RoundsBreakOff, unnamed, by_caller, exhausted, at_round, after_pack, one_more, answered_at, unanswered, reported_last, BrokenOff, SessionFails, at_depth, at_wants, in_session, HoldsSession}
 use Rattle.gixp_fetch.proofs.SentLemmas.{none_written, both_written, held_written, turn_written}
 
 -- ---- reading a pack changes nothing of what the transport holds
@@ -157,12 +157,12 @@ module _ {N I A E : Type 0} (m : Manner N I A) where
       (b : Breaks m old asked done e reading) → length (begun_by m b) ≤ 1
   few_broken old asked done e reading (before_request w r) = none_of_one
   few_broken old asked done e reading (at_request error s g) = one_of_one
-  few_broken old asked done e reading (behind_request s w) = one_of_one
+  few_broken old asked done e reading (after_request s w) = one_of_one
   few_broken old asked done e reading (at_answer sent s error a h g) = one_of_one
-  few_broken old asked done e reading (behind_answer sent s reply a h w) = one_of_one
+  few_broken old asked done e reading (after_answer sent s reply a h w) = one_of_one
 
   few_begun : (old : At N I) (e : Error A E) (negotiate : N) (reading : Reading) (interrupt : I)
-      (f : TurnFails m old e negotiate reading interrupt) → length (begun_in m f) ≤ length (told_of m f)
+      (f : TurnFails m old e negotiate reading interrupt) → length (begun_in m f) ≤ length (reported_of m f)
   few_begun old e negotiate reading interrupt (inl u) = none_of_none
   few_begun old e negotiate reading interrupt (inr b) = few_broken old b.asked b.done e reading b.breaks
 
@@ -270,13 +270,13 @@ module _ {N I A S C P X : Type 0} (parties : Parties N I A S C P X) where
 
   pub packed_running : (m : Manner N I A) (start : At N I) (rounds : List Round) (updates : List ShallowUpdate) (reply : AnswerValue)
       (end : At N I) → Packed m start rounds updates reply end → end.reading.stopped ≡ None
-  packed_running m start rounds updates reply end p = ap (λ (a : At N I). a.reading.stopped) p.stands
+  packed_running m start rounds updates reply end p = ap (λ (a : At N I). a.reading.stopped) p.position
       ∙ (sym (view_stopped m.banded p.last.after.reading) ∙ runs_on _ _ _ _ _ p.pack p.lasts.answer)
 
   -- after the first arguments and the lock
   module _ (call : FetchCall) (banded : Bool) (given : ArgumentsValue) (old : World N I S C) (held : S) (first : Bool)
       (prepared : Prepared call.table call.version (features call) call.tags given banded)
-      (locks : LocksFirst parties.store_calls.locks (is_change call.wishes.shallow) old.store held first) where
+      (locks : LocksFirst parties.store_calls.locks (is_change call.fetch_options.shallow) old.store held first) where
     abbrev manner : Manner N I A
     manner = manner_of parties call banded
 
@@ -284,8 +284,8 @@ module _ {N I A S C P X : Type 0} (parties : Parties N I A S C P X) where
     within = record old { store = held; locked = first }
 
     asks_so : (ids : List ObjectId) (asked : ArgumentsValue) (locked : Bool) (read : S)
-        → LocksFirst parties.store_calls.locks (is_change call.wishes.shallow) old.store held locked
-        → session.OpensFetch parties.store_calls call.wishes.shallow held given ids read asked
+        → LocksFirst parties.store_calls.locks (is_change call.fetch_options.shallow) old.store held locked
+        → session.OpensFetch parties.store_calls call.fetch_options.shallow held given ids read asked
         → Asks parties call old.store banded ids asked locked read
     asks_so ids asked locked read l o = record {
       raw = prepared.raw;
@@ -301,7 +301,7 @@ module _ {N I A S C P X : Type 0} (parties : Parties N I A S C P X) where
     }
 
     starts_of : (ids : List ObjectId) (read : S) (action : ActionValue) (ready : N) (wanted : ArgumentsValue)
-        → Begun parties call.version banded call.wishes given within ids read action ready wanted
+        → Begun parties call.version banded call.fetch_options given within ids read action ready wanted
         → Starts parties call old banded ids action first read (begin_at old ready wanted)
     starts_of ids read action ready wanted b = record {
       asked = b.asked;
@@ -326,12 +326,12 @@ module _ {N I A S C P X : Type 0} (parties : Parties N I A S C P X) where
       failed_after n = Negotiate (NegotiationFailed n)
 
       broken_by : (ids : List ObjectId) (read : S) (action : ActionValue) (ready : N) (wanted : ArgumentsValue) (rounds : List Round)
-          → Begun parties call.version banded call.wishes given within ids read action ready wanted
+          → Begun parties call.version banded call.fetch_options given within ids read action ready wanted
           → Bounded parties.negotiation_calls.goes parties.negotiation_calls.count ready rounds
           → (turns : List (Turn N I)) (before : At N I) → Rounds manner (begin_at old ready wanted) turns before
           → (ends : RoundsBreakOff parties call banded ids old.consumer read first turns before e last progress)
-          → rounds ≡ map (λ (t : Turn N I). t.round) turns ++ told_last parties ends
-          → length (one_more parties ends) + length (unanswered parties ends) ≤ length (told_last parties ends)
+          → rounds ≡ map (λ (t : Turn N I). t.round) turns ++ reported_last parties ends
+          → length (one_more parties ends) + length (unanswered parties ends) ≤ length (reported_last parties ends)
           → AreNegotiated manner before (one_more parties ends) → AreAnswers call.version banded (one_more parties ends)
           → WroteRequests before.reading (answered_at parties ends) (requests_of (one_more parties ends)) → Broken
       broken_by ids read action ready wanted rounds b bounded turns before run ends t l g a w = record {
@@ -352,12 +352,12 @@ module _ {N I A S C P X : Type 0} (parties : Parties N I A S C P X) where
         requests = rounds_wrote manner (begin_at old ready wanted) before (answered_at parties ends) turns (one_more parties ends) run w;
         haves = subst (λ rs. haves_of rs ≤ parties.negotiation_calls.count ready) t (bounded.haves lawful);
         windows = subst (λ rs. windows_of (but_last rs) ≤ parties.negotiation_calls.count ready) t (bounded.windows lawful);
-        few = few_all turns (one_more parties ends) (unanswered parties ends) (told_last parties ends) rounds
+        few = few_all turns (one_more parties ends) (unanswered parties ends) (reported_last parties ends) rounds
             (parties.negotiation_calls.count ready / 16 + 1) t l (bounded.requests lawful wide);
       }
 
       broken_rounds : (ids : List ObjectId) (action : ActionValue) (ready : N) (wanted : ArgumentsValue) (rounds : List Round)
-          → Begun parties call.version banded call.wishes given within ids last.store action ready wanted
+          → Begun parties call.version banded call.fetch_options given within ids last.store action ready wanted
           → Bounded parties.negotiation_calls.goes parties.negotiation_calls.count ready rounds → last.locked ≡ first
           → last.consumer ≡ old.consumer
           → RoundsFail manner (begin_at old ready wanted) e rounds last.negotiate last.reading last.interrupt → Broken
@@ -369,58 +369,58 @@ module _ {N I A S C P X : Type 0} (parties : Parties N I A S C P X) where
           by_end : Interrupts manner (begin_at old ready wanted) rounds f.end
               ⊎ DoneWithout manner (begin_at old ready wanted) rounds f.end → Broken
           by_end (inl i) = broken_by ids last.store action ready wanted rounds b bounded i.turns i.before i.run
-              (by_caller (subst (λ x. parties.says i.before.interrupt true x) (sym f.asks) i.said)
-              (f.gives ∙ ap failed_after (count_same i.turns rounds f.count f.counted i.told))
+              (by_caller (subst (λ x. parties.polls i.before.interrupt true x) (sym f.asks) i.polled)
+              (f.gives ∙ ap failed_after (count_same i.turns rounds f.count f.counted i.reported))
               (record {
-                negotiate = f.negotiates ∙ ap (λ (a : At N I). a.negotiate) i.stands;
+                negotiate = f.negotiates ∙ ap (λ (a : At N I). a.negotiate) i.position;
                 reading = f.reads
-                    ∙ ap (λ (a : At N I). a.reading) i.stands;
+                    ∙ ap (λ (a : At N I). a.reading) i.position;
               }) unlent_so)
-              (i.told ∙ sym (append-nil (map (λ (t : Turn N I). t.round) i.turns))) none_of_none tt tt (none_written i.before.reading)
+              (i.reported ∙ sym (append-nil (map (λ (t : Turn N I). t.round) i.turns))) none_of_none tt tt (none_written i.before.reading)
           by_end (inr d) = broken_by ids last.store action ready wanted rounds b bounded d.turns d.before d.run
               (exhausted d.last d.lasts d.done d.no_pack
-              (f.gives ∙ ap failed_after (count_more d.turns d.last.round rounds f.count f.counted d.told))
+              (f.gives ∙ ap failed_after (count_more d.turns d.last.round rounds f.count f.counted d.reported))
               (record {
-                negotiate = f.negotiates ∙ ap (λ (a : At N I). a.negotiate) d.stands;
+                negotiate = f.negotiates ∙ ap (λ (a : At N I). a.negotiate) d.position;
                 reading = f.reads
-                    ∙ ap (λ (a : At N I). a.reading) d.stands;
-              }) (f.asks ∙ ap (λ (a : At N I). a.interrupt) d.stands) unlent_so)
-              d.told one_of_one (d.lasts.negotiated, d.lasts.rest, d.lasts.previous, tt) (is_answer _ _ _ _ _ d.lasts.answer, tt)
+                    ∙ ap (λ (a : At N I). a.reading) d.position;
+              }) (f.asks ∙ ap (λ (a : At N I). a.interrupt) d.position) unlent_so)
+              d.reported one_of_one (d.lasts.negotiated, d.lasts.rest, d.lasts.previous, tt) (is_answer _ _ _ _ _ d.lasts.answer, tt)
               (turn_written manner d.before d.last d.lasts)
       broken_rounds ids action ready wanted rounds b bounded l c (inr (inr f)) =
           broken_by ids last.store action ready wanted rounds b bounded f.turns f.before f.run
           (unnamed f.gives (record { negotiate = f.negotiates; reading = f.reads }) f.asks
           (record { consumer = c; store = refl; lock = l }))
-          (f.told ∙ sym (append-nil (map (λ (t : Turn N I). t.round) f.turns))) none_of_none tt tt (none_written f.before.reading)
+          (f.reported ∙ sym (append-nil (map (λ (t : Turn N I). t.round) f.turns))) none_of_none tt tt (none_written f.before.reading)
       broken_rounds ids action ready wanted rounds b bounded l c (inr (inl f)) =
           let few = add_none _ _ (few_begun manner (record f.before { interrupt = f.asked }) e last.negotiate last.reading last.interrupt
           f.refused) in
           broken_by ids last.store action ready wanted rounds b bounded f.turns f.before f.run
-          (at_round f.asked f.said f.refused (record { consumer = c; store = refl; lock = l })) f.told few tt tt
+          (at_round f.asked f.polled f.refused (record { consumer = c; store = refl; lock = l })) f.reported few tt tt
           (none_written f.before.reading)
 
       broken_packed : (ids : List ObjectId) (read : S) (action : ActionValue) (rounds : List Round) (updates : List ShallowUpdate)
           (reply : AnswerValue) (end : At N I)
-          → Negotiated parties call.version banded call.wishes given within ids read action rounds updates reply end
+          → Negotiated parties call.version banded call.fetch_options given within ids read action rounds updates reply end
           → last.negotiate ≡ end.negotiate → last.reading.held ≡ end.reading.held
-          → Unpacks parties ids (updates ++ call.wishes.told) call.wishes.reject old.consumer read first end.reading e last progress
+          → Unpacks parties ids (updates ++ call.fetch_options.reported) call.fetch_options.reject old.consumer read first end.reading e last progress
           → Broken
       broken_packed ids read action rounds updates reply end n g h u =
           let p = n.packed in
           broken_by ids read action n.ready n.wanted rounds n.begun n.bounded p.turns p.before p.run
-          (behind_pack p.last p.lasts p.pack (g ∙ ap (λ (a : At N I). a.negotiate) p.stands)
-          (h ∙ ap (λ (a : At N I). a.reading.held) p.stands)
+          (after_pack p.last p.lasts p.pack (g ∙ ap (λ (a : At N I). a.negotiate) p.position)
+          (h ∙ ap (λ (a : At N I). a.reading.held) p.position)
           (subst (λ us. Unpacks parties ids
-          (us ++ call.wishes.told) call.wishes.reject old.consumer read first p.last.after.reading e last progress) p.gathered
+          (us ++ call.fetch_options.reported) call.fetch_options.reject old.consumer read first p.last.after.reading e last progress) p.gathered
           (subst (λ (a : At N I). Unpacks parties ids
-          (updates ++ call.wishes.told) call.wishes.reject old.consumer read first a.reading e last progress) p.stands u)))
-          p.told one_of_one (p.lasts.negotiated, p.lasts.rest, p.lasts.previous, tt) (is_answer _ _ _ _ _ p.lasts.answer, tt)
+          (updates ++ call.fetch_options.reported) call.fetch_options.reject old.consumer read first a.reading e last progress) p.position u)))
+          p.reported one_of_one (p.lasts.negotiated, p.lasts.rest, p.lasts.previous, tt) (is_answer _ _ _ _ _ p.lasts.answer, tt)
           (turn_written manner p.before p.last p.lasts)
 
       unpacks : (ids : List ObjectId) (read : S) (updates : List ShallowUpdate) (from : Reading) → from.stopped ≡ None
-          → DeliverFails parties.store_calls parties.consumes ids updates call.wishes.reject old.consumer read first from e
+          → DeliverFails parties.store_calls parties.consumes ids updates call.fetch_options.reject old.consumer read first from e
           last.consumer last.store last.locked last.reading progress
-          → Unpacks parties ids updates call.wishes.reject old.consumer read first from e last progress
+          → Unpacks parties ids updates call.fetch_options.reject old.consumer read first from e last progress
       unpacks ids read updates from s (session.at_lock u d r) = lacks_lock u r d
       unpacks ids read updates from s (session.at_pack h (inl u)) = untaken h u.error u.gives
           (refuses_pack old.consumer from last.consumer last.reading progress u.name u.asks u.p u.error u.end s u.fails u.back)
@@ -428,10 +428,10 @@ module _ {N I A S C P X : Type 0} (parties : Parties N I A S C P X) where
       unpacks ids read updates from s (session.at_boundary kept h r u) =
           unwritten kept h (takes_all old.consumer from last.consumer last.reading progress s r) u
 
-      locks_so : last.locked ≡ first → LocksFirst parties.store_calls.locks (is_change call.wishes.shallow) old.store held last.locked
-      locks_so l = subst (λ b. LocksFirst parties.store_calls.locks (is_change call.wishes.shallow) old.store held b) (sym l) locks
+      locks_so : last.locked ≡ first → LocksFirst parties.store_calls.locks (is_change call.fetch_options.shallow) old.store held last.locked
+      locks_so l = subst (λ b. LocksFirst parties.store_calls.locks (is_change call.fetch_options.shallow) old.store held b) (sym l) locks
 
-      refused : FetchFails parties call.version banded call.wishes given within e last progress
+      refused : FetchFails parties call.version banded call.fetch_options given within e last progress
           → SessionFails parties call old e last progress
       refused (unopened u n r) = at_depth given banded held prepared (locks_so r.locked) u n
           (record { reading = r.reading; interrupt = r.interrupt; consumer = r.consumer })
@@ -443,7 +443,7 @@ module _ {N I A S C P X : Type 0} (parties : Parties N I A S C P X) where
           (lacks_memory w r (record { consumer = c; store = refl; lock = l })))
       refused (undelivered ids read action rounds updates reply end n g u) =
           in_session (broken_packed ids read action rounds updates reply end n g (undelivered_held _ _ _ _ _ _ _ _ _ _ _ _ _ _ _ u)
-          (unpacks ids read (updates ++ call.wishes.told) end.reading (packed_running manner _ rounds updates reply end n.packed) u))
+          (unpacks ids read (updates ++ call.fetch_options.reported) end.reading (packed_running manner _ rounds updates reply end n.packed) u))
 
   module _ (lawful : Lawful parties.negotiation_calls.goes parties.negotiation_calls.count)
       (wide : IsWide parties.negotiation_calls.goes) where
@@ -455,7 +455,7 @@ module _ {N I A S C P X : Type 0} (parties : Parties N I A S C P X) where
         inr (
           h.last,
           refused call h.banded h.asked old h.held h.first h.prepared h.locks lawful wide e h.last progress h.meets,
-          record { releases = h.releases; stands = h.stands },
+          record { releases = h.releases; position = h.position },
         )
     session_held call old (Ok None) new progress h =
         let s = h.meets in (
@@ -465,12 +465,12 @@ module _ {N I A S C P X : Type 0} (parties : Parties N I A S C P X) where
             ids = s.ids;
             asked = s.asked;
             asks = asks_so call h.banded h.asked old h.held h.first h.prepared h.locks s.ids s.asked h.last.locked h.last.store
-                (subst (λ b. LocksFirst parties.store_calls.locks (is_change call.wishes.shallow) old.store h.held b)
+                (subst (λ b. LocksFirst parties.store_calls.locks (is_change call.fetch_options.shallow) old.store h.held b)
                 (sym s.rests.locked) h.locks) s.opened;
             idle = s.idle;
             untouched = record { reading = s.rests.reading; interrupt = s.rests.interrupt; consumer = s.rests.consumer };
           },
-          record { releases = h.releases; stands = h.stands },
+          record { releases = h.releases; position = h.position },
         )
     session_held call old (Ok (Some outcome)) new progress h =
         let s = h.meets in
@@ -495,18 +495,18 @@ module _ {N I A S C P X : Type 0} (parties : Parties N I A S C P X) where
             answers = rounds_answers m _ p.before p.turns (p.last ∷ []) p.run (is_answer _ _ _ _ _ p.lasts.answer, tt);
             requests = held_written old.reading p.last.after.reading h.last.reading _
                 (rounds_wrote m _ p.before p.last.after.reading p.turns (p.last ∷ []) p.run (turn_written m p.before p.last p.lasts))
-                (received_held _ _ _ _ _ _ s.delivered.received ∙ ap (λ (a : At N I). a.reading.held) p.stands);
+                (received_held _ _ _ _ _ _ s.delivered.received ∙ ap (λ (a : At N I). a.reading.held) p.position);
             haves = n.bounded.haves lawful;
             windows = n.bounded.windows lawful;
-            few = few_packed p.turns p.last _ _ p.told (n.bounded.requests lawful wide);
-            says = s.answers
-                ∙ ap (λ (a : AnswerValue). record a { shallow_updates = a.shallow_updates ++ call.wishes.told }) p.answer;
-            stands = s.stands;
+            few = few_packed p.turns p.last _ _ p.reported (n.bounded.requests lawful wide);
+            polls = s.answers
+                ∙ ap (λ (a : AnswerValue). record a { shallow_updates = a.shallow_updates ++ call.fetch_options.reported }) p.answer;
+            position = s.position;
             held = s.delivered.held;
             holds = s.delivered.holds;
             pack = takes_all old.consumer s.end.reading h.last.consumer h.last.reading progress
                 (packed_running m _ _ _ _ s.end p) s.delivered.received;
             settles = s.delivered.settles;
           },
-          record { releases = h.releases; stands = h.stands },
+          record { releases = h.releases; position = h.position },
         )

@@ -7,7 +7,8 @@ use Rattle.gixp_response.specs.Answer.{AnswerValue}
 use Rattle.gixp_requests.specs.Arguments.{ArgumentsValue, is_v2}
 use Rattle.gixp_negotiate.specs.declared.negotiate.Round.{Round}
 use Rattle.gixp_negotiate.specs.Negotiate.{Window, Goes}
-use Rattle.gixp_negotiate.specs.Rounds.{commons, commons_of, kept_with, kept_ids, have_line, asks_haves}
+use Rattle.gixp_requests.specs.Line.{have_text}
+use Rattle.gixp_negotiate.specs.Rounds.{commons, commons_of, kept_with, kept_ids, asks_haves}
 use Rattle.gixp_fetch.specs.FetchRounds.{At, Turn}
 
 -- where ids are recorded, the commits that the previous response acknowledged as common are added to them, and the
@@ -20,7 +21,7 @@ pub record Renames {N : Type 0} (goes : Goes N) : Type 0 where
       → (haves : List ObjectId) × (b ≡ asks_haves (kept_ids t.kept ++ haves) a)
 
 -- rounds whose requests are complete in themselves begin here: no id is recorded yet, and there was no response
-pub record StandsAlone {N I : Type 0} (start : At N I) : Type 0 where
+pub record HasIndependentRequests {N I : Type 0} (start : At N I) : Type 0 where
   pub kept : start.window.kept ≡ Some []
   pub first : start.previous ≡ None
   pub alone : (is_v2 start.asked.version ≡ true) ⊎ (start.reading.held.persists ≡ false)
@@ -30,7 +31,7 @@ pub record StandsAlone {N I : Type 0} (start : At N I) : Type 0 where
 abbrev pub NamesAgain : {N I : Type 0} → List (List ℕ) → List ObjectId → List (Turn N I) → Type 0
 NamesAgain lines ids [] = ⊤
 NamesAgain lines ids (t ∷ ts) =
-    (t.asked.lines ≡ lines) × ((id : ObjectId) → Contains ids id → Contains t.asked.haves (have_line id))
+    (t.asked.lines ≡ lines) × ((id : ObjectId) → Contains ids id → Contains t.asked.haves (have_text id))
     × NamesAgain lines (ids ++ commons t.reply.acknowledgements) ts
 
 -- the commits that the responses of these rounds acknowledged as common
@@ -41,4 +42,4 @@ named_in (t ∷ ts) = commons t.reply.acknowledgements ++ named_in ts
 -- one more request, whether it gets a response or not, has these lines, and a have for each of these commits
 pub record NamesAll (lines : List (List ℕ)) (ids : List ObjectId) (asked : ArgumentsValue) : Type 0 where
   pub same : asked.lines ≡ lines
-  pub haves : (id : ObjectId) → Contains ids id → Contains asked.haves (have_line id)
+  pub haves : (id : ObjectId) → Contains ids id → Contains asked.haves (have_text id)

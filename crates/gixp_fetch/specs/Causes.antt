@@ -36,7 +36,7 @@ use Rattle.gixp_shallow.specs.Store.{to_lock, to_read, to_write}
 use Rattle.gixp_fetch.specs.Fetch.{World, Parties}
 use Rattle.gixp_fetch.specs.Fetched.{FetchCall, features}
 use Rattle.gixp_fetch.specs.Sessions.{AreAnswers, TakesPack, RefusesPack}
-use Rattle.gixp_fetch.specs.Kept.{SaysGoOn}
+use Rattle.gixp_fetch.specs.Kept.{PollsGoOn}
 use Rattle.gixp_fetch.specs.Headline.{AnswerFromOutside}
 
 -- reading lines up to a special packet failed: this error ends the lines, or is an I/O error, an interrupt or an
@@ -52,13 +52,13 @@ pub record StopsShort (old new : Reading) (e : Refusal) : Type 0 where
   pub version : new.version ≡ old.version
   pub held : new.held ≡ old.held
 
-module _ {I : Type 0} (says : I → Bool → I → Type 0) where
+module _ {I : Type 0} (polls : I → Bool → I → Type 0) where
   -- the interrupt was asked once after each packet of bands 2 and 3, and let reading go on each time, or stopped it the last
   -- time
   abbrev pub AsksPackets : Bool → Reading → Reading → I → I → Type 0
-  AsksPackets false old new first last = (n : ℕ) × IfSome old.to_come (TakesTexts n old new) × SaysGoOn says n first last
+  AsksPackets false old new first last = (n : ℕ) × IfSome old.to_come (TakesTexts n old new) × PollsGoOn polls n first last
   AsksPackets true old new first last = (n : ℕ) × (mid : I) × IfSome old.to_come (TakesTexts (suc n) old new)
-      × SaysGoOn says n first mid × says mid true last
+      × PollsGoOn polls n first mid × polls mid true last
 
   -- reading a failed response asked the interrupt like this with `sideband-all`, and otherwise not at all; if the error is an
   -- interrupt, it stopped reading, unless a reader below did
@@ -70,21 +70,21 @@ module _ {I : Type 0} (says : I → Bool → I → Type 0) where
 module _ {N I A S C P X : Type 0} (parties : Parties N I A S C P X) (call : FetchCall) (old new : World N I S C) where
   -- the boundary may change
   abbrev pub MayChange : Type 0
-  MayChange = call.wishes.shallow ≡ no_change → ⊥
+  MayChange = call.fetch_options.shallow ≡ no_change → ⊥
 
   -- the lock is taken first if the boundary may change
   abbrev pub IsLockedFirst : S → Type 0
-  IsLockedFirst held = ((call.wishes.shallow ≡ no_change) × (held ≡ old.store)) ⊎ (MayChange × parties.store_calls.locks old.store held)
+  IsLockedFirst held = ((call.fetch_options.shallow ≡ no_change) × (held ≡ old.store)) ⊎ (MayChange × parties.store_calls.locks old.store held)
 
   -- the lock is released if the boundary may change
   abbrev pub IsGivenBack : S → Type 0
-  IsGivenBack last = ((call.wishes.shallow ≡ no_change) × (new.store ≡ last)) ⊎ (MayChange × parties.store_calls.releases last new.store)
+  IsGivenBack last = ((call.fetch_options.shallow ≡ no_change) × (new.store ≡ last)) ⊎ (MayChange × parties.store_calls.releases last new.store)
 
   -- taking the lock failed: first of all if the boundary may change, or after the boundary was read, for updates that
   -- weren't requested
   abbrev pub LockRefused : ShallowError → Type 0
   LockRefused e = (MayChange × parties.store_calls.failures to_lock old.store e new.store)
-      ⊎ ((call.wishes.shallow ≡ no_change) × (call.wishes.reject ≡ false) × (ids : List ObjectId) × (read : S)
+      ⊎ ((call.fetch_options.shallow ≡ no_change) × (call.fetch_options.reject ≡ false) × (ids : List ObjectId) × (read : S)
       × parties.store_calls.reads old.store ids read × parties.store_calls.failures to_lock read e new.store)
 
   -- reading the boundary failed
@@ -104,7 +104,7 @@ module _ {N I A S C P X : Type 0} (parties : Parties N I A S C P X) (call : Fetc
 
   -- updates that weren't requested were rejected, after the boundary was read
   abbrev pub IsRejected : Type 0
-  IsRejected = (call.wishes.shallow ≡ no_change) × (call.wishes.reject ≡ true)
+  IsRejected = (call.fetch_options.shallow ≡ no_change) × (call.fetch_options.reject ≡ true)
       × ((ids : List ObjectId) × parties.store_calls.reads old.store ids new.store) × (new.consumer ≡ old.consumer)
 
   -- the server lacks a feature that responses need: the first of these
@@ -131,8 +131,8 @@ module _ {N I A S C P X : Type 0} (parties : Parties N I A S C P X) (call : Fetc
     pub held : new.reading.held ≡ sent.held
     pub before : I
     pub first : I
-    pub goes_on : parties.says before false first
-    pub asks : AsksAnswer parties.says banded parties.plain (is_interruption (answer_refusal e)) sent new.reading first new.interrupt
+    pub goes_on : parties.polls before false first
+    pub asks : AsksAnswer parties.polls banded parties.plain (is_interruption (answer_refusal e)) sent new.reading first new.interrupt
 
   -- a request couldn't be sent, after others
   pub record RequestRefused (e : client_error) : Type 0 where
@@ -142,7 +142,7 @@ module _ {N I A S C P X : Type 0} (parties : Parties N I A S C P X) (call : Fetc
     pub asked : ArgumentsValue
     pub done : Bool
     pub refused : SendsRound before new.reading asked done (Err e)
-    pub asks : (first : I) × parties.says first false new.interrupt
+    pub asks : (first : I) × parties.polls first false new.interrupt
 
   -- after so many rounds the caller stopped, or the last was done without a pack
   pub record NoPackAfter (n : ℕ) : Type 0 where
@@ -151,7 +151,7 @@ module _ {N I A S C P X : Type 0} (parties : Parties N I A S C P X) (call : Fetc
     pub count : n ≡ length turns
     pub answers : AreAnswers call.version banded turns
     pub wrote : WroteRequests old.reading new.reading (requests_of turns)
-    pub why : ((before : I) × parties.says before true new.interrupt) ⊎ ((first : List (Turn N I)) × (last : Turn N I)
+    pub why : ((before : I) × parties.polls before true new.interrupt) ⊎ ((first : List (Turn N I)) × (last : Turn N I)
         × (turns ≡ first ++ last ∷ []) × (last.done ≡ true) × (last.reply.pack ≡ false))
 
   -- a call of the negotiation failed
@@ -163,7 +163,7 @@ module _ {N I A S C P X : Type 0} (parties : Parties N I A S C P X) (call : Fetc
       ⊎ ((from : N) × (window : Window) × (given : ArgumentsValue) × (previous : Option AnswerValue) × (next : Window)
       × (asked : ArgumentsValue) × parties.negotiation_calls.round_fails from window given previous e new.negotiate next asked
       × ((requests : List (List ℕ)) × WroteRequests old.reading new.reading requests)
-      × ((before : I) × parties.says before false new.interrupt))
+      × ((before : I) × parties.polls before false new.interrupt))
 
   -- there was no pack, or a call of the negotiation failed
   abbrev pub NegotiationCause : negotiate_error A → Type 0
@@ -173,7 +173,7 @@ module _ {N I A S C P X : Type 0} (parties : Parties N I A S C P X) (call : Fetc
   -- the server lacks this feature, which the tags, the boundary or the depth need, and nothing was sent
   pub record FeatureLacked (name text : List ℕ) : Type 0 where
     pub lacks : has_feature name (features call) ≡ false
-    pub says : text ≡ description_of name
+    pub polls : text ≡ description_of name
     pub negotiate : new.negotiate ≡ old.negotiate
     pub reading : new.reading ≡ old.reading
     pub interrupt : new.interrupt ≡ old.interrupt

@@ -14,7 +14,7 @@ use Rattle.gixp_fetch.specs.declared.error.Error.{Error}
 use Rattle.gixp_negotiate.specs.Negotiate.{action_value, negotiate}
 use Rattle.gixp_fetch.specs.FetchShallow.{ShallowValue, is_change}
 use Rattle.gixp_fetch.specs.Prepare.{features_of, Prepared, PrepareFails, LocksFirst, ReleasesIf, LockFails}
-use Rattle.gixp_fetch.specs.Fetch.{Wishes, World, Parties, SessionEnds}
+use Rattle.gixp_fetch.specs.Fetch.{FetchOptions, World, Parties, SessionEnds}
 
 -- the input of a fetch: the table of the client, the version and the capabilities of the server, the agent and further features
 -- of the client, the tags, and the shallow options
@@ -25,7 +25,7 @@ pub record FetchCall : Type 0 where
   pub agent : FeatureValue
   pub more : List FeatureValue
   pub tags : Tags
-  pub wishes : Wishes
+  pub fetch_options : FetchOptions
 
 -- the input by these parts
 abbrev pub call_of : TableValue → Handshake → FeatureValue → List FeatureValue → Tags → ShallowValue → Bool → FetchCall
@@ -36,7 +36,7 @@ call_of table handshake agent more tags shallow reject = record {
   agent = agent;
   more = more;
   tags = tags;
-  wishes = record { shallow = shallow; told = update_items handshake.v1_shallow_updates; reject = reject };
+  fetch_options = record { shallow = shallow; reported = update_items handshake.v1_shallow_updates; reject = reject };
 }
 
 -- the state that a fetch changes, while no lock is held
@@ -70,16 +70,16 @@ module _ {N I A S C P X : Type 0} (parties : Parties N I A S C P X) (call : Fetc
     pub first : Bool
     pub last : World N I S C
     pub prepared : Prepared call.table call.version (features call) call.tags asked banded
-    pub locks : LocksFirst parties.store_calls.locks (is_change call.wishes.shallow) old.store held first
-    pub meets : SessionEnds parties call.version banded call.wishes asked (record old { store = held; locked = first }) result last progress
+    pub locks : LocksFirst parties.store_calls.locks (is_change call.fetch_options.shallow) old.store held first
+    pub meets : SessionEnds parties call.version banded call.fetch_options asked (record old { store = held; locked = first }) result last progress
     pub releases : ReleasesIf parties.store_calls.releases last.locked last.store new.store
-    pub stands : new ≡ record last { store = new.store; locked = false }
+    pub position : new ≡ record last { store = new.store; locked = false }
 
   -- the first arguments or the lock failed, and nothing else changed
   pub data StartFails (e : Error A X) (new : World N I S C) : Type 0 where
     unprepared : PrepareFails call.table call.version (features call) call.tags e → new ≡ old → StartFails e new
     unlocked : (asked : ArgumentsValue) (banded : Bool) → Prepared call.table call.version (features call) call.tags asked banded
-        → is_change call.wishes.shallow ≡ true → LockFails parties.store_calls.failures old.store e new.store
+        → is_change call.fetch_options.shallow ≡ true → LockFails parties.store_calls.failures old.store e new.store
         → new ≡ record old { store = new.store } → StartFails e new
 
   -- the fetch, by its result; no lock is held before and after it

@@ -18,18 +18,18 @@ use Rattle.gixp_capabilities.specs.Capabilities.{CapabilityValue}
 use Rattle.gixp_capabilities.specs.Client.{client_refusal}
 use Rattle.gixp_capabilities.specs.declared.client.Error.{Error as client_error}
 use Rattle.gixp_capabilities.specs.declared.client.Error.TheVariants.{Io as client_io}
-use Rattle.gixp_wire.specs.declared.service.Service.{Service}
-use Rattle.gixp_wire.specs.declared.service.SetServiceResponse.{SetServiceResponse}
-use Rattle.gixp_wire.specs.declared.service.Opening.{Opening}
-use Rattle.gixp_wire.specs.declared.bodies.Body.{Body}
-use Rattle.gixp_wire.specs.declared.bodies.Body.TheVariants.{Bytes, Fail}
-use Rattle.gixp_wire.specs.declared.bodies.Bodies.{Bodies}
-use Rattle.gixp_wire.specs.Bodies.{bodies_reading, IsNewBodies}
-use Rattle.gixp_wire.specs.Connection.{IsNewConnection}
-use Rattle.gixp_wire.specs.Greeting.{Parameter}
-use Rattle.gixp_wire.specs.CapabilityAdvertisement.{Advertised, advertisement, Answers, Says, IsFromDevice, IsCaused}
-use Rattle.gixp_wire.specs.Transport.{TakesAnswer, ByAnswer}
-use Rattle.gixp_wire.specs.Handshake.{Greets, Identifies, Handshakes}
+use Rattle.gixp_transport.specs.declared.service.Service.{Service}
+use Rattle.gixp_transport.specs.declared.service.SetServiceResponse.{SetServiceResponse}
+use Rattle.gixp_transport.specs.declared.service.Opening.{Opening}
+use Rattle.gixp_transport.specs.declared.bodies.Body.{Body}
+use Rattle.gixp_transport.specs.declared.bodies.Body.TheVariants.{Bytes, Fail}
+use Rattle.gixp_transport.specs.declared.bodies.Bodies.{Bodies}
+use Rattle.gixp_transport.specs.Bodies.{bodies_reading, IsNewBodies}
+use Rattle.gixp_transport.specs.Connection.{IsNewConnection}
+use Rattle.gixp_transport.specs.Greeting.{Parameter}
+use Rattle.gixp_transport.specs.CapabilityAdvertisement.{Advertised, advertisement, Answers, IsAdvertised, IsFromDevice, IsCaused}
+use Rattle.gixp_transport.specs.Transport.{TakesAnswer, ByAnswer}
+use Rattle.gixp_transport.specs.Handshake.{Greets, Identifies, Handshakes}
 use Rattle.gixp_refs.specs.declared.handshake.Ref.{Ref}
 use Rattle.gixp_refs.specs.declared.handshake.refs.parse.Error.{Error as refs_error}
 use Rattle.gixp_refs.specs.declared.handshake.refs.parse.Error.TheVariants.{Memory as refs_memory}
@@ -161,18 +161,18 @@ UnaskedWords false service parameters old new e = (kind : ErrorKind) × (e ≡ c
 
 -- version and capabilities are the definition's, or the error is, unless a read, a write or an allocation failed; the
 -- error shows which, whether the bytes are known or not
-abbrev pub SaysBy : Bool → Service → List Parameter → Reading → Reading → Result SetServiceResponse client_error → Type 0
-SaysBy persists service parameters old new (Ok found) =
+abbrev pub AdvertisesBy : Bool → Service → List Parameter → Reading → Reading → Result SetServiceResponse client_error → Type 0
+AdvertisesBy persists service parameters old new (Ok found) =
     (mid : Reading) × AsksWords persists service parameters old mid
-    × IfSome mid.to_come (λ p. (a : Advertised) × (advertisement p ≡ Ok a) × Answers a new found) × Says new found
-SaysBy persists service parameters old new (Err e) =
+    × IfSome mid.to_come (λ p. (a : Advertised) × (advertisement p ≡ Ok a) × Answers a new found) × IsAdvertised new found
+AdvertisesBy persists service parameters old new (Err e) =
     UnaskedWords persists service parameters old new e
     ⊎ ((mid : Reading) × AsksWords persists service parameters old mid
     × (IfSome mid.to_come (λ p. advertisement p ≡ Err (client_refusal e)) ⊎ IsFromDevice mid new e) × IsCaused mid new e)
 
-abbrev pub WordsAreSaid : Type 0
-WordsAreSaid = (service : Service) (parameters : List Parameter) (old new : Reading) (r : Result SetServiceResponse client_error)
-    → Handshakes service parameters old new r → SaysBy old.held.persists service parameters old new r
+abbrev pub WordsAreAdvertised : Type 0
+WordsAreAdvertised = (service : Service) (parameters : List Parameter) (old new : Reading) (r : Result SetServiceResponse client_error)
+    → Handshakes service parameters old new r → AdvertisesBy old.held.persists service parameters old new r
 
 -- ---- handshakes and their errors
 
@@ -193,8 +193,8 @@ pub record ShownByHandshake (found : SetServiceResponse) (from shaken reached : 
   pub follow : found.has_refs ≡ true
   pub refs : Vec Ref Global
   pub updates : Vec ShallowUpdate Global
-  pub came : handshake.refs ≡ Some refs
-  pub told : handshake.v1_shallow_updates ≡ Some updates
+  pub received : handshake.refs ≡ Some refs
+  pub reported : handshake.v1_shallow_updates ≡ Some updates
   pub same : given ≡ refs.items
   pub table : List Symref
   pub symrefs : symref_table found.capabilities ≡ Ok table
@@ -253,13 +253,13 @@ pub data NoAccount (service : Service) (parameters : List Parameter) (old new : 
   unheard_again : (turn : CredentialCall) → AsksAccount old credentials turn [] → (account : Account) (now : Reading)
       → HasAccount old now turn account → (x : client_error) → Handshakes service parameters now new (Err x) → is_denied x ≡ false
       → e ≡ from_client x → NoAccount service parameters old new credentials e
-  bad : (turn told : CredentialCall) → AsksAccount old credentials turn (told ∷ []) → (account : Account) (now : Reading)
+  bad : (turn reported : CredentialCall) → AsksAccount old credentials turn (reported ∷ []) → (account : Account) (now : Reading)
       → HasAccount old now turn account → (x : client_error) → Handshakes service parameters now new (Err x) → is_denied x ≡ true
-      → action_value told.action ≡ erase (next_value account.next) → IsErased told.answer old.held.url e
+      → action_value reported.action ≡ erase (next_value account.next) → IsErased reported.answer old.held.url e
       → NoAccount service parameters old new credentials e
-  unkept : (turn told : CredentialCall) → AsksAccount old credentials turn (told ∷ []) → (account : Account) (now : Reading)
+  unkept : (turn reported : CredentialCall) → AsksAccount old credentials turn (reported ∷ []) → (account : Account) (now : Reading)
       → HasAccount old now turn account → (found : SetServiceResponse) → Handshakes service parameters now new (Ok found)
-      → action_value told.action ≡ store (next_value account.next) → (x : credentials_error) → told.answer ≡ Err x → e ≡ Credentials x
+      → action_value reported.action ≡ store (next_value account.next) → (x : credentials_error) → reported.answer ≡ Err x → e ≡ Credentials x
       → NoAccount service parameters old new credentials e
 
 -- the error of a handshake: an allocation failed; the first message failed, and not for missing credentials; the server
@@ -361,8 +361,8 @@ module _ {N I A S C P X : Type 0} (parties : Parties N I A S C P X) (k : Knowled
 -- ---- a run
 
 -- the input of a fetch after this handshake
-abbrev pub said_call : FetchCall → Handshake → FetchCall
-said_call call handshake = call_of call.table handshake call.agent call.more call.tags call.wishes.shallow call.wishes.reject
+abbrev pub run_call : FetchCall → Handshake → FetchCall
+run_call call handshake = call_of call.table handshake call.agent call.more call.tags call.fetch_options.shallow call.fetch_options.reject
 
 module _ {N I A S C P X : Type 0} (parties : Parties N I A S C P X) (map_of : N → RefMap) (knows : N → Knowledge) where
   -- a handshake, the ref map that follows it, and a fetch whose negotiation is over this map; each begins where the one before
@@ -378,7 +378,7 @@ module _ {N I A S C P X : Type 0} (parties : Parties N I A S C P X) (map_of : N 
     pub obtains : Obtains call.table call.agent context handshake parties.plain shaken old.reading (Ok made)
     pub version : call.version ≡ handshake.server_protocol_version
     pub capabilities : call.capabilities ≡ handshake.capabilities
-    pub told : call.wishes.told ≡ update_items handshake.v1_shallow_updates
+    pub reported : call.fetch_options.reported ≡ update_items handshake.v1_shallow_updates
     pub negotiates : map_of old.negotiate ≡ made
     pub fetches : Fetches parties call old result new progress
 
@@ -396,5 +396,5 @@ module _ {N I A S C P X : Type 0} (parties : Parties N I A S C P X) (map_of : N 
     pub explicit : made.refspecs ≡ context.fetch_refspecs
     pub extra : made.extra_refspecs ≡ context.extra_refspecs
     -- with the version, the capabilities and the shallow updates of the server's first message
-    pub conversation : HoldsSession parties (said_call call run.handshake) old result new progress
-    pub asks : AsksOfMap parties (knows old.negotiate) made (said_call call run.handshake) old result new progress conversation
+    pub conversation : HoldsSession parties (run_call call run.handshake) old result new progress
+    pub asks : AsksOfMap parties (knows old.negotiate) made (run_call call run.handshake) old result new progress conversation

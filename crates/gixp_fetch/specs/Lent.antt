@@ -22,12 +22,12 @@ module _ {T P I : Type 0} where
 
   -- the relations of its rounds
   abbrev pub manner_in : {N A : Type 0} → NegotiationCalls N A → (I → Bool → I → Type 0) → Bool → FetchSession T P I → Manner N I A
-  manner_in calls says plain session = manner_of calls says session.version session.sideband_all plain
+  manner_in calls polls plain session = manner_of calls polls session.version session.sideband_all plain
 
   module _ {N : Type 0} (reading : T → Reading) where
     -- its state between two rounds
-    abbrev pub stands : {Q : Type 0} → N → FetchSession T P I → RoundsSoFar Q → Option AnswerValue → At N I
-    stands negotiate session so_far previous = record {
+    abbrev pub position : {Q : Type 0} → N → FetchSession T P I → RoundsSoFar Q → Option AnswerValue → At N I
+    position negotiate session so_far previous = record {
       negotiate = negotiate;
       window = so_far.window;
       asked = so_far.arguments;
@@ -71,7 +71,7 @@ module _ {N I A Q : Type 0} (m : Manner N I A) where
     pub round : Round
     pub asked : ArgumentsValue
     pub sent : Reading
-    pub told : after.rounds.items ≡ before.rounds.items ++ round ∷ []
+    pub reported : after.rounds.items ≡ before.rounds.items ++ round ∷ []
     pub gathered : after.updates.items ≡ before.updates.items ++ reply.shallow_updates
-    pub turn : (start : I) → m.says start false old.interrupt → Turns m (record old { interrupt = start })
+    pub turn : (start : I) → m.polls start false old.interrupt → Turns m (record old { interrupt = start })
         (record { asked = asked; round = round; done = done; sent = sent; reply = reply; after = new })

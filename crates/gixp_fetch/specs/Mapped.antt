@@ -11,7 +11,7 @@ use Rattle.gixp_negotiate.specs.Ignored.{is_ignored}
 use Rattle.gixp_negotiate.specs.Marking.{LocalRefs, decision}
 use Rattle.gixp_negotiate.specs.Negotiate.{ActionValue}
 use Rattle.gixp_shallow.specs.Shallow.{is_no_change}
-use Rattle.gixp_negotiate.specs.Wants.{Wish, wishes, AddsWants}
+use Rattle.gixp_negotiate.specs.Wants.{RequestLine, request_lines, AddsWants}
 
 -- what a negotiation knows in addition to the map
 pub record Knowledge : Type 0 where
@@ -31,8 +31,8 @@ abbrev pub decided : Knowledge → RefMap → ActionValue
 decided k m = decision (is_ignored k.tags m.extra_refspecs.items) k.commits k.existing k.refs k.shallow m.mappings.items
 
 -- the lines that are added, by the arguments so far, and by which objects exist
-abbrev pub lines_of : Knowledge → RefMap → ArgumentsValue → List Bool → List Wish
-lines_of k m asked known = wishes (is_ignored k.tags m.extra_refspecs.items) k.existing (can_use (codes "ref-in-want") asked)
+abbrev pub lines_of : Knowledge → RefMap → ArgumentsValue → List Bool → List RequestLine
+lines_of k m asked known = request_lines (is_ignored k.tags m.extra_refspecs.items) k.existing (can_use (codes "ref-in-want") asked)
     (is_no_change k.shallow) m.mappings.items known
 
 -- the first step decides what the mappings need, and the second adds their lines
@@ -44,7 +44,7 @@ pub record FollowsMap {N : Type 0} (marks : N → ActionValue → N → Type 0) 
 
 -- the lines of these parts were added
 abbrev pub AddsLines : ArgumentsValue → List Bool → Bool → ArgumentsValue → RefMap → Tags → Shallow → Objects → Type 0
-AddsLines a known is_any b m tags shallow existing = AddsWants (wishes (is_ignored tags m.extra_refspecs.items) existing
+AddsLines a known is_any b m tags shallow existing = AddsWants (request_lines (is_ignored tags m.extra_refspecs.items) existing
     (can_use (codes "ref-in-want") a) (is_no_change shallow) m.mappings.items known) is_any a b
 
 -- the lines are the same if their parts are

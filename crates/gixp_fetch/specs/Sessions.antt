@@ -27,7 +27,7 @@ use Rattle.gixp_fetch.specs.declared.error.Error.{Error}
 use Rattle.gixp_fetch.specs.declared.error.Error.TheVariants.{Negotiate, Memory}
 use Rattle.gixp_fetch.specs.declared.receive.PackFailure.{PackFailure}
 use Rattle.gixp_fetch.specs.declared.receive.PackFailure.TheVariants.{Consumer, Rest}
-use Rattle.gixp_fetch.specs.FetchRounds.{At, Turn, Manner, Turns, Rounds, Packed, TurnFails, Breaks, before_request, at_request, behind_request, at_answer, behind_answer, updates_of, told_of, haves_of, windows_of}
+use Rattle.gixp_fetch.specs.FetchRounds.{At, Turn, Manner, Turns, Rounds, Packed, TurnFails, Breaks, before_request, at_request, after_request, at_answer, after_answer, updates_of, reported_of, haves_of, windows_of}
 use Rattle.gixp_fetch.specs.Bound.{but_last}
 use Rattle.gixp_fetch.specs.View.{view}
 use Rattle.gixp_fetch.specs.Sent.{requests_of, WroteRequests}
@@ -35,7 +35,7 @@ use Rattle.gixp_fetch.specs.FetchShallow.{is_change, shallow_asks}
 use Rattle.gixp_fetch.specs.Prepare.{asks_tags, Prepared, LocksFirst, ReleasesIf}
 use Rattle.gixp_fetch.specs.Receive.{GivesBack, DrainFails, fresh_side}
 use Rattle.gixp_fetch.specs.Received.{of_pack}
-use Rattle.gixp_fetch.specs.Session.{OpenFails, Idle, ReadyFails, Holds, HoldFails, SettlesBoundary, SettleFails}
+use Rattle.gixp_fetch.specs.Session.{OpenFails, Idle, ReadyFails, Holds, HoldFails, WritesBoundary, BoundaryWriteFails}
 use Rattle.gixp_fetch.specs.Fetch.{World, Parties}
 use Rattle.gixp_fetch.specs.Fetched.{FetchCall, features, StartFails}
 
@@ -77,9 +77,9 @@ module _ {N I A : Type 0} (m : Manner N I A) where
         → Breaks m old asked done e reading → List (List ℕ)
     begun_by (before_request w r) = []
     begun_by {old} {asked} {done} (at_request error s g) = texts_of (request asked done) ∷ []
-    begun_by {old} {asked} {done} (behind_request s w) = texts_of (request asked done) ∷ []
+    begun_by {old} {asked} {done} (after_request s w) = texts_of (request asked done) ∷ []
     begun_by {old} {asked} {done} (at_answer sent s error a h g) = texts_of (request asked done) ∷ []
-    begun_by {old} {asked} {done} (behind_answer sent s reply a h w) = texts_of (request asked done) ∷ []
+    begun_by {old} {asked} {done} (after_answer sent s reply a h w) = texts_of (request asked done) ∷ []
 
     abbrev pub begun_in : {old : At N I} {e : Error A E} {negotiate : N} {reading : Reading} {interrupt : I}
         → TurnFails m old e negotiate reading interrupt → List (List ℕ)
@@ -92,7 +92,7 @@ module _ {N I A S C P X : Type 0} (parties : Parties N I A S C P X) where
   manner_of call banded = record {
     goes = parties.negotiation_calls.goes;
     fails = parties.negotiation_calls.round_fails;
-    says = parties.says;
+    polls = parties.polls;
     version = call.version;
     banded = banded;
     plain = parties.plain;
@@ -111,9 +111,9 @@ module _ {N I A S C P X : Type 0} (parties : Parties N I A S C P X) where
     pub given : ArgumentsValue
     pub tags : asks_tags call.tags (asks_nothing call.table call.version (features call)) ≡ Ok given
     pub held : S
-    pub locks : LocksFirst parties.store_calls.locks (is_change call.wishes.shallow) store held locked
+    pub locks : LocksFirst parties.store_calls.locks (is_change call.fetch_options.shallow) store held locked
     pub reads : parties.store_calls.reads held ids read
-    pub depth : shallow_asks call.wishes.shallow ids given ≡ Ok asked
+    pub depth : shallow_asks call.fetch_options.shallow ids given ≡ Ok asked
 
   -- the rounds begin: the wants of the negotiation were added, the window is the first, there was no response, and nothing was
   -- written or read
@@ -207,12 +207,12 @@ module _ {N I A S C P X : Type 0} (parties : Parties N I A S C P X) where
     pub haves : haves_of rounds ≤ parties.negotiation_calls.count start.negotiate
     pub windows : windows_of (but_last rounds) ≤ parties.negotiation_calls.count start.negotiate
     pub few : length (requests_of (packed.turns ++ packed.last ∷ [])) ≤ parties.negotiation_calls.count start.negotiate / 16 + 1
-    pub says : answer ≡ record packed.last.reply { shallow_updates = packed.last.reply.shallow_updates ++ call.wishes.told }
-    pub stands : last.negotiate ≡ end.negotiate
+    pub polls : answer ≡ record packed.last.reply { shallow_updates = packed.last.reply.shallow_updates ++ call.fetch_options.reported }
+    pub position : last.negotiate ≡ end.negotiate
     pub held : S
-    pub holds : Holds parties.store_calls (updates ++ call.wishes.told) call.wishes.reject read locked held last.locked
+    pub holds : Holds parties.store_calls (updates ++ call.fetch_options.reported) call.fetch_options.reject read locked held last.locked
     pub pack : TakesAll old.consumer end.reading last.consumer last.reading progress
-    pub settles : SettlesBoundary parties.store_calls ids (updates ++ call.wishes.told) held last.store
+    pub settles : WritesBoundary parties.store_calls ids (updates ++ call.fetch_options.reported) held last.store
 
   -- ---- a session that broke off
 
@@ -223,7 +223,7 @@ module _ {N I A S C P X : Type 0} (parties : Parties N I A S C P X) where
     pub lock : last.locked ≡ had
 
   -- the negotiation and the transport are in a state between two rounds
-  pub record StandsAt (at : At N I) (last : World N I S C) : Type 0 where
+  pub record IsAtPosition (at : At N I) (last : World N I S C) : Type 0 where
     pub negotiate : last.negotiate ≡ at.negotiate
     pub reading : last.reading ≡ at.reading
 
@@ -241,7 +241,7 @@ module _ {N I A S C P X : Type 0} (parties : Parties N I A S C P X) where
         → RefusesPack c from error last.consumer last.reading progress
         → Unpacks ids updates reject c read locked from e last progress
     unwritten : (held : S) → Holds parties.store_calls updates reject read locked held last.locked
-        → TakesAll c from last.consumer last.reading progress → SettleFails parties.store_calls updates held e last.store
+        → TakesAll c from last.consumer last.reading progress → BoundaryWriteFails parties.store_calls updates held e last.store
         → Unpacks ids updates reject c read locked from e last progress
 
   -- after rounds that weren't the last and had no pack, with this error: the name of one more couldn't be allocated;
@@ -249,22 +249,22 @@ module _ {N I A S C P X : Type 0} (parties : Parties N I A S C P X) where
   -- or its response; or one more had a pack, and the rest failed
   pub data RoundsBreakOff (call : FetchCall) (banded : Bool) (ids : List ObjectId) (c : C) (read : S) (locked : Bool)
       (turns : List (Turn N I)) (before : At N I) (e : Error A X) (last : World N I S C) (progress : P) : Type 0 where
-    unnamed : e ≡ Memory → StandsAt before last → last.interrupt ≡ before.interrupt → Unlent c read locked last
+    unnamed : e ≡ Memory → IsAtPosition before last → last.interrupt ≡ before.interrupt → Unlent c read locked last
         → RoundsBreakOff call banded ids c read locked turns before e last progress
-    by_caller : parties.says before.interrupt true last.interrupt → e ≡ Negotiate (NegotiationFailed (length turns))
-        → StandsAt before last → Unlent c read locked last
+    by_caller : parties.polls before.interrupt true last.interrupt → e ≡ Negotiate (NegotiationFailed (length turns))
+        → IsAtPosition before last → Unlent c read locked last
         → RoundsBreakOff call banded ids c read locked turns before e last progress
     exhausted : (t : Turn N I) → Turns (manner_of call banded) before t → t.done ≡ true → t.reply.pack ≡ false → e ≡ Negotiate
-        (NegotiationFailed (length turns + 1)) → StandsAt t.after last → last.interrupt ≡ t.after.interrupt → Unlent c read locked last
+        (NegotiationFailed (length turns + 1)) → IsAtPosition t.after last → last.interrupt ≡ t.after.interrupt → Unlent c read locked last
         → RoundsBreakOff call banded ids c read locked turns before e last progress
-    at_round : (asked : I) → parties.says before.interrupt false asked
+    at_round : (asked : I) → parties.polls before.interrupt false asked
         → TurnFails (manner_of call banded) (record before { interrupt = asked }) e last.negotiate last.reading last.interrupt
         → Unlent c read locked last
         → RoundsBreakOff call banded ids c read locked turns before e last progress
-    behind_pack : (t : Turn N I) → Turns (manner_of call banded) before t → t.reply.pack ≡ true → last.negotiate ≡ t.after.negotiate
+    after_pack : (t : Turn N I) → Turns (manner_of call banded) before t → t.reply.pack ≡ true → last.negotiate ≡ t.after.negotiate
         → last.reading.held ≡ t.after.reading.held
         → Unpacks ids ((updates_of (manner_of call banded) turns ++ t.reply.shallow_updates)
-        ++ call.wishes.told) call.wishes.reject c read locked t.after.reading e last progress
+        ++ call.fetch_options.reported) call.fetch_options.reject c read locked t.after.reading e last progress
         → RoundsBreakOff call banded ids c read locked turns before e last progress
 
   module _ {call : FetchCall} {banded : Bool} {ids : List ObjectId} {c : C} {read : S} {locked : Bool} {turns : List
@@ -275,7 +275,7 @@ module _ {N I A S C P X : Type 0} (parties : Parties N I A S C P X) where
     one_more (by_caller s g at u) = []
     one_more (exhausted t r d n g at i u) = t ∷ []
     one_more (at_round i s f u) = []
-    one_more (behind_pack t r p n h u) = t ∷ []
+    one_more (after_pack t r p n h u) = t ∷ []
 
     -- the transport after the last response
     abbrev pub answered_at : RoundsBreakOff call banded ids c read locked turns before e last progress → Reading
@@ -283,7 +283,7 @@ module _ {N I A S C P X : Type 0} (parties : Parties N I A S C P X) where
     answered_at (by_caller s g at u) = before.reading
     answered_at (exhausted t r d n g at i u) = t.after.reading
     answered_at (at_round i s f u) = before.reading
-    answered_at (behind_pack t r p n h u) = t.after.reading
+    answered_at (after_pack t r p n h u) = t.after.reading
 
     -- the one more request that was begun and got no response, if there is one
     abbrev pub unanswered : RoundsBreakOff call banded ids c read locked turns before e last progress → List (List ℕ)
@@ -291,15 +291,15 @@ module _ {N I A S C P X : Type 0} (parties : Parties N I A S C P X) where
     unanswered (by_caller s g at u) = []
     unanswered (exhausted t r d n g at i u) = []
     unanswered (at_round i s f u) = begun_in (manner_of call banded) f
-    unanswered (behind_pack t r p n h u) = []
+    unanswered (after_pack t r p n h u) = []
 
     -- the report of the last round, if it has one
-    abbrev pub told_last : RoundsBreakOff call banded ids c read locked turns before e last progress → List Round
-    told_last (unnamed g at i u) = []
-    told_last (by_caller s g at u) = []
-    told_last (exhausted t r d n g at i u) = t.round ∷ []
-    told_last (at_round i s f u) = told_of (manner_of call banded) f
-    told_last (behind_pack t r p n h u) = t.round ∷ []
+    abbrev pub reported_last : RoundsBreakOff call banded ids c read locked turns before e last progress → List Round
+    reported_last (unnamed g at i u) = []
+    reported_last (by_caller s g at u) = []
+    reported_last (exhausted t r d n g at i u) = t.round ∷ []
+    reported_last (at_round i s f u) = reported_of (manner_of call banded) f
+    reported_last (after_pack t r p n h u) = t.round ∷ []
 
   -- its rounds, each with its request and its response, and why there is no pack or the rest failed
   pub record BrokenOff (call : FetchCall) (old : World N I S C) (e : Error A X) (last : World N I S C) (progress : P) : Type 0 where
@@ -318,8 +318,8 @@ module _ {N I A S C P X : Type 0} (parties : Parties N I A S C P X) where
     pub negotiated : AreNegotiated (manner_of call banded) start (turns ++ one_more ends)
     pub answers : AreAnswers call.version banded (turns ++ one_more ends)
     pub requests : WroteRequests old.reading (answered_at ends) (requests_of (turns ++ one_more ends))
-    pub haves : haves_of (rounds_of turns ++ told_last ends) ≤ parties.negotiation_calls.count start.negotiate
-    pub windows : windows_of (but_last (rounds_of turns ++ told_last ends)) ≤ parties.negotiation_calls.count start.negotiate
+    pub haves : haves_of (rounds_of turns ++ reported_last ends) ≤ parties.negotiation_calls.count start.negotiate
+    pub windows : windows_of (but_last (rounds_of turns ++ reported_last ends)) ≤ parties.negotiation_calls.count start.negotiate
     pub few : length (requests_of (turns ++ one_more ends) ++ unanswered ends) ≤ parties.negotiation_calls.count start.negotiate / 16 + 1
 
   -- ---- by the result
@@ -328,8 +328,8 @@ module _ {N I A S C P X : Type 0} (parties : Parties N I A S C P X) where
   -- adding its lines or the depth's; the negotiation failed in one of its first two steps; or the session broke off
   pub data SessionFails (call : FetchCall) (old : World N I S C) (e : Error A X) (last : World N I S C) (progress : P) : Type 0 where
     at_depth : (given : ArgumentsValue) (banded : Bool) (held : S) → Prepared call.table call.version (features call) call.tags given banded
-        → LocksFirst parties.store_calls.locks (is_change call.wishes.shallow) old.store held last.locked
-        → OpenFails parties.store_calls call.wishes.shallow held given e last.store
+        → LocksFirst parties.store_calls.locks (is_change call.fetch_options.shallow) old.store held last.locked
+        → OpenFails parties.store_calls call.fetch_options.shallow held given e last.store
         → last.negotiate ≡ old.negotiate → Untouched old last → SessionFails call old e last progress
     at_wants : (banded : Bool) (ids : List ObjectId) (asked : ArgumentsValue)
         → Asks call old.store banded ids asked last.locked last.store
@@ -340,7 +340,7 @@ module _ {N I A S C P X : Type 0} (parties : Parties N I A S C P X) where
   -- a lock that is held is released, and nothing else changes
   pub record Releases (last new : World N I S C) : Type 0 where
     pub releases : ReleasesIf parties.store_calls.releases last.locked last.store new.store
-    pub stands : new ≡ record last { store = new.store; locked = false }
+    pub position : new ≡ record last { store = new.store; locked = false }
 
   -- a fetch by its result: an outcome is the one of a session with a pack; without an outcome there was nothing to
   -- fetch; an error is the one of the first part that failed

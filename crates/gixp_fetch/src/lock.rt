@@ -2,7 +2,7 @@
 ghost use Rattle.std.specs.Prelude.{◌≡◌, MatchResult, not};
 ghost use Rattle.gixp_fetch.specs.Lent.{IsSameLock};
 ghost use Rattle.gixp_fetch.specs.Prepare.{ReleasesIf};
-ghost use Rattle.gixp_fetch.specs.Session.{is_any, Holds, HoldFails, SettlesBoundary, SettleFails};
+ghost use Rattle.gixp_fetch.specs.Session.{is_any, Holds, HoldFails, WritesBoundary, BoundaryWriteFails};
 
 use crate::error::Error;
 use gixp_hash::ObjectId;
@@ -54,7 +54,7 @@ impl<S: ShallowStore> StoreLock<'_, S> {
     }
 
     /// Writes the new boundary if there are updates.
-    pub(crate) fn settle<A, E>(
+    pub(crate) fn write_boundary<A, E>(
         &mut self,
         alloc: Global,
         ids: &[ObjectId],
@@ -63,8 +63,8 @@ impl<S: ShallowStore> StoreLock<'_, S> {
         ensures same { IsSameLock self.old self.new }
         ensures locked { self.new.locked ≡ self.old.locked }
         ensures settled { MatchResult result
-            (λ _. SettlesBoundary S.calls ids.now updates.now self.old.store.now self.new.store.now)
-            (λ e. SettleFails S.calls updates.now self.old.store.now e self.new.store.now) }
+            (λ _. WritesBoundary S.calls ids.now updates.now self.old.store.now self.new.store.now)
+            (λ e. BoundaryWriteFails S.calls updates.now self.old.store.now e self.new.store.now) }
     {
         if is_none(updates) {
             return Ok(());

@@ -1,7 +1,7 @@
 //! Reports the progress of a fetch.
 ghost use Rattle.std.specs.Prelude.{◌≡◌, ◌+◌, ◌∷◌, [], OnOk, OnErr, length};
 ghost use Rattle.std.specs.String.{string_bytes};
-ghost use Rattle.gixp_progress.specs.Progress.{ToldCalls, step, set_name};
+ghost use Rattle.gixp_progress.specs.Progress.{ReportedCalls, step, set_name};
 ghost use Rattle.gixp_fetch.specs.FetchProgress.{round_calls, pack_calls};
 
 use gixp_negotiate::negotiate::Round;
@@ -10,7 +10,7 @@ use std::alloc::{AllocError, Global};
 
 // Reports one more step, with this name.
 fn tell_step<P: Progress>(progress: &mut P, name: String)
-    ensures { ToldCalls P.told progress.old (step ∷ set_name (string_bytes name) ∷ []) progress.new }
+    ensures { ReportedCalls P.reported progress.old (step ∷ set_name (string_bytes name) ∷ []) progress.new }
 {
     progress.step();
     progress.set_name(name);
@@ -22,7 +22,7 @@ pub(crate) fn tell_round<P: Progress>(
     progress: &mut P,
     rounds: &[Round],
 ) -> Result<(), AllocError>
-    ensures ok { OnOk result (ToldCalls P.told progress.old (round_calls (length rounds.now + 1)) progress.new) }
+    ensures ok { OnOk result (ReportedCalls P.reported progress.old (round_calls (length rounds.now + 1)) progress.new) }
     ensures err { OnErr result (progress.new ≡ progress.old) }
 {
     let round = rounds.len() + 1;
@@ -33,7 +33,7 @@ pub(crate) fn tell_round<P: Progress>(
 
 /// Reports that a pack is received. If the name can't be allocated, nothing is reported.
 pub(crate) fn tell_pack<P: Progress>(alloc: Global, progress: &mut P) -> Result<(), AllocError>
-    ensures ok { OnOk result (ToldCalls P.told progress.old pack_calls progress.new) }
+    ensures ok { OnOk result (ReportedCalls P.reported progress.old pack_calls progress.new) }
     ensures err { OnErr result (progress.new ≡ progress.old) }
 {
     let name = String::from_str(alloc, "receiving pack")?;

@@ -48,7 +48,8 @@ pub asks_weaker : (P Q : ObjectId → Type 0) → ((q : ObjectId) → P q → Q 
 asks_weaker P Q weaker old new a =
     record { ids = a.ids; appended = a.appended; distinct = a.distinct; each = All-weaker P Q weaker a.ids a.each }
 
-asks_more : (P Q : ObjectId → Type 0) → ((q : ObjectId) → P q → Q q) → (id : ObjectId) → Q id → ((q : ObjectId) → P q
+-- one more id was read
+pub asks_more : (P Q : ObjectId → Type 0) → ((q : ObjectId) → P q → Q q) → (id : ObjectId) → Q id → ((q : ObjectId) → P q
     → eq_by_cmp id_cmp id q ≡ false) → (old mid new : List ObjectId) → new ≡ mid ++ id ∷ [] → AsksEach P old mid → AsksEach Q old new
 asks_more P Q weaker id own apart old mid new e a = record {
   ids = a.ids ++ id ∷ [];

@@ -6,7 +6,7 @@ use Rattle.gixp_graph.specs.declared.negotiator.NegotiatorError.{NegotiatorError
 use Rattle.gixp_graph.specs.declared.negotiator.NegotiatorError.TheVariants.{Lookup, Memory}
 use Rattle.gixp_hash.specs.Failures.{HasRisen}
 use Rattle.gixp_graph.specs.GraphData.{GraphData}
-use Rattle.gixp_graph.specs.Refusals.{Written, TellsRefusal}
+use Rattle.gixp_graph.specs.Refusals.{Written, ErrorIsRefusal}
 use Rattle.gixp_graph.specs.Run.{Call, Offer, RefusedCall, RefusedOffer}
 
 -- what the calls of a negotiator do, what failed calls leave, how many haves it may still offer, and how many calls
@@ -39,10 +39,10 @@ IsRefusal old new graph_old graph_new e = IsMemory e ⊎ (HasRisen old new ⊎ H
 
 -- why: a call of the graph's objects failed with this error, and recorded it; or an allocation failed, and none of
 -- their calls did
-abbrev pub TellsWhy : NegotiatorError → Written ObjectError → Written ObjectError → Type 0
-TellsWhy (Lookup e) old new = TellsRefusal e old new
-TellsWhy Memory old new = new ≡ old
+abbrev pub ErrorIsLookupRefusal : NegotiatorError → Written ObjectError → Written ObjectError → Type 0
+ErrorIsLookupRefusal (Lookup e) old new = ErrorIsRefusal e old new
+ErrorIsLookupRefusal Memory old new = new ≡ old
 
 -- why, unless the negotiator itself failed
-abbrev pub TellsCause : ℕ → ℕ → NegotiatorError → Written ObjectError → Written ObjectError → Type 0
-TellsCause old new e old_refusals new_refusals = HasRisen old new ⊎ TellsWhy e old_refusals new_refusals
+abbrev pub ErrorHasCause : ℕ → ℕ → NegotiatorError → Written ObjectError → Written ObjectError → Type 0
+ErrorHasCause old new e old_refusals new_refusals = HasRisen old new ⊎ ErrorIsLookupRefusal e old_refusals new_refusals

@@ -11,6 +11,6 @@ first_of None = []
 first_of (Some e) = e ∷ []
 
 -- no other entry is newer
-abbrev pub StandsFirst : Option Entry → List Entry → Type 0
-StandsFirst None others = ⊤
-StandsFirst (Some e) others = All (λ (w : Entry). w.time ≤ℤ e.time) others
+abbrev pub IsNewest : Option Entry → List Entry → Type 0
+IsNewest None others = ⊤
+IsNewest (Some e) others = All (λ (w : Entry). w.time ≤ℤ e.time) others

@@ -16,8 +16,8 @@ writing None x = None
 writing (Some xs) x = Some (xs ++ x ∷ [])
 
 -- a call failed with this error; or an allocation failed, and no call did
-abbrev pub TellsRefusal : ObjectError → Written ObjectError → Written ObjectError → Type 0
-TellsRefusal e old new = ((e ≡ Memory) × (new ≡ old)) ⊎ (new ≡ writing old e)
+abbrev pub ErrorIsRefusal : ObjectError → Written ObjectError → Written ObjectError → Type 0
+ErrorIsRefusal e old new = ((e ≡ Memory) × (new ≡ old)) ⊎ (new ≡ writing old e)
 
 -- an error as the kind of an I/O error, or which of the others it is
 abbrev error_parts : ObjectError → Option (Option ErrorKind)

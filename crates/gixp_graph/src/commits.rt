@@ -4,7 +4,7 @@ ghost use Rattle.std.specs.FinMap as finite;
 ghost use Rattle.gixp_graph.specs.declared.objects.ObjectError.TheVariants.{Memory};
 ghost use Rattle.gixp_hash.specs.Failures.{HasRisen};
 ghost use Rattle.gixp_graph.specs.Asked.{AsksWhere};
-ghost use Rattle.gixp_graph.specs.Refusals.{TellsRefusal};
+ghost use Rattle.gixp_graph.specs.Refusals.{ErrorIsRefusal};
 ghost use Rattle.gixp_graph.specs.GraphData.{shown, graph_of, found_in, looked_up, flagged, parents_in};
 ghost use Rattle.gixp_graph.specs.Table.{id_at, ids_at, AllNamed, KeepsNumbers};
 ghost use Rattle.gixp_graph.specs.Visited.{IsOneToOne};
@@ -240,7 +240,7 @@ impl Commits {
         ensures asked { AsksWhere (finite.get self.old.held id.now ≡ None) id.now (O.asked objects.old) (O.asked objects.new) }
         ensures contents { O.contents objects.new ≡ O.contents objects.old }
         ensures unrefused { OnOk result (O.refusals objects.new ≡ O.refusals objects.old) }
-        ensures refused { IfErr result (λ e. TellsRefusal e (O.refusals objects.old) (O.refusals objects.new)) }
+        ensures refused { IfErr result (λ e. ErrorIsRefusal e (O.refusals objects.old) (O.refusals objects.new)) }
         ensures failures { O.failures objects.old ≤ O.failures objects.new }
         ensures failed { IfErr result (λ e. (e ≡ Memory) ⊎ HasRisen (O.failures objects.old) (O.failures objects.new)) }
     {
@@ -276,7 +276,7 @@ impl Commits {
             (O.asked objects.old) (O.asked objects.new) }
         ensures contents { O.contents objects.new ≡ O.contents objects.old }
         ensures unrefused { OnOk result (O.refusals objects.new ≡ O.refusals objects.old) }
-        ensures refused { IfErr result (λ e. TellsRefusal e (O.refusals objects.old) (O.refusals objects.new)) }
+        ensures refused { IfErr result (λ e. ErrorIsRefusal e (O.refusals objects.old) (O.refusals objects.new)) }
         ensures failures { O.failures objects.old ≤ O.failures objects.new }
         ensures failed { IfErr result (λ e. (e ≡ Memory) ⊎ HasRisen (O.failures objects.old) (O.failures objects.new)) }
     {

@@ -7,7 +7,7 @@ ghost use Rattle.gixp_graph.specs.Object.{commit_at, time_at};
 ghost use Rattle.gixp_hash.specs.Failures.{HasRisen};
 ghost use Rattle.gixp_graph.specs.GraphData.{graph_of, shown, shown_time, parents_in, found_in, looked_up, flagged, is_marked, OnlyMarks, IsFaithful};
 ghost use Rattle.gixp_graph.specs.Asked.{AsksWhere, AsksEach};
-ghost use Rattle.gixp_graph.specs.Refusals.{TellsRefusal};
+ghost use Rattle.gixp_graph.specs.Refusals.{ErrorIsRefusal};
 ghost use Rattle.gixp_graph.specs.Complete.{IsComplete, IsDue};
 
 use crate::commits::Commits;
@@ -88,7 +88,7 @@ impl<O: Objects> Graph<O> {
 
         // The error is the objects' error; or an allocation failed, and no call of the objects did.
         ensures unrefused { OnOk result (self.new.refusals ≡ self.old.refusals) }
-        ensures refused { IfErr result (λ e. TellsRefusal e self.old.refusals self.new.refusals) }
+        ensures refused { IfErr result (λ e. ErrorIsRefusal e self.old.refusals self.new.refusals) }
         ensures failures { self.old.failures ≤ self.new.failures }
         ensures failed { IfErr result (λ e. (e ≡ Memory) ⊎ HasRisen self.old.failures self.new.failures) }
     {
@@ -153,7 +153,7 @@ impl<O: Objects> Graph<O> {
 
         // The error is the objects' error; or an allocation failed, and no call of the objects did.
         ensures unrefused { OnOk result (self.new.refusals ≡ self.old.refusals) }
-        ensures refused { IfErr result (λ e. TellsRefusal e self.old.refusals self.new.refusals) }
+        ensures refused { IfErr result (λ e. ErrorIsRefusal e self.old.refusals self.new.refusals) }
         ensures failures { self.old.failures ≤ self.new.failures }
         ensures failed { IfErr result (λ e. (e ≡ Memory) ⊎ HasRisen self.old.failures self.new.failures) }
     {

@@ -2,7 +2,7 @@
 ghost use Rattle.std.specs.Prelude.{◌≡◌, ◌≤◌, ◌<◌, Bool, true, false, Some, None, IfOk, IfErr, OnOk, OnErr, IfSome, IfNone};
 ghost use Rattle.gixp_hash.specs.declared.object_id.ObjectId.{ObjectId};
 ghost use Rattle.gixp_graph.specs.GraphData.{GraphData};
-ghost use Rattle.gixp_graph.specs.Negotiation.{IsRefusal, TellsCause, NegotiatorCalls};
+ghost use Rattle.gixp_graph.specs.Negotiation.{IsRefusal, ErrorHasCause, NegotiatorCalls};
 
 use crate::graph::Graph;
 use crate::objects::{ObjectError, Objects};
@@ -80,7 +80,7 @@ pub trait Negotiator {
         id: ObjectId,
         graph: &mut Graph<O>,
     ) -> Result<(), NegotiatorError>
-        ensures told { OnOk result (calls.knows self.old graph.old.graph id self.new graph.new.graph) }
+        ensures reported { OnOk result (calls.knows self.old graph.old.graph id self.new graph.new.graph) }
         ensures fails { IfErr result (λ e. calls.knowing_fails self.old graph.old.graph id e self.new graph.new.graph) }
         ensures objects { graph.new.graph.objects ≡ graph.old.graph.objects }
         ensures failures { calls.failures self.old ≤ calls.failures self.new }
@@ -88,7 +88,7 @@ pub trait Negotiator {
         ensures failed { IfErr result (IsRefusal (calls.failures self.old)
             (calls.failures self.new) graph.old.failures graph.new.failures) }
         ensures unrefused { reports_refusals ≡ true → OnOk result (graph.new.refusals ≡ graph.old.refusals) }
-        ensures cause { reports_refusals ≡ true → IfErr result (λ e. TellsCause (calls.failures self.old)
+        ensures cause { reports_refusals ≡ true → IfErr result (λ e. ErrorHasCause (calls.failures self.old)
             (calls.failures self.new) e graph.old.refusals graph.new.refusals) };
 
     /// Adds a commit where the negotiation starts.
@@ -109,7 +109,7 @@ pub trait Negotiator {
         ensures failed { IfErr result (IsRefusal (calls.failures self.old)
             (calls.failures self.new) graph.old.failures graph.new.failures) }
         ensures unrefused { reports_refusals ≡ true → OnOk result (graph.new.refusals ≡ graph.old.refusals) }
-        ensures cause { reports_refusals ≡ true → IfErr result (λ e. TellsCause (calls.failures self.old)
+        ensures cause { reports_refusals ≡ true → IfErr result (λ e. ErrorHasCause (calls.failures self.old)
             (calls.failures self.new) e graph.old.refusals graph.new.refusals) };
 
     /// Reports a have that the server has too.
@@ -131,7 +131,7 @@ pub trait Negotiator {
         ensures failed { IfErr result (IsRefusal (calls.failures self.old)
             (calls.failures self.new) graph.old.failures graph.new.failures) }
         ensures unrefused { reports_refusals ≡ true → OnOk result (graph.new.refusals ≡ graph.old.refusals) }
-        ensures cause { reports_refusals ≡ true → IfErr result (λ e. TellsCause (calls.failures self.old)
+        ensures cause { reports_refusals ≡ true → IfErr result (λ e. ErrorHasCause (calls.failures self.old)
             (calls.failures self.new) e graph.old.refusals graph.new.refusals) };
 
     /// The next commit to offer as a have. `None` where there are no more.
@@ -154,7 +154,7 @@ pub trait Negotiator {
             (IsRefusal (calls.failures self.old) (calls.failures self.new) graph.old.failures graph.new.failures)) }
         ensures unrefused { reports_refusals ≡ true → IfSome result (λ have. OnOk have (graph.new.refusals ≡ graph.old.refusals)) }
         ensures unrefused_none { reports_refusals ≡ true → IfNone result (graph.new.refusals ≡ graph.old.refusals) }
-        ensures cause { reports_refusals ≡ true → IfSome result (λ have. IfErr have (λ e. TellsCause
+        ensures cause { reports_refusals ≡ true → IfSome result (λ have. IfErr have (λ e. ErrorHasCause
             (calls.failures self.old) (calls.failures self.new) e graph.old.refusals graph.new.refusals)) };
 
     /// Each offer lowers the count.

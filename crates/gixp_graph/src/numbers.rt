@@ -146,7 +146,7 @@ impl Numbers {
     }
 
     // Writes the number of an id into its slot, else into the map.
-    fn put(&mut self, id: &ObjectId, number: usize) -> Result<(), AllocError>
+    fn insert_number(&mut self, id: &ObjectId, number: usize) -> Result<(), AllocError>
         ensures kept { Keeps self.old self.new id.now }
         ensures reached { OnOk result (IsReached self.new id.now number) }
     {
@@ -176,7 +176,7 @@ impl Numbers {
             others: BTreeMap::new(self.alloc),
         };
         for number in 0..nodes.len() {
-            more.put(&nodes[number].id, number)?;
+            more.insert_number(&nodes[number].id, number)?;
         }
         *self = more;
         Ok(())
@@ -191,6 +191,6 @@ impl Numbers {
         ensures reached { OnOk result (IsReached self.new id.now (length nodes.now)) }
     {
         self.grow(nodes)?;
-        self.put(id, nodes.len())
+        self.insert_number(id, nodes.len())
     }
 }

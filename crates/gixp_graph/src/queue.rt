@@ -27,13 +27,13 @@ pub(crate) struct TimeQueue {
 impl Model for TimeQueue {
     ghost use Rattle.std.specs.Prelude.{List, ◌++◌};
     ghost use Rattle.gixp_graph.specs.declared.queue.Entry.{Entry};
-    ghost use Rattle.gixp_graph.specs.Queue.{first_of, StandsFirst};
+    ghost use Rattle.gixp_graph.specs.Queue.{first_of, IsNewest};
 
     ghost Value = { List Entry };
 
     ghost view = { λ a. first_of a.newest ++ a.others };
 
-    ghost invariant = { λ a. StandsFirst a.newest a.others };
+    ghost invariant = { λ a. IsNewest a.newest a.others };
 }
 
 fn newer_first(a: Entry, b: Entry) -> (Entry, Entry)

@@ -84,7 +84,7 @@ impl<F: Find> Objects for Shared<'_, F> {
         ensures failures { self.old.failures ≤ self.new.failures }
 
         // The error is one that a read of this id may return.
-        ensures told { IfErr result (λ e. F.refuses self.old.objects.now id.now e) }
+        ensures reported { IfErr result (λ e. F.refuses self.old.objects.now id.now e) }
 
         // Each error is counted, except an allocation failure. A success isn't counted.
         ensures counted { IfErr result (λ e. (e ≡ Memory) ⊎ HasRisen self.old.failures self.new.failures) }

@@ -67,7 +67,7 @@ fn longer(links: &mut Vec<Link>, number: usize, numbers: Link) -> Result<Link, A
     })
 }
 
-fn put(lists: &mut BTreeMap<i64, Link>, time: i64, numbers: Link) -> Result<(), AllocError>
+fn insert_link(lists: &mut BTreeMap<i64, Link>, time: i64, numbers: Link) -> Result<(), AllocError>
     ensures ok { OnOk result (lists.new.entries ≡ insert_entry int_cmp lists.old.entries time numbers) }
     ensures err { OnErr result (lists.new.entries ≡ lists.old.entries) }
 {
@@ -83,7 +83,7 @@ fn put_back(newest: Option<(i64, Link)>, lists: &mut BTreeMap<i64, Link>) -> Res
     ensures err { OnErr result (lists.new.entries ≡ lists.old.entries) }
 {
     match newest {
-        Some((time, numbers)) => put(lists, time, numbers),
+        Some((time, numbers)) => insert_link(lists, time, numbers),
         None => Ok(()),
     }
 }
@@ -105,10 +105,10 @@ fn add(
             number: entry.number,
             next: 0,
         };
-        return put(lists, entry.time, alone);
+        return insert_link(lists, entry.time, alone);
     };
     let more = longer(links, entry.number, numbers)?;
-    put(lists, entry.time, more)
+    insert_link(lists, entry.time, more)
 }
 
 // Takes the list of the greatest time: `newest`, else the last of the map.

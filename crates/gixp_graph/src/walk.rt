@@ -9,7 +9,7 @@ ghost use Rattle.gixp_graph.specs.Table.{id_at, ids_at, AllNamed, KeepsNumbers};
 ghost use Rattle.gixp_graph.specs.Visited.{AllVisitedNamed, IsOneToOne};
 ghost use Rattle.gixp_graph.specs.Waiting.{AllQueuedNamed};
 ghost use Rattle.gixp_graph.specs.Asked.{AsksWhere};
-ghost use Rattle.gixp_graph.specs.Refusals.{TellsRefusal};
+ghost use Rattle.gixp_graph.specs.Refusals.{ErrorIsRefusal};
 ghost use Rattle.gixp_graph.specs.Walk.{walk_of, IsUnread, Visits, VisitsSome, VisitsEach, AsksAll, AsksSome, AsksDue};
 ghost use Rattle.std.specs.FinMap as finite;
 
@@ -41,7 +41,7 @@ fn mark_found<O: Objects>(
     ensures kept { KeepsNumbers commits.old.ids commits.new.ids }
     ensures contents { O.contents objects.new ≡ O.contents objects.old }
     ensures unrefused { OnOk result (O.refusals objects.new ≡ O.refusals objects.old) }
-    ensures refused { IfErr result (λ e. TellsRefusal e (O.refusals objects.old) (O.refusals objects.new)) }
+    ensures refused { IfErr result (λ e. ErrorIsRefusal e (O.refusals objects.old) (O.refusals objects.new)) }
     ensures failures { O.failures objects.old ≤ O.failures objects.new }
     ensures failed { IfErr result (λ e. (e ≡ Memory) ⊎ HasRisen (O.failures objects.old) (O.failures objects.new)) }
 {
@@ -78,7 +78,7 @@ fn visit<O: Objects>(
     ensures kept { KeepsNumbers commits.old.ids commits.new.ids }
     ensures contents { O.contents objects.new ≡ O.contents objects.old }
     ensures unrefused { OnOk result (O.refusals objects.new ≡ O.refusals objects.old) }
-    ensures refused { IfErr result (λ e. TellsRefusal e (O.refusals objects.old) (O.refusals objects.new)) }
+    ensures refused { IfErr result (λ e. ErrorIsRefusal e (O.refusals objects.old) (O.refusals objects.new)) }
     ensures failures { O.failures objects.old ≤ O.failures objects.new }
     ensures failed { IfErr result (λ e. (e ≡ Memory) ⊎ HasRisen (O.failures objects.old) (O.failures objects.new)) }
 {
@@ -120,7 +120,7 @@ fn visit_each<O: Objects>(
     ensures kept { KeepsNumbers commits.old.ids commits.new.ids }
     ensures contents { O.contents objects.new ≡ O.contents objects.old }
     ensures unrefused { OnOk result (O.refusals objects.new ≡ O.refusals objects.old) }
-    ensures refused { IfErr result (λ e. TellsRefusal e (O.refusals objects.old) (O.refusals objects.new)) }
+    ensures refused { IfErr result (λ e. ErrorIsRefusal e (O.refusals objects.old) (O.refusals objects.new)) }
     ensures failures { O.failures objects.old ≤ O.failures objects.new }
     ensures failed { IfErr result (λ e. (e ≡ Memory) ⊎ HasRisen (O.failures objects.old) (O.failures objects.new)) }
 {
@@ -152,7 +152,7 @@ pub(crate) fn mark_complete<O: Objects>(
         (O.asked objects.new) }
     ensures contents { O.contents objects.new ≡ O.contents objects.old }
     ensures unrefused { OnOk result (O.refusals objects.new ≡ O.refusals objects.old) }
-    ensures refused { IfErr result (λ e. TellsRefusal e (O.refusals objects.old) (O.refusals objects.new)) }
+    ensures refused { IfErr result (λ e. ErrorIsRefusal e (O.refusals objects.old) (O.refusals objects.new)) }
     ensures failures { O.failures objects.old ≤ O.failures objects.new }
     ensures failed { IfErr result (λ e. (e ≡ Memory) ⊎ HasRisen (O.failures objects.old) (O.failures objects.new)) }
 {

@@ -2,7 +2,7 @@
 use Rattle.std.specs.Prelude.{◌≡◌, Bool, true, false, codes, Result, Ok}
 use Rattle.gixp_capabilities.specs.declared.client.Error.{Error}
 use Rattle.gixp_packetline.specs.Reading.{Reading}
-use Rattle.gixp_wire.specs.Transport.{Sends}
+use Rattle.gixp_transport.specs.Transport.{Sends}
 use Rattle.gixp_handshake.specs.declared.util.SendFlushOnDrop.{SendFlushOnDrop}
 
 -- nothing is done

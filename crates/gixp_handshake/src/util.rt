@@ -3,7 +3,7 @@ ghost use Rattle.std.specs.Prelude.{◌≡◌, true, false};
 ghost use Rattle.gixp_handshake.specs.Ending.{EndsInteraction, EndsOnce};
 
 use gixp_capabilities::client;
-use gixp_wire::{Message, Transport};
+use gixp_transport::{Message, Transport};
 
 /// Sends a flush packet over a connection: no more requests follow (gitprotocol-v2, "Command Request";
 /// gitprotocol-pack, "Packfile Negotiation"). Sends nothing over a transport that doesn't persist.

@@ -18,7 +18,7 @@ use Rattle.gixp_matching.specs.declared.match_group.validate.groups.Group.{Group
 use Rattle.gixp_matching.specs.declared.match_group.validate.groups.Named.{Named}
 use Rattle.gixp_matching.specs.Digest.{digest}
 use Rattle.gixp_matching.specs.Found.{found_over, found_among, found_first, found_in_groups, is_over, part, AddsConflicts}
-use Rattle.gixp_matching.specs.Groups.{behind, lent, mappings_of, grouped, has_number, have_one_number, HasAll, ListsNumbered, AreGroups}
+use Rattle.gixp_matching.specs.Groups.{following, lent, mappings_of, grouped, has_number, have_one_number, HasAll, ListsNumbered, AreGroups}
 use Rattle.gixp_matching.specs.Mappings.{Mapped, local_eq}
 use Rattle.gixp_matching.specs.Validation.{Conflict, differ, has_local, of_local}
 use Rattle.gixp_matching.proofs.DifferLemmas.{differ-first}
@@ -209,7 +209,7 @@ module _ {M : Type 0} where
       ∙ ap (take (length (own group))) (drop-append_seam front back)
       ∙ take-append_seam (own group) (grouped (drop (suc i) groups))
 
-  pub lent_own : (f : M → Mapped) (group : Group M) → lent f (own group) ≡ behind f group.rows.now
+  pub lent_own : (f : M → Mapped) (group : Group M) → lent f (own group) ≡ following f group.rows.now
   lent_own f group = map_of_map (λ m. f m.now) (λ row. row.mapping) group.rows.now
 
 few_agree : (ms : List Mapped) → length ms < 2 → differ ms ≡ false
@@ -224,9 +224,9 @@ module _ {M : Type 0} (f : M → Mapped) (texts : List (List ℕ)) (ms : List Ma
     (name : List ℕ) where
   -- the conflict that a group adds
   by_group : (group : Group M) → HasAll rows group
-      → found_among texts (behind f group.rows.now) name ≡ cond (digest name == group.number) (found_among texts ms name) []
+      → found_among texts (following f group.rows.now) name ≡ cond (digest name == group.number) (found_among texts ms name) []
   by_group group all =
-      ap (λ l. found_among texts (behind f l) name) all ∙ ap (found_over texts name) (listed.same name group.number)
+      ap (λ l. found_among texts (following f l) name) all ∙ ap (found_over texts name) (listed.same name group.number)
       ∙ elim (cases_Bool (digest name == group.number)) [
         | inl t ↦ ap (found_over texts name) (cond-true _ _ _ t) ∙ sym (cond-true _ _ _ t)
         | inr e ↦ ap (found_over texts name) (cond-false _ _ _ e) ∙ sym (cond-false _ _ _ e)
@@ -266,14 +266,14 @@ all_found f texts ms rows groups cs listed are kept name =
     kept name ∙ by_groups f texts ms rows listed name groups (recursion_from_All _ groups are.each) are.once (λ none. (
     let n = digest name in
     let few : length (filter (has_number n) rows) < 2 = are.others n (All-from_recursion _ groups none) in
-    let own : of_local name (behind f (filter (has_number n) rows)) ≡ of_local name ms =
+    let own : of_local name (following f (filter (has_number n) rows)) ≡ of_local name ms =
     listed.same name n ∙ cond-true _ _ _ (eq-eqb n n refl) in
     let less : length (of_local name ms) < 2 =
     omega (
       arith,
       few,
       ap length own,
-      fewer_pass (has_local name) (behind f (filter (has_number n) rows)),
+      fewer_pass (has_local name) (following f (filter (has_number n) rows)),
       length-map (filter (has_number n) rows) (λ row. f row.mapping.now),
     ) in
     cond-false _ _ _ (few_agree (of_local name ms) less)))
@@ -295,13 +295,13 @@ pub padded : (n : ℕ) (xs : List ℕ) → take (min (length xs) n) xs ++ drop (
 unfolding part
 padded n xs = elim (cases_lt (length xs) n) [
   | inl short ↦ (
-      let behind : ℕ = n - length xs in
+      let following : ℕ = n - length xs in
       let all : min (length xs) n ≡ length xs = min-eq_left (omega (arith, short)) in
-      let count : length xs + behind ≡ n = omega (arith, short) in
+      let count : length xs + following ≡ n = omega (arith, short) in
       ap (λ m. take m xs ++ drop m (replicate n 0)) all
       ∙ ap (λ l. l ++ drop (length xs) (replicate n 0)) (take_all (length xs) xs (omega arith))
-      ∙ ap (λ l. xs ++ l) (drop-replicate (length xs) n 0 ∙ sym (take-replicate behind n 0 (omega arith)))
-      ∙ sym (take-append-add xs (replicate n 0) behind) ∙ ap (λ m. take m (xs ++ replicate n 0)) count)
+      ∙ ap (λ l. xs ++ l) (drop-replicate (length xs) n 0 ∙ sym (take-replicate following n 0 (omega arith)))
+      ∙ sym (take-append-add xs (replicate n 0) following) ∙ ap (λ m. take m (xs ++ replicate n 0)) count)
   | inr long ↦ (
       let cut : min (length xs) n ≡ n = min-eq_right long in
       let none : drop n (replicate n 0) ≡ [] = drop_all n (replicate n 0) (omega (arith, length-replicate {A = ℕ} n 0)) in

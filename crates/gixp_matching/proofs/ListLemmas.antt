@@ -106,9 +106,9 @@ gathered_more h f now new xs i x e l kept step =
     ∙ ap (flat_map f) (sym (take-map_more h xs i x l))
 
 -- a step of a loop that appends the results for each element after an old list
-pub gathered_behind : {A B C : Type 0} (h : A → B) (f : B → List C) (old now new : List C) (xs : List A) (i : ℕ) (d : A) → i < length xs
+pub gathered_after : {A B C : Type 0} (h : A → B) (f : B → List C) (old now new : List C) (xs : List A) (i : ℕ) (d : A) → i < length xs
     → now ≡ old ++ flat_map f (take i (map h xs)) → new ≡ now ++ f (h (get_or xs i d)) → new ≡ old ++ flat_map f (take (i + 1) (map h xs))
-gathered_behind h f old now new xs i d l kept step =
+gathered_after h f old now new xs i d l kept step =
     step ∙ ap (λ z. z ++ f (h (get_or xs i d))) kept ∙ append_assoc old (flat_map f (take i (map h xs))) (f (h (get_or xs i d)))
     ∙ ap (λ z. old ++ z) (sym (flat_map-append_one f (take i (map h xs)) (h (get_or xs i d)))
     ∙ ap (flat_map f) (sym (take-map_more h xs i d l)))

@@ -32,9 +32,9 @@ or_between false true false = refl
 or_between false false true = refl
 or_between false false false = refl
 
-or_behind : (a b c : Bool) → (a || (b || c)) ≡ ((a || b) || c)
-or_behind true b c = refl
-or_behind false b c = refl
+or_assoc : (a b c : Bool) → (a || (b || c)) ≡ ((a || b) || c)
+or_assoc true b c = refl
+or_assoc false b c = refl
 
 -- a name that the needle of a negative refspec matches is excluded
 matched_is : (s : Spec) (needle : Needle) (name : List ℕ) → is_negative s.sign ≡ true → IsNeedle s.source needle
@@ -70,7 +70,7 @@ needle_more rows needles new needle s name negative made put =
     let first = list_any (is_row_of name) rows in
     ap (λ ns. first || list_any p ns) put ∙ ap (λ b. first || b) (list_any-append p needles (needle ∷ [])
     ∙ ap (λ b. list_any p needles || b) (or_none (p needle)))
-    ∙ or_behind first (list_any p needles) (p needle) ∙ ap (λ b. is_any rows needles name || b) (matched_is s needle name negative made)
+    ∙ or_assoc first (list_any p needles) (p needle) ∙ ap (λ b. is_any rows needles name || b) (matched_is s needle name negative made)
 
 -- the exact name of a needle
 pub exact_is : (name text : List ℕ) → is_some (where_true (bytes_eq name text)) ≡ bytes_eq name text

@@ -8,8 +8,8 @@ use Rattle.std.proofs.lemmas.List.Folds.{list_any-append}
 use Rattle.gixp_packetline.proofs.ListLemmas.{any_of_map, take-map_more}
 use Rattle.gixp_matching.specs.Firsts.{is_fresh, first_flags}
 use Rattle.gixp_matching.specs.Mappings.{Mapped, is_same}
-use Rattle.gixp_repeats.specs.Repeats.{is_before, is_first, tested_from}
-use Rattle.gixp_repeats.proofs.RepeatLemmas.{eqb_other, eqb_later, tested_same}
+use Rattle.gixp_utils.specs.Repeats.{is_before, is_first, tested_from}
+use Rattle.gixp_utils.proofs.RepeatLemmas.{eqb_other, eqb_later, tested_same}
 use Rattle.gixp_matching.specs.Placed.{placed, placed_from}
 use Rattle.gixp_matching.proofs.FirstLemmas.{or_none}
 use Rattle.gixp_matching.proofs.ListLemmas.{any_same}

@@ -12,7 +12,7 @@ use Rattle.std.proofs.lemmas.List.Sorted.{ranks_by, sorted_far}
 use Rattle.std.proofs.lemmas.Slice.Eq.{bytes_eq-Decides}
 use Rattle.gixp_matching.specs.declared.match_group.validate.groups.Named.{Named}
 use Rattle.gixp_matching.specs.Digest.{digest}
-use Rattle.gixp_matching.specs.Groups.{shown, numbered, behind, has_number, after_run, AreTogether}
+use Rattle.gixp_matching.specs.Groups.{shown, numbered, following, has_number, after_run, AreTogether}
 use Rattle.gixp_matching.specs.Mappings.{Mapped, local_eq}
 use Rattle.gixp_matching.specs.Validation.{of_local}
 use Rattle.gixp_matching.proofs.ListLemmas.{kept_same}
@@ -25,8 +25,8 @@ below a b = is_lt (nat_cmp a b)
 tied : (a b : ℕ) → (not (below a b) && not (below b a)) ≡ (b == a)
 tied a b = grind arith
 
-not_behind : (a b c : ℕ) → (b == a) ≡ false → below b a ≡ false → below c b ≡ false → (c == a) ≡ false
-not_behind a b c different low high = grind arith
+not_after : (a b c : ℕ) → (b == a) ≡ false → below b a ≡ false → below c b ≡ false → (c == a) ≡ false
+not_after a b c different low high = grind arith
 
 module _ {M : Type 0} where
   abbrev row_lt : Named M → Named M → Bool
@@ -53,12 +53,12 @@ module _ {M : Type 0} where
     ascend rows (λ i j d p q. far (suc i) (suc j) d (omega arith) (omega arith)),
   )
 
-  none_behind : (row other : Named M) (rows : List (Named M)) → has_number row.number other ≡ false → row_lt other row ≡ false
+  none_after : (row other : Named M) (rows : List (Named M)) → has_number row.number other ≡ false → row_lt other row ≡ false
       → AllByRecursion (λ later. row_lt later other ≡ false) rows → list_any (has_number row.number) rows ≡ false
-  none_behind row other [] different low high = refl
-  none_behind row other (later ∷ rows) different low high =
-      ap (λ b. b || list_any (has_number row.number) rows) (not_behind row.number other.number later.number different low high.0)
-      ∙ none_behind row other rows different low high.1
+  none_after row other [] different low high = refl
+  none_after row other (later ∷ rows) different low high =
+      ap (λ b. b || list_any (has_number row.number) rows) (not_after row.number other.number later.number different low high.0)
+      ∙ none_after row other rows different low high.1
 
   one_together : (row : Named M) (rows : List (Named M)) → AllByRecursion (λ later. row_lt later row ≡ false) rows → Ascend rows
       → list_any (has_number row.number) (after_run row.number rows) ≡ false
@@ -67,7 +67,7 @@ module _ {M : Type 0} where
     | inl t ↦ ap (list_any (has_number row.number)) (cond-true _ _ _ t) ∙ one_together row rows low.1 up.1
     | inr f ↦ (
         ap (list_any (has_number row.number)) (cond-false _ _ _ f)
-        ∙ ap (λ b. b || list_any (has_number row.number) rows) f ∙ none_behind row other rows f low.0 up.0)
+        ∙ ap (λ b. b || list_any (has_number row.number) rows) f ∙ none_after row other rows f low.0 up.0)
   ]
 
   all_together : (rows : List (Named M)) → Ascend rows → AreTogether rows
@@ -114,13 +114,13 @@ Shown = ℕ × Mapped
 abbrev with_number : ℕ → List Shown → List Mapped
 with_number n ts = map (λ t. t.1) (filter (λ t. t.0 == n) ts)
 
-behind_shown : {M : Type 0} (f : M → Mapped) (n : ℕ) (rows : List (Named M))
-    → behind f (filter (has_number n) rows) ≡ with_number n (map (shown f) rows)
-behind_shown f n [] = refl
-behind_shown f n (row ∷ rows) = elim (cases_Bool (has_number n row)) [
-  | inl t ↦ ap (behind f) (cond-true _ _ _ t) ∙ ap (λ l. (shown f row).1 ∷ l) (behind_shown f n rows)
+following_shown : {M : Type 0} (f : M → Mapped) (n : ℕ) (rows : List (Named M))
+    → following f (filter (has_number n) rows) ≡ with_number n (map (shown f) rows)
+following_shown f n [] = refl
+following_shown f n (row ∷ rows) = elim (cases_Bool (has_number n row)) [
+  | inl t ↦ ap (following f) (cond-true _ _ _ t) ∙ ap (λ l. (shown f row).1 ∷ l) (following_shown f n rows)
       ∙ sym (ap (map (λ (t : Shown). t.1)) (cond-true _ _ _ t))
-  | inr e ↦ ap (behind f) (cond-false _ _ _ e) ∙ behind_shown f n rows ∙ sym (ap (map (λ (t : Shown). t.1)) (cond-false _ _ _ e))
+  | inr e ↦ ap (following f) (cond-false _ _ _ e) ∙ following_shown f n rows ∙ sym (ap (map (λ (t : Shown). t.1)) (cond-false _ _ _ e))
 ]
 
 other_name : (name own : List ℕ) (n : ℕ) (m : Mapped) (ts : List Shown) → local_eq m.local (Some name) ≡ false
@@ -163,6 +163,6 @@ local_numbered name n (m ∷ ms) = at (local_numbered name n ms) m.local refl wh
 
 -- the rows with the hash of a name contain all mappings with the name, and rows with other hashes none
 pub rows_local : {M : Type 0} (f : M → Mapped) (ms : List Mapped) (rows : List (Named M)) → map (shown f) rows ≡ flat_map numbered ms
-    → (name : List ℕ) (n : ℕ) → of_local name (behind f (filter (has_number n) rows)) ≡ cond (digest name == n) (of_local name ms) []
+    → (name : List ℕ) (n : ℕ) → of_local name (following f (filter (has_number n) rows)) ≡ cond (digest name == n) (of_local name ms) []
 rows_local f ms rows is name n =
-    ap (of_local name) (behind_shown f n rows ∙ ap (with_number n) is) ∙ local_numbered name n ms
+    ap (of_local name) (following_shown f n rows ∙ ap (with_number n) is) ∙ local_numbered name n ms

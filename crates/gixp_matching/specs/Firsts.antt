@@ -18,6 +18,6 @@ abbrev pub flagged : {A : Type 0} → List A → List Bool → List A
 flagged xs flags = map (λ p. p.0) (filter (λ p. p.1) (zip xs flags))
 
 -- a flag for each mapping, set for the first ones; or none where each mapping is a first one
-abbrev pub TellsFirsts : List Mapped → Option (Vec Bool Global) → Type 0
-TellsFirsts ms None = firsts ms ≡ ms
-TellsFirsts ms (Some flags) = flags.items ≡ first_flags [] ms
+abbrev pub FlagsFirsts : List Mapped → Option (Vec Bool Global) → Type 0
+FlagsFirsts ms None = firsts ms ≡ ms
+FlagsFirsts ms (Some flags) = flags.items ≡ first_flags [] ms

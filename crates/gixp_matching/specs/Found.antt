@@ -6,7 +6,7 @@ use Rattle.std.specs.Str.{bytes_eq}
 use Rattle.gixp_matching.specs.declared.match_group.validate.Issue.{Issue}
 use Rattle.gixp_matching.specs.declared.match_group.validate.groups.Group.{Group}
 use Rattle.gixp_matching.specs.Digest.{step}
-use Rattle.gixp_matching.specs.Groups.{behind}
+use Rattle.gixp_matching.specs.Groups.{following}
 use Rattle.gixp_matching.specs.Mappings.{Mapped}
 use Rattle.gixp_matching.specs.Validate.{conflict_of}
 use Rattle.gixp_matching.specs.Validation.{Conflict, differ, has_local, of_local}
@@ -47,7 +47,7 @@ found_first texts ms place name =
 
 -- the conflicts over a local name in each group
 abbrev pub found_in_groups : {M : Type 0} → (M → Mapped) → List (List ℕ) → List (Group M) → List ℕ → List Conflict
-found_in_groups f texts groups name = flat_map (λ group. found_among texts (behind f group.rows.now) name) groups
+found_in_groups f texts groups name = flat_map (λ group. found_among texts (following f group.rows.now) name) groups
 
 -- the first so many bytes as a big-endian number, padded with zeros
 unfoldable pub leading : ℕ → List ℕ → ℕ

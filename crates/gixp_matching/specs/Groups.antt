@@ -23,8 +23,8 @@ module _ {M : Type 0} (f : M → Mapped) where
   lent ms = map (λ m. f m.now) ms
 
   -- the mappings of rows
-  abbrev pub behind : List (Named M) → List Mapped
-  behind rows = map (λ row. f row.mapping.now) rows
+  abbrev pub following : List (Named M) → List Mapped
+  following rows = map (λ row. f row.mapping.now) rows
 
 module _ {M : Type 0} where
   -- the row has this hash
@@ -73,7 +73,7 @@ module _ {M : Type 0} where
 -- with the same hash follow one another
 pub record ListsNumbered {M : Type 0} (f : M → Mapped) (ms : List Mapped) (rows : List (Named M)) : Type 0 where
   pub together : AreTogether rows
-  pub same : (name : List ℕ) (n : ℕ) → of_local name (behind f (filter (has_number n) rows))
+  pub same : (name : List ℕ) (n : ℕ) → of_local name (following f (filter (has_number n) rows))
       ≡ (if digest name == n then of_local name ms else [])
 
 -- each hash has at most one group, which has all its rows; a hash without a group has less than two rows

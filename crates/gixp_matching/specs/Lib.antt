@@ -1,6 +1,6 @@
 -- Definitions that contracts cite.
 pub mod Sought
-pub use Rattle.gixp_repeats.specs.Repeats
+pub use Rattle.gixp_utils.specs.Repeats
 pub mod Placed
 pub mod Rising
 pub mod Rows

@@ -35,14 +35,14 @@ pair_places specs s ref = map place_of (pair specs s ref)
 abbrev pub places_with : List Spec → List (List ℕ) → ℕ × Spec → List (Option ℕ × ℕ)
 places_with specs names s = flat_map (pair_places specs s) (enumerate_from 0 names)
 
-abbrev pub local_behind : Spec → Option (List ℕ) → Option (List ℕ)
-local_behind s None = None
-local_behind s (Some middle) = local_of s middle
+abbrev pub local_after : Spec → Option (List ℕ) → Option (List ℕ)
+local_after s None = None
+local_after s (Some middle) = local_of s middle
 
 -- the local name that a refspec makes of a source
 abbrev pub local_for : Option Spec → Source → Option (List ℕ)
 local_for None source = None
-local_for (Some s) (FullName name) = local_behind s (middle_of s.source name)
+local_for (Some s) (FullName name) = local_after s (middle_of s.source name)
 local_for (Some s) (ObjectId id) = local_of s []
 
 -- the id that a refspec names

@@ -168,7 +168,7 @@ impl<'s> MatchGroup<'s> {
     pub fn places(&self, alloc: Global, items: &[Item<'_>]) -> Result<Vec<Place>, AllocError>
         ensures places { IfOk result (λ places. map place_value places.items ≡ map place_of
             (repeated (group_specs self.now) (names items.now))) }
-        ensures told { IfOk result (λ _. AllByRecursion (FollowsFromPlace (group_specs self.now) (names items.now))
+        ensures reported { IfOk result (λ _. AllByRecursion (FollowsFromPlace (group_specs self.now) (names items.now))
             (repeated (group_specs self.now) (names items.now))) }
     {
         let mut found = Vec::new(alloc);

@@ -1,9 +1,9 @@
 -- Lines, words and digits, read one after another.
-use Rattle.std.proofs.Common.{◌≡◌, ℕ, ◌+◌, ◌<◌, ◌≤◌, List, [], ◌∷◌, ◌++◌, length, take, drop, get_or, map, Option, Some, None, ap, refl, sym, subst, ◌∙◌, append_assoc, append-nil}
+use Rattle.std.proofs.Common.{◌≡◌, ℕ, ◌+◌, ◌-◌, ◌<◌, ◌≤◌, List, [], ◌∷◌, ◌++◌, length, take, drop, get_or, map, Option, Some, None, ap, refl, sym, subst, ◌∙◌, append_assoc, append-nil, arith}
 use Rattle.std.specs.Prelude.{option_map, option_and_then}
 use Rattle.std.proofs.lemmas.List.{drop_more, drop_all, take_more, take_all, take-map, drop-map, map-append}
 use Rattle.gixp_hash.specs.declared.object_id.ObjectId.{ObjectId}
-use Rattle.gixp_text.specs.Lines.{text_lines}
+use Rattle.gixp_utils.specs.Lines.{text_lines}
 use Rattle.gixp_memory.specs.Text.{after_lines, BeginsUnread, ReadsSome}
 use Rattle.gixp_memory.specs.Repository.{one_digit_more, digits_more, named_id, named_ids}
 
@@ -105,15 +105,28 @@ module _ {S B : Type 0} (step : S → List ℕ → Option S) (f : B → List ℕ
     read_all i n now h l = sym (ap (after_lines step start) (ap (map f) (take_all i items l) ∙ lines)) ∙ h.read
 
     -- some lines were read
-    pub read_some : (i n k : ℕ) (now next : S) → ReadSoFar step f items start i n now → next ≡ now → k ≡ i
+    read_some : (i n k : ℕ) (now next : S) → ReadSoFar step f items start i n now → next ≡ now → k ≡ i
         → ReadsSome step start (text_lines text) k next
     read_some i n k now next h e g = ap (λ j. after_lines step start (take j (text_lines text))) g ∙ ap (λ ls.
         after_lines step start (take i ls)) (sym lines) ∙ ap (after_lines step start) (take-map f i items) ∙ h.read ∙ ap Some (sym e)
 
     -- the next line can't be read
-    pub line_unread : (i k : ℕ) (line : List ℕ) (d : B) (now next : S) → i < length items → line ≡ f (get_or items i d)
+    line_unread : (i k : ℕ) (line : List ℕ) (d : B) (now next : S) → i < length items → line ≡ f (get_or items i d)
         → step now line ≡ None → next ≡ now → k ≡ i → BeginsUnread step next (drop k (text_lines text))
     line_unread i k line d now next l e s g j =
         subst (λ ls. BeginsUnread step next ls)
         (sym (ap (λ m. drop m (text_lines text)) j ∙ ap (drop i) (sym lines) ∙ drop-map f i items ∙ ap (map f) (drop_more items i d l)))
         (ap (λ t. step t (f (get_or items i d))) g ∙ ap (step now) (sym e) ∙ s)
+
+    -- after the lines before it, the next line can't be read: its number is returned
+    pub stops_at_line : (i n : ℕ) (line : List ℕ) (d : B) (now next : S) → ReadSoFar step f items start i n now → i < length items
+        → line ≡ f (get_or items i d) → step now line ≡ None → next ≡ now
+        → (0 < n + 1) × ReadsSome step start (text_lines text) (n + 1 - 1) next × BeginsUnread step next (drop (n + 1 - 1) (text_lines text))
+    stops_at_line i n line d now next h l e s g =
+        let k : n + 1 - 1 ≡ i = omega (arith, h.count) in
+        (omega arith, read_some i n (n + 1 - 1) now next h g k, line_unread i (n + 1 - 1) line d now next l e s g k)
+
+    -- some lines were read, and no other, where an allocation failed
+    pub stops_between : (i n : ℕ) (now next : S) → ReadSoFar step f items start i n now → next ≡ now
+        → (k : ℕ) × ReadsSome step start (text_lines text) k next
+    stops_between i n now next h e = (i, read_some i n i now next h e refl)

@@ -1,4 +1,4 @@
-pub use Rattle.gixp_text.specs.Lines
+pub use Rattle.gixp_utils.specs.Lines
 pub mod Memory
 pub mod RefEntries
 pub mod Repository

@@ -14,7 +14,7 @@ use Rattle.gixp_graph.specs.declared.objects.ObjectKind.{ObjectKind}
 use Rattle.gixp_graph.specs.declared.objects.ObjectKind.TheVariants.{Commit as IsCommit, Tree, Blob, Tag}
 use Rattle.gixp_graph.specs.declared.objects.CommitData.{CommitData}
 use Rattle.gixp_graph.specs.Object.{Objects, Commit, commit_of}
-use Rattle.gixp_text.specs.Lines.{line_words}
+use Rattle.gixp_utils.specs.Lines.{line_words}
 use Rattle.gixp_memory.specs.Text.{is_text}
 
 -- a commit that was read, with its id

@@ -1,7 +1,7 @@
 -- Output of git commands that is read line by line.
 use Rattle.std.specs.Prelude.{◌≡◌, ◌-◌, ◌<◌, ℕ, List, [], ◌∷◌, take, drop, nat_eq, Bool, Option, Some, None, option_and_then, Result, Ok, Err}
 use Rattle.std.specs.Cmp.Lexicographic.{pointwise}
-use Rattle.gixp_text.specs.Lines.{text_lines}
+use Rattle.gixp_utils.specs.Lines.{text_lines}
 use Rattle.gixp_memory.specs.declared.texts.TextError.{TextError}
 use Rattle.gixp_memory.specs.declared.texts.TextError.TheVariants.{Line, Memory}
 

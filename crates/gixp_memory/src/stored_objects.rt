@@ -3,7 +3,7 @@ ghost use Rattle.std.specs.Prelude.{◌≡◌, Some, None, IfOk, IfErr, IfSome, 
 ghost use Rattle.std.specs.FinMap as finite;
 ghost use Rattle.gixp_graph.specs.Object.{commit_of};
 ghost use Rattle.gixp_graph.specs.declared.objects.ObjectError.TheVariants.{Memory};
-ghost use Rattle.gixp_text.specs.Lines.{line_words};
+ghost use Rattle.gixp_utils.specs.Lines.{line_words};
 ghost use Rattle.gixp_memory.specs.Memory.{kind_answered, answer_value};
 ghost use Rattle.gixp_memory.specs.Text.{FillsByText};
 ghost use Rattle.gixp_memory.specs.Repository.{with_commit, with_new, with_kind, with_id, commit_line, kind_line, commit_of_words, kind_of_words, named_kind};
@@ -12,7 +12,7 @@ ghost use Rattle.gixp_memory.specs.Repository.{entry_value, answered_kind, answe
 use crate::texts::{TextError, named_id, named_ids, named_kind, seconds};
 use gixp_graph::{CommitData, Find, ObjectError, ObjectKind};
 use gixp_hash::ObjectId;
-use gixp_text::{line_words, text_lines, without_line_end};
+use gixp_utils::{line_words, text_lines, without_line_end};
 use std::alloc::{AllocError, Global};
 use std::collections::BTreeMap;
 use std::marker::Model;
@@ -60,7 +60,7 @@ impl StoredObjects {
         }
     }
 
-    fn put(
+    fn add_object(
         &mut self,
         id: ObjectId,
         kind: Option<ObjectKind>,
@@ -84,7 +84,7 @@ impl StoredObjects {
         if self.has_object(&id) {
             return Ok(());
         }
-        self.put(id, kind, None)
+        self.add_object(id, kind, None)
     }
 
     /// Adds an object of a kind. An existing object with this id stays the same.
@@ -120,7 +120,7 @@ impl StoredObjects {
         ensures ok { OnOk result (self.new ≡ with_commit self.old id (commit_of commit)) }
         ensures err { OnErr result (self.new ≡ self.old) }
     {
-        self.put(id, Some(ObjectKind::Commit), Some(commit))
+        self.add_object(id, Some(ObjectKind::Commit), Some(commit))
     }
 
     // Adds the commit of a line. Returns false where the line isn't a commit's.

@@ -12,7 +12,7 @@ use crate::texts::{TextError, named_id};
 use bstr::BStr;
 use gixp_graph::{RefStore, RefStoreError};
 use gixp_hash::ObjectId;
-use gixp_text::{line_words, text_lines};
+use gixp_utils::{line_words, text_lines};
 use std::alloc::{AllocError, Global};
 use std::collections::BTreeMap;
 use std::marker::Model;

@@ -13,7 +13,7 @@ use thiserror::Error;
 #[derive(Clone, Copy, Debug, PartialEq, Eq, Drop, Error)]
 pub enum TextError {
     /// The line with this number, counted from 1, isn't of the text's form.
-    #[error("line {0} can't be read")]
+    #[error("line {0} is malformed")]
     Line(usize),
     /// An allocation failed.
     #[error("Memory")]

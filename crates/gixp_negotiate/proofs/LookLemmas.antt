@@ -25,8 +25,8 @@ use Rattle.gixp_graph.specs.declared.negotiator.NegotiatorError.{NegotiatorError
 use Rattle.gixp_negotiate.specs.declared.negotiate.Error.{Error}
 use Rattle.gixp_negotiate.specs.Refused.{CallsSome}
 use Rattle.gixp_negotiate.specs.Stores.{Listings, Lent}
-use Rattle.gixp_negotiate.specs.Stopped.{LooksAtSome, Step, StopsTelling, StopsAfterLookups, refs_refused, lent_refused, telling_stopped, Stops, at_mappings, at_refs, at_lent, at_telling}
-use Rattle.gixp_negotiate.specs.Marking.{mapping_ids, look, look_each, commit_time, time_at, later, cutoff_from, cutoff_of, is_here, is_known, tips_in, TellsNegotiator, Marks}
+use Rattle.gixp_negotiate.specs.Stopped.{LooksAtSome, Step, StopsLearning, StopsAfterLookups, refs_refused, lent_refused, learning_stopped, Stops, at_mappings, at_refs, at_lent, at_learning}
+use Rattle.gixp_negotiate.specs.Marking.{mapping_ids, look, look_each, commit_time, time_at, later, cutoff_from, cutoff_of, is_here, is_known, tips_in, NotifiesNegotiator, Marks}
 
 append-none : (xs : List ObjectId) → xs ++ [] ≡ xs
 append-none [] = refl
@@ -194,7 +194,7 @@ marked_some p front m id b had new eh em eb en =
 
 -- the commits that a walk marks and holds, by the graph before all look-ups
 pub walk_marks : {N : Type 0} (calls : NegotiatorCalls N) (n : N) (g g1 : GraphData) (ids tips : List ObjectId) (cutoff : Option ℤ)
-    (m : N) (h : GraphData) → g1 ≡ look_each ids g → cutoff ≡ cutoff_of g.objects ids → TellsNegotiator calls n g1 ids tips cutoff m h
+    (m : N) (h : GraphData) → g1 ≡ look_each ids g → cutoff ≡ cutoff_of g.objects ids → NotifiesNegotiator calls n g1 ids tips cutoff m h
     → Marks calls n g ids tips m h
 walk_marks calls n g g1 ids tips cutoff m h e ec t =
     let same : (look_each tips g1).objects ≡ g.objects = look_each-objects tips g1 ∙ (ap (λ x. x.objects) e ∙ look_each-objects ids g) in
@@ -212,10 +212,10 @@ walk_marks calls n g g1 ids tips cutoff m h e ec t =
           ⊎ IsComplete (commit_at (look_each tips g1).objects) tips k id)) ec (t.walks.marked id)));
       held = λ id f. by_walk id (t.walks.held id f);
       only_marks = subst (λ x. OnlyMarks (look_each tips x) t.walked.held) e t.walks.only_marks;
-      told = t.told;
-      told_graph = t.told_graph;
+      reported = t.reported;
+      reported_graph = t.reported_graph;
       known = t.known;
-      added = subst (λ (o : Objects). IsRun calls.adds (tips_in o tips) t.told t.told_graph m h) near t.added;
+      added = subst (λ (o : Objects). IsRun calls.adds (tips_in o tips) t.reported t.reported_graph m h) near t.added;
     }
   where
     by_walk : (id : ObjectId) → IsSome (finite.get (look_each tips g1).held id)
@@ -237,8 +237,8 @@ walk_marks calls n g g1 ids tips cutoff m h e ec t =
         (subst (λ (c : Option ℤ). IsComplete (commit_at (look_each tips g1).objects) tips c id) ec k))))
 
 -- a first part of all ids was looked up
-looks_by : (ids front behind : List ObjectId) (g h : GraphData) → ids ≡ front ++ behind → h ≡ look_each front g → LooksAtSome ids g h
-looks_by ids front behind g h split e = record { looked = front; left = behind; split = split; graph = e }
+looks_by : (ids front following : List ObjectId) (g h : GraphData) → ids ≡ front ++ following → h ≡ look_each front g → LooksAtSome ids g h
+looks_by ids front following g h split e = record { looked = front; left = following; split = split; graph = e }
 
 pub looks_front : (ms : List Mapping) (i : ℕ) (g h : GraphData) → h ≡ look_each (mapping_ids (take i ms)) g
     → LooksAtSome (mapping_ids ms) g h
@@ -253,34 +253,34 @@ looks_none ids g h e = looks_by ids [] ids g h refl e
 
 -- a first part of the calls were made, and the next failed
 pub calls_some : {N : Type 0} (call : Call N) (fails : RefusedCall N) (ids : List ObjectId) (i : ℕ) (d : ObjectId) (n : N)
-    (g : GraphData) (told : N) (told_graph : GraphData) (x : NegotiatorError) (m : N) (h : GraphData)
-    → i < length ids → IsRun call (take i ids) n g told told_graph → fails told told_graph (get_or ids i d) x m h
+    (g : GraphData) (reported : N) (reported_graph : GraphData) (x : NegotiatorError) (m : N) (h : GraphData)
+    → i < length ids → IsRun call (take i ids) n g reported reported_graph → fails reported reported_graph (get_or ids i d) x m h
     → CallsSome call fails ids n g x m h
-calls_some call fails ids i d n g told told_graph x m h less run refused = record {
+calls_some call fails ids i d n g reported reported_graph x m h less run refused = record {
   made = take i ids;
   refused = get_or ids i d;
   left = drop (suc i) ids;
   split = sym (take-append-drop i ids) ∙ ap (λ rest. take i ids ++ rest) (drop-cons ids i d less);
-  told = told;
-  told_graph = told_graph;
+  reported = reported;
+  reported_graph = reported_graph;
   run = run;
   fails = refused;
 }
 
 -- how far a step went after the mappings, by the graph before all look-ups
-pub stops_behind : {N R A : Type 0} (calls : NegotiatorCalls N) (listings : Listings R) (Negotiates : Type 0) (n : N) (g g1 : GraphData)
+pub stops_after : {N R A : Type 0} (calls : NegotiatorCalls N) (listings : Listings R) (Negotiates : Type 0) (n : N) (g g1 : GraphData)
     (q q1 : Written ObjectError) (refs : R) (lent : Lent R A) (ids tips : List ObjectId) (cutoff : Option ℤ) (e : Error A)
     (new : Step N R A)
     → g1 ≡ look_each ids g → cutoff ≡ cutoff_of g.objects ids → q1 ≡ q → Negotiates
     → StopsAfterLookups calls listings ids tips cutoff
     (record { negotiator = n; graph = g1; refusals = q1; refs = refs; lent = lent }) e new
     → Stops calls listings Negotiates ids tips (record { negotiator = n; graph = g; refusals = q; refs = refs; lent = lent }) e new
-stops_behind calls listings P n g g1 q q1 refs lent ids tips cutoff e new eg ec eq p (refs_refused a b c d) = at_refs p a b (c ∙ eg) d
-stops_behind calls listings P n g g1 q q1 refs lent ids tips cutoff e new eg ec eq p (lent_refused a b c d) = at_lent p a b c (d ∙ eg)
-stops_behind calls listings P n g g1 q q1 refs lent ids tips cutoff e new eg ec eq p (telling_stopped a b x ex s) = at_telling p a b x ex
-    (subst (λ y. StopsTelling calls n y q ids tips (cutoff_of g.objects ids) x new.negotiator new.graph new.refusals) eg
-    (subst (λ z. StopsTelling calls n g1 z ids tips (cutoff_of g.objects ids) x new.negotiator new.graph new.refusals) eq
-    (subst (λ k. StopsTelling calls n g1 q1 ids tips k x new.negotiator new.graph new.refusals) ec s)))
+stops_after calls listings P n g g1 q q1 refs lent ids tips cutoff e new eg ec eq p (refs_refused a b c d) = at_refs p a b (c ∙ eg) d
+stops_after calls listings P n g g1 q q1 refs lent ids tips cutoff e new eg ec eq p (lent_refused a b c d) = at_lent p a b c (d ∙ eg)
+stops_after calls listings P n g g1 q q1 refs lent ids tips cutoff e new eg ec eq p (learning_stopped a b x ex s) = at_learning p a b x ex
+    (subst (λ y. StopsLearning calls n y q ids tips (cutoff_of g.objects ids) x new.negotiator new.graph new.refusals) eg
+    (subst (λ z. StopsLearning calls n g1 z ids tips (cutoff_of g.objects ids) x new.negotiator new.graph new.refusals) eq
+    (subst (λ k. StopsLearning calls n g1 q1 ids tips k x new.negotiator new.graph new.refusals) ec s)))
 
 pub stops_when : {N R A : Type 0} (calls : NegotiatorCalls N) (listings : Listings R) (P Q : Type 0) (ids tips : List ObjectId)
     (old : Step N R A) (e : Error A) (new : Step N R A) → (P → Q) → Stops calls listings P ids tips old e new
@@ -288,7 +288,7 @@ pub stops_when : {N R A : Type 0} (calls : NegotiatorCalls N) (listings : Listin
 stops_when calls listings P Q ids tips old e new f (at_mappings x a b c d r l) = at_mappings x a b c d r l
 stops_when calls listings P Q ids tips old e new f (at_refs p a b c d) = at_refs (f p) a b c d
 stops_when calls listings P Q ids tips old e new f (at_lent p a b c d) = at_lent (f p) a b c d
-stops_when calls listings P Q ids tips old e new f (at_telling p a b x c d) = at_telling (f p) a b x c d
+stops_when calls listings P Q ids tips old e new f (at_learning p a b x c d) = at_learning (f p) a b x c d
 
 pub calls_same : {N : Type 0} (call : Call N) (refuses : RefusedCall N) (ids others : List ObjectId) (n : N) (g : GraphData)
     (x : NegotiatorError) (m : N) (h : GraphData) → ids ≡ others → CallsSome call refuses ids n g x m h
@@ -297,5 +297,5 @@ calls_same call refuses ids others n g x m h e c = subst (λ i. CallsSome call r
 
 pub telling_same : {N : Type 0} (calls : NegotiatorCalls N) (n : N) (g : GraphData) (q : Written ObjectError)
     (ids tips others : List ObjectId) (cutoff : Option ℤ) (x : NegotiatorError) (m : N) (h : GraphData) (p : Written ObjectError)
-    → tips ≡ others → StopsTelling calls n g q ids tips cutoff x m h p → StopsTelling calls n g q ids others cutoff x m h p
-telling_same calls n g q ids tips others cutoff x m h p e s = subst (λ l. StopsTelling calls n g q ids l cutoff x m h p) e s
+    → tips ≡ others → StopsLearning calls n g q ids tips cutoff x m h p → StopsLearning calls n g q ids others cutoff x m h p
+telling_same calls n g q ids tips others cutoff x m h p e s = subst (λ l. StopsLearning calls n g q ids l cutoff x m h p) e s

@@ -20,8 +20,8 @@ pub marks_complete : {N : Type 0} (calls : NegotiatorCalls N) (n : N) (g : Graph
     → LeavesMarks calls.knows → LeavesMarks calls.adds → Marks calls n g ids tips m h → MarksComplete g ids tips h
 marks_complete calls n g ids tips m h k a marks id =
     subst (λ (b : Bool). IsTrue b ↔ (IsTrue (is_marked g.held id) ⊎ IsComplete (commit_at g.objects) tips (cutoff_of g.objects ids) id))
-    (sym (run_leaves calls.adds a _ marks.told marks.told_graph m h marks.added id
-    ∙ run_leaves calls.knows k _ n marks.walked marks.told marks.told_graph marks.known id)) (marks.marked id)
+    (sym (run_leaves calls.adds a _ marks.reported marks.reported_graph m h marks.added id
+    ∙ run_leaves calls.knows k _ n marks.walked marks.reported marks.reported_graph marks.known id)) (marks.marked id)
 
 from_none : (b : Bool) (C : Type 0) → b ≡ false → IsTrue b ⊎ C → C
 from_none b C e (inl t) = absurd (true≢false (sym t ∙ e))

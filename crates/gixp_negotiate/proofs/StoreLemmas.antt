@@ -10,7 +10,7 @@ use Rattle.gixp_shallow.specs.declared.shallow.Shallow.{Shallow}
 use Rattle.gixp_negotiate.specs.declared.negotiate.Error.{Error}
 use Rattle.gixp_negotiate.specs.declared.negotiate.Error.TheVariants.{Memory}
 use Rattle.gixp_negotiate.specs.Negotiate.{ActionValue, no_change, skip, negotiate}
-use Rattle.gixp_negotiate.specs.Marking.{early, settled, settle, is_lone_unborn, has_none}
+use Rattle.gixp_negotiate.specs.Marking.{early, settled, chosen_action, is_lone_unborn, has_none}
 use Rattle.gixp_shallow.specs.Shallow.{is_deepen_zero}
 use Rattle.gixp_negotiate.specs.Stopped.{IsNegotiate}
 use Rattle.gixp_negotiate.specs.Stores.{Listings, HasListed, RefusesToList, ListsFront, ListsUpTo, Lent, ListsBy}
@@ -50,9 +50,9 @@ drop_suc zero xs = refl
 drop_suc (suc i) [] = refl
 drop_suc (suc i) (x ∷ xs) = drop_suc i xs
 
-pub behind_more : {R : Type 0} (stores old : List R) (i : ℕ) (b : R) → drop i stores ≡ drop i old
+pub following_more : {R : Type 0} (stores old : List R) (i : ℕ) (b : R) → drop i stores ≡ drop i old
     → drop (i + 1) (set stores i b) ≡ drop (i + 1) old
-behind_more stores old i b e = subst (λ n. drop n (set stores i b) ≡ drop n old) (sym (add-one i))
+following_more stores old i b e = subst (λ n. drop n (set stores i b) ≡ drop n old) (sym (add-one i))
     (drop_set stores i b ∙ (drop_suc i stores ∙ (ap (drop 1) e ∙ sym (drop_suc i old))))
 
 -- the ids of one more store
@@ -94,10 +94,10 @@ module _ {R A : Type 0} (listings : Listings R) (refs : R) (lent : Lent R A) whe
 
 -- without a decision before, the fetch has to negotiate
 pub unsettled : (stays changed unknown ch un : Bool) (known : List Bool) → changed ≡ ch → unknown ≡ un
-    → None ≡ settled stays changed unknown → IsNegotiate (settle stays ch un known)
+    → None ≡ settled stays changed unknown → IsNegotiate (chosen_action stays ch un known)
 unsettled stays changed unknown ch un known ec eu e = at stays ch un (e ∙ (ap (λ b. settled stays b unknown) ec ∙ ap (settled stays ch) eu))
   where
-    at : (s c u : Bool) → None ≡ settled s c u → IsNegotiate (settle s c u known)
+    at : (s c u : Bool) → None ≡ settled s c u → IsNegotiate (chosen_action s c u known)
     at true false u n = absurd (let f = n in cc)
     at true true false n = absurd (let f = n in cc)
     at true true true n = tt

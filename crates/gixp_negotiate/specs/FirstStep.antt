@@ -12,7 +12,7 @@ use Rattle.gixp_negotiate.specs.declared.negotiate.negotiation.NegotiateContext.
 use Rattle.gixp_negotiate.specs.declared.negotiate.negotiation.Negotiation.{Negotiation}
 use Rattle.gixp_negotiate.specs.Negotiate.{ActionValue}
 use Rattle.gixp_negotiate.specs.NegotiateError.{IsNegotiatorRefusal}
-use Rattle.gixp_negotiate.specs.Marking.{LocalRefs, listed, is_known, any_changed, any_unknown, settle, decision, Acts, IsRefsRefusal, IsAlternatesRefusal}
+use Rattle.gixp_negotiate.specs.Marking.{LocalRefs, listed, is_known, any_changed, any_unknown, chosen_action, decision, Acts, IsRefsRefusal, IsAlternatesRefusal}
 use Rattle.gixp_negotiate.specs.Stores.{Listings, lent_value, ListsBy}
 use Rattle.gixp_negotiate.specs.Stopped.{Step}
 
@@ -71,7 +71,7 @@ module _ {O R N G E : Type 0} where
   abbrev pub settled_by : (O → Objects) → (R → LocalRefs) → (Mapping → Bool) → Bool → List Mapping → NegotiateContext O R N G E
       → ActionValue
   settled_by contents refs ignores stays ms c =
-      settle stays (any_changed ignores (refs c.refs.now) ms) (any_unknown ignores c.graph.now.graph.objects
+      chosen_action stays (any_changed ignores (refs c.refs.now) ms) (any_unknown ignores c.graph.now.graph.objects
       (contents c.objects.now) ms) (map (is_known c.graph.now.graph.objects (contents c.objects.now)) ms)
 
   abbrev pub decided_by : (O → Objects) → (R → LocalRefs) → (Mapping → Bool) → Shallow → List Mapping → NegotiateContext O R N G E

@@ -13,7 +13,7 @@ pub record CallsSome {N : Type 0} (call : Call N) (refuses : RefusedCall N) (ids
   pub refused : ObjectId
   pub left : List ObjectId
   pub split : ids ≡ made ++ refused ∷ left
-  pub told : N
-  pub told_graph : GraphData
-  pub run : IsRun call made n g told told_graph
-  pub fails : refuses told told_graph refused x m h
+  pub reported : N
+  pub reported_graph : GraphData
+  pub run : IsRun call made n g reported reported_graph
+  pub fails : refuses reported reported_graph refused x m h

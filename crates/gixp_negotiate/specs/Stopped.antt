@@ -5,7 +5,7 @@ use Rattle.gixp_hash.specs.declared.object_id.ObjectId.{ObjectId}
 use Rattle.gixp_graph.specs.Object.{commit_at}
 use Rattle.gixp_graph.specs.GraphData.{GraphData, is_marked, OnlyMarks}
 use Rattle.gixp_graph.specs.Complete.{IsComplete}
-use Rattle.gixp_graph.specs.Refusals.{Written, TellsRefusal}
+use Rattle.gixp_graph.specs.Refusals.{Written, ErrorIsRefusal}
 use Rattle.gixp_graph.specs.Run.{IsRun}
 use Rattle.gixp_graph.specs.Negotiation.{NegotiatorCalls}
 use Rattle.gixp_graph.specs.declared.objects.ObjectError.{ObjectError}
@@ -41,19 +41,19 @@ object_error no_memory = Memory
 
 -- how far the walk and the calls after it went, after ids and tips were looked up, and why; with the recorded errors
 -- of the objects before and after it
-pub data StopsTelling {N : Type 0} (calls : NegotiatorCalls N) (n : N) (g : GraphData) (refusals : Written ObjectError)
+pub data StopsLearning {N : Type 0} (calls : NegotiatorCalls N) (n : N) (g : GraphData) (refusals : Written ObjectError)
     (ids tips : List ObjectId) (cutoff : Option ℤ) (x : NegotiatorError) (m : N) (h : GraphData)
     (refusals' : Written ObjectError) : Type 0 where
-  at_looks : TellsRefusal (object_error x) refusals refusals' → m ≡ n → LooksAtSome tips g h
-      → StopsTelling calls n g refusals ids tips cutoff x m h refusals'
-  at_walk : TellsRefusal (object_error x) refusals refusals' → m ≡ n → WalksSome (look_each tips g) tips cutoff h
-      → StopsTelling calls n g refusals ids tips cutoff x m h refusals'
+  at_looks : ErrorIsRefusal (object_error x) refusals refusals' → m ≡ n → LooksAtSome tips g h
+      → StopsLearning calls n g refusals ids tips cutoff x m h refusals'
+  at_walk : ErrorIsRefusal (object_error x) refusals refusals' → m ≡ n → WalksSome (look_each tips g) tips cutoff h
+      → StopsLearning calls n g refusals ids tips cutoff x m h refusals'
   at_known : (walked : GraphData) → Walks (look_each tips g) tips cutoff walked → CallsSome calls.knows calls.knowing_fails
-      (filter (is_marked walked.held) ids) n walked x m h → StopsTelling calls n g refusals ids tips cutoff x m h refusals'
-  at_tips : (walked told_graph : GraphData) → (told : N) → Walks (look_each tips g) tips cutoff walked
-      → IsRun calls.knows (filter (is_marked walked.held) ids) n walked told told_graph
-      → CallsSome calls.adds calls.adding_fails (tips_in g.objects tips) told told_graph x m h
-      → StopsTelling calls n g refusals ids tips cutoff x m h refusals'
+      (filter (is_marked walked.held) ids) n walked x m h → StopsLearning calls n g refusals ids tips cutoff x m h refusals'
+  at_tips : (walked reported_graph : GraphData) → (reported : N) → Walks (look_each tips g) tips cutoff walked
+      → IsRun calls.knows (filter (is_marked walked.held) ids) n walked reported reported_graph
+      → CallsSome calls.adds calls.adding_fails (tips_in g.objects tips) reported reported_graph x m h
+      → StopsLearning calls n g refusals ids tips cutoff x m h refusals'
 
 -- the decision is to negotiate
 abbrev pub IsNegotiate : ActionValue → Type 0
@@ -75,16 +75,16 @@ pub record Step (N R A : Type 0) : Type 0 where
 -- step failed
 pub data Stops {N R A : Type 0} (calls : NegotiatorCalls N) (listings : Listings R) (Negotiates : Type 0) (ids tips : List ObjectId)
     (old : Step N R A) (e : Error A) (new : Step N R A) : Type 0 where
-  at_mappings : (x : ObjectError) → e ≡ from_object x → TellsRefusal x old.refusals new.refusals → new.negotiator ≡ old.negotiator
+  at_mappings : (x : ObjectError) → e ≡ from_object x → ErrorIsRefusal x old.refusals new.refusals → new.negotiator ≡ old.negotiator
       → LooksAtSome ids old.graph new.graph → new.refs ≡ old.refs → new.lent ≡ old.lent
       → Stops calls listings Negotiates ids tips old e new
   at_refs : Negotiates → RefusesToList listings old.refs new.refs e → new.negotiator ≡ old.negotiator
       → new.graph ≡ look_each ids old.graph → new.lent ≡ old.lent → Stops calls listings Negotiates ids tips old e new
   at_lent : Negotiates → HasListed listings old.refs new.refs → RefusesLent listings old.lent new.lent e
       → new.negotiator ≡ old.negotiator → new.graph ≡ look_each ids old.graph → Stops calls listings Negotiates ids tips old e new
-  at_telling : Negotiates → HasListed listings old.refs new.refs → ListsLent listings old.lent new.lent → (x : NegotiatorError)
+  at_learning : Negotiates → HasListed listings old.refs new.refs → ListsLent listings old.lent new.lent → (x : NegotiatorError)
       → e ≡ from_negotiator x
-      → StopsTelling calls old.negotiator (look_each ids old.graph) old.refusals ids tips
+      → StopsLearning calls old.negotiator (look_each ids old.graph) old.refusals ids tips
       (cutoff_of old.graph.objects ids) x new.negotiator new.graph new.refusals → Stops calls listings Negotiates ids tips old e new
 
 -- the same after the ids were looked up
@@ -94,7 +94,7 @@ pub data StopsAfterLookups {N R A : Type 0} (calls : NegotiatorCalls N) (listing
       → new.lent ≡ old.lent → StopsAfterLookups calls listings ids tips cutoff old e new
   lent_refused : HasListed listings old.refs new.refs → RefusesLent listings old.lent new.lent e → new.negotiator ≡ old.negotiator
       → new.graph ≡ old.graph → StopsAfterLookups calls listings ids tips cutoff old e new
-  telling_stopped : HasListed listings old.refs new.refs → ListsLent listings old.lent new.lent → (x : NegotiatorError)
+  learning_stopped : HasListed listings old.refs new.refs → ListsLent listings old.lent new.lent → (x : NegotiatorError)
       → e ≡ from_negotiator x
-      → StopsTelling calls old.negotiator old.graph old.refusals ids tips cutoff x new.negotiator new.graph new.refusals
+      → StopsLearning calls old.negotiator old.graph old.refusals ids tips cutoff x new.negotiator new.graph new.refusals
       → StopsAfterLookups calls listings ids tips cutoff old e new

@@ -16,8 +16,12 @@ use Rattle.gixp_graph.specs.Object.{Objects, time_at}
 use Rattle.gixp_graph.specs.GraphData.{HeldCommit, Commits, GraphData, shown}
 use Rattle.gixp_graph.specs.GraphLaws.{same_from}
 use Rattle.gixp_negotiators.specs.declared.queue.Waiting.{Waiting}
-use Rattle.gixp_negotiators.specs.Marks.{COMMON, SEEN, POPPED, has_all, has_mark, Grows, AddsNone, AddsOnly, SeesNone, SeesOnly, SettlesNone, SettlesOnly, PopsNone, PopsOnly, Claims}
-use Rattle.gixp_negotiators.specs.Waiting.{waits_of, queued_one, open_one, open_in, Fits, FitsSeen, KeepsCount, KeepsQueue, KeepsTimed, AllTimed, NoneNewer, AllCommon, IsNewest, IsNewestAt, IsNewestIn, IsDated, QueuesNew}
+use Rattle.gixp_negotiators.specs.Marks.{COMMON, SEEN, POPPED, has_all, has_mark}
+use Rattle.gixp_negotiators.specs.AddedMarks.{Grows, AddsNone, AddsOnly, SeesNone, SeesOnly, MarksNoCommon, MarksCommonOnly, PopsNone, PopsOnly}
+use Rattle.gixp_negotiators.specs.CommitMarks.{Claims}
+use Rattle.gixp_negotiators.specs.Queued.{waits_of, queued_one, open_one, open_in, Fits, FitsSeen, KeepsCount, AllCommon}
+use Rattle.gixp_negotiators.specs.Newest.{KeepsQueue, KeepsTimed, AllTimed, NoneNewer, IsNewestWaiting, IsNewestAt}
+use Rattle.gixp_negotiators.specs.Dated.{IsNewestIn, IsDated, QueuesNew}
 use Rattle.gixp_negotiators.proofs.GrowLemmas.{same_id, grows_on}
 
 -- a commit that lacks a mark after a step lacked it before
@@ -80,7 +84,7 @@ open_kept g h same (x ∷ xs) =
     omega (arith, open_cons h.held x xs, open_cons g.held x xs, open_kept g h same xs)
 
 -- a commit that becomes common lowers their number, as often as it is queued
-pub open_settled : (g h : GraphData) → Grows g h → (id : ObjectId) → SettlesOnly id g h → has_mark COMMON g.held id ≡ false
+pub open_settled : (g h : GraphData) → Grows g h → (id : ObjectId) → MarksCommonOnly id g h → has_mark COMMON g.held id ≡ false
     → has_mark COMMON h.held id ≡ true → (ws : List Waiting) → open_in h.held ws + waits_of ws id ≡ open_in g.held ws
 open_settled g h w id only a b [] = omega (arith, open_nil h.held, open_nil g.held, waits_nil id)
 open_settled g h w id only a b (x ∷ xs) = at (eq_by_cmp id_cmp id x.id) refl (open_settled g h w id only a b xs)
@@ -103,7 +107,7 @@ open_settled g h w id only a b (x ∷ xs) = at (eq_by_cmp id_cmp id x.id) refl (
         omega (arith, open_cons h.held x xs, open_cons g.held x xs, waits_cons x xs id, rest)
 
 -- a commit that isn't queued may become common
-pub open_apart : (g h : GraphData) → Grows g h → (id : ObjectId) → SettlesOnly id g h → (ws : List Waiting) → waits_of ws id ≡ 0
+pub open_apart : (g h : GraphData) → Grows g h → (id : ObjectId) → MarksCommonOnly id g h → (ws : List Waiting) → waits_of ws id ≡ 0
     → open_in h.held ws ≡ open_in g.held ws
 open_apart g h w id only [] none = omega (arith, open_nil h.held, open_nil g.held)
 open_apart g h w id only (x ∷ xs) none = at (eq_by_cmp id_cmp id x.id) refl (open_apart g h w id only xs)
@@ -189,7 +193,7 @@ pub first_left : (ws : List Waiting) (g : GraphData) (first : Waiting)
 first_left ws g first waiting = left_at (has_mark SEEN g.held first.id) (has_mark POPPED g.held first.id) (first_waits ws g first waiting)
 
 -- marks are added that don't count
-pub fits_grown : (lost u : ℕ) (ws : List Waiting) (g h : GraphData) → Grows g h → SeesNone g h → SettlesNone g h → PopsNone g h
+pub fits_grown : (lost u : ℕ) (ws : List Waiting) (g h : GraphData) → Grows g h → SeesNone g h → MarksNoCommon g h → PopsNone g h
     → Fits lost u ws g → Fits lost u ws h
 fits_grown lost u ws g h w s c p f = record {
   waiting = λ id. f.waiting id ∙ same_queued g h id (same_none SEEN g h w s id) (same_none POPPED g h w p id);
@@ -199,7 +203,7 @@ fits_grown lost u ws g h w s c p f = record {
 
 -- a commit becomes common, and isn't counted any more where it is queued
 pub fits_common : (lost u v : ℕ) (ws : List Waiting) (g h : GraphData) (id : ObjectId) → Grows g h → SeesNone g h → PopsNone g h
-    → SettlesOnly id g h → has_mark COMMON g.held id ≡ false → has_mark COMMON h.held id ≡ true → v ≡ u - queued_one g.held id
+    → MarksCommonOnly id g h → has_mark COMMON g.held id ≡ false → has_mark COMMON h.held id ≡ true → v ≡ u - queued_one g.held id
     → Fits lost u ws g → Fits lost v ws h
 fits_common lost u v ws g h id w s p only before after is f = record {
   waiting = λ q. f.waiting q ∙ same_queued g h q (same_none SEEN g h w s q) (same_none POPPED g h w p q);
@@ -209,7 +213,7 @@ fits_common lost u v ws g h id w s p only before after is f = record {
 
 -- a commit is queued
 pub fits_pushed : (lost u v : ℕ) (ws xs : List Waiting) (g h : GraphData) (new : Waiting) → Grows g h → SeesOnly new.id g h
-    → PopsNone g h → SettlesOnly new.id g h → has_mark SEEN g.held new.id ≡ false → has_mark SEEN h.held new.id ≡ true
+    → PopsNone g h → MarksCommonOnly new.id g h → has_mark SEEN g.held new.id ≡ false → has_mark SEEN h.held new.id ≡ true
     → IsPermutation (new ∷ ws) xs → v ≡ u + open_one h.held new.id → Fits lost u ws g → Fits lost v xs h
 fits_pushed lost u v ws xs g h new w s p only before after m is f = record {
   waiting = λ id. waits_moved id (new ∷ ws) xs m ∙ at id (eq_by_cmp id_cmp id new.id) refl;
@@ -239,7 +243,7 @@ fits_pushed lost u v ws xs g h new w s p only before after m is f = record {
         )
 
 -- the first commit is taken
-pub fits_taken : (lost u v : ℕ) (ws : List Waiting) (g h : GraphData) (first : Waiting) → Grows g h → SeesNone g h → SettlesNone g h
+pub fits_taken : (lost u v : ℕ) (ws : List Waiting) (g h : GraphData) (first : Waiting) → Grows g h → SeesNone g h → MarksNoCommon g h
     → PopsOnly first.id g h → has_mark POPPED h.held first.id ≡ true → v ≡ u - open_one g.held first.id
     → Fits lost u (first ∷ ws) g → Fits lost v ws h
 fits_taken lost u v ws g h first w s c p after is f = record {
@@ -383,13 +387,13 @@ timed_fits u v ws g h w fits = record {
   timed = subst (λ o. AllTimed g.objects ws → AllTimed o ws) (sym w.objects) (λ all. all);
 }
 
-pub timed_grown : (u : ℕ) (ws : List Waiting) (g h : GraphData) → Grows g h → SeesNone g h → SettlesNone g h → PopsNone g h
+pub timed_grown : (u : ℕ) (ws : List Waiting) (g h : GraphData) → Grows g h → SeesNone g h → MarksNoCommon g h → PopsNone g h
     → KeepsTimed u ws g u ws h
 timed_grown u ws g h w s c p = timed_fits u u ws g h w (fits_grown 0 u ws g h w s c p)
 
 -- a commit is queued that wasn't seen
 pub timed_pushed : (u v : ℕ) (ws xs : List Waiting) (g h : GraphData) (new : Waiting) → Grows g h → SeesOnly new.id g h
-    → PopsNone g h → SettlesOnly new.id g h → has_mark SEEN g.held new.id ≡ false → has_mark SEEN h.held new.id ≡ true
+    → PopsNone g h → MarksCommonOnly new.id g h → has_mark SEEN g.held new.id ≡ false → has_mark SEEN h.held new.id ≡ true
     → IsPermutation (new ∷ ws) xs → v ≡ u + open_one h.held new.id → time_at g.objects new.id ≡ Some new.time → KeepsTimed u ws g v xs h
 timed_pushed u v ws xs g h new w s pops only unseen seen p is time = record {
   keeps = record {
@@ -431,7 +435,7 @@ settled_at u v g h id flags true true a b k waits unseen taken = omega (arith, t
 settled_at u v g h id flags false b a e k waits unseen taken = omega (arith, unseen a, unqueued g.held id (k.lacks SEEN a))
 
 pub settled : (u v : ℕ) (ws : List Waiting) (g h : GraphData) (id : ObjectId) (flags : Flags) → Claims COMMON g h id flags → Grows g h
-    → SeesNone g h → PopsNone g h → SettlesOnly id g h
+    → SeesNone g h → PopsNone g h → MarksCommonOnly id g h
     → (has_all SEEN flags.0 ≡ true → has_all POPPED flags.0 ≡ false → v ≡ u - 1) → (has_all SEEN flags.0 ≡ false → v ≡ u)
     → (has_all POPPED flags.0 ≡ true → v ≡ u) → Fits 0 u ws g → Fits 0 v ws h
 settled u v ws g h id flags k w s p only waits unseen taken = fits_common 0 u v ws g h id w s p only k.before k.after
@@ -467,7 +471,7 @@ itself : (a : ℤ) → a ≤ℤ a
 itself a = grind (arith, ints)
 
 pub newest_at : (g l : GraphData) (ws xs ys : List Waiting) (first : Waiting) → Grows g l → AllTimed l.objects ws
-    → IsPermutation ws (first ∷ xs) → IsNewest xs first
+    → IsPermutation ws (first ∷ xs) → IsNewestWaiting xs first
     → ((f : GraphData) (time : ℤ) → Grows f l → NoneNewer time f (first ∷ xs) → NoneNewer time f ys) → IsNewestAt g first.id ys
 newest_at g l ws xs ys first w timed p n order time is =
     let own : time_at l.objects first.id ≡ Some first.time = All-head (λ (x : Waiting). time_at l.objects x.id ≡ Some x.time) first xs
@@ -483,7 +487,7 @@ newest_at g l ws xs ys first w timed p n order time is =
 
 -- a commit is queued and counted
 pub fits_admitted : (u v : ℕ) (ws xs : List Waiting) (g h : GraphData) (new : Waiting) → IsPermutation (new ∷ ws) xs → (id : ObjectId)
-    → new.id ≡ id → Grows g h → SeesOnly id g h → PopsNone g h → SettlesNone g h → has_mark SEEN g.held id ≡ false
+    → new.id ≡ id → Grows g h → SeesOnly id g h → PopsNone g h → MarksNoCommon g h → has_mark SEEN g.held id ≡ false
     → has_mark SEEN h.held id ≡ true → v ≡ u + 1 → (lost : ℕ) → FitsSeen lost u ws g → FitsSeen lost v xs h
 fits_admitted u v ws xs g h new p id is w s pops none before after count lost f = record {
   fits = fits_pushed lost u v ws xs g h new w (subst (λ i. SeesOnly i g h) (sym is) s) pops
@@ -499,12 +503,12 @@ fits_admitted u v ws xs g h new p id is w s pops none before after count lost f 
     lone : has_mark COMMON h.held new.id ≡ false
     lone = lacked (has_mark COMMON h.held new.id) (has_mark SEEN g.held new.id) (λ m. f.seen new.id (none new.id m)) unseen
 
-pub seen_grown : (lost u : ℕ) (ws : List Waiting) (g h : GraphData) → Grows g h → SeesNone g h → SettlesNone g h → PopsNone g h
+pub seen_grown : (lost u : ℕ) (ws : List Waiting) (g h : GraphData) → Grows g h → SeesNone g h → MarksNoCommon g h → PopsNone g h
     → FitsSeen lost u ws g → FitsSeen lost u ws h
 seen_grown lost u ws g h w s c p f =
     record { fits = fits_grown lost u ws g h w s c p f.fits; seen = λ q m. w.marks SEEN q (f.seen q (c q m)) }
 
-pub seen_taken : (lost u v : ℕ) (ws : List Waiting) (g h : GraphData) (first : Waiting) → Grows g h → SeesNone g h → SettlesNone g h
+pub seen_taken : (lost u v : ℕ) (ws : List Waiting) (g h : GraphData) (first : Waiting) → Grows g h → SeesNone g h → MarksNoCommon g h
     → PopsOnly first.id g h → has_mark POPPED h.held first.id ≡ true → v ≡ u - open_one g.held first.id
     → FitsSeen lost u (first ∷ ws) g → FitsSeen lost v ws h
 seen_taken lost u v ws g h first w s c p after is f =
@@ -617,7 +621,7 @@ queues_taken ws xs g first p = record {
 
 -- the first commit is the newest
 pub newest_in : (us ws xs ys : List Waiting) (g l : GraphData) (first : Waiting) → Grows g l → QueuesNew us g ws
-    → IsPermutation ws (first ∷ xs) → IsNewest xs first → QueuesNew xs l ys → IsNewestIn us g first.id ys
+    → IsPermutation ws (first ∷ xs) → IsNewestWaiting xs first → QueuesNew xs l ys → IsNewestIn us g first.id ys
 newest_in us ws xs ys g l first v q p n step = (
   first,
   refl,

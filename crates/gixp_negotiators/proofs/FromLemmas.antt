@@ -9,8 +9,9 @@ use Rattle.gixp_hash.specs.declared.object_id.ObjectId.{ObjectId}
 use Rattle.gixp_hash.specs.ObjectId.{id_cmp}
 use Rattle.gixp_graph.specs.GraphData.{HeldCommit, GraphData, parents_in}
 use Rattle.gixp_graph.specs.GraphLaws.{same_from}
-use Rattle.gixp_negotiators.specs.Marks.{COMMON, has_mark, Grows, SettlesNone, SettlesOnly}
-use Rattle.gixp_negotiators.specs.Spread.{IsFrom, SettlesFrom, SettlesWithin, OwesAmong}
+use Rattle.gixp_negotiators.specs.Marks.{COMMON, has_mark}
+use Rattle.gixp_negotiators.specs.AddedMarks.{Grows, MarksNoCommon, MarksCommonOnly}
+use Rattle.gixp_negotiators.specs.NewlyCommon.{IsFrom, MarksCommonFrom, MarksCommonWithin, OwesAmong}
 use Rattle.gixp_negotiators.proofs.FitLemmas.{lacked}
 
 no_element : (q : ObjectId) → Contains [] q → ⊥
@@ -32,14 +33,14 @@ rises_grown g h id q w (IsFrom.parent {child = child} f c) = IsFrom.parent (rise
 
 -- ---- which commits become common
 
-pub within_none : (ids : List ObjectId) (g h : GraphData) → SettlesNone g h → SettlesWithin ids g h
+pub within_none : (ids : List ObjectId) (g h : GraphData) → MarksNoCommon g h → MarksCommonWithin ids g h
 within_none ids g h none q m = inl (none q m)
 
-pub within_after : (ids : List ObjectId) (g h k : GraphData) → SettlesNone g h → SettlesWithin ids h k → SettlesWithin ids g k
+pub within_after : (ids : List ObjectId) (g h k : GraphData) → MarksNoCommon g h → MarksCommonWithin ids h k → MarksCommonWithin ids g k
 within_after ids g h k none a q m = ⊎_elim (λ was. inl (none q was)) inr (a q m)
 
-pub within_step : (ids : List ObjectId) (i : ℕ) (d : ObjectId) (g h k : GraphData) → i < length ids → SettlesWithin ids g h
-    → SettlesOnly (get_or ids i d) h k → SettlesWithin ids g k
+pub within_step : (ids : List ObjectId) (i : ℕ) (d : ObjectId) (g h k : GraphData) → i < length ids → MarksCommonWithin ids g h
+    → MarksCommonOnly (get_or ids i d) h k → MarksCommonWithin ids g k
 within_step ids i d g h k lt a only q m = ⊎_elim (λ was. a q was)
     (λ e. inr (subst (Contains ids) (sym (same_from q (get_or ids i d) e)) (Contains-get_or ids i d lt)))
     (or_cases (has_mark COMMON h.held q) (eq_by_cmp id_cmp q (get_or ids i d)) (only q m))
@@ -62,13 +63,13 @@ owes_step ids i d before due more lt a b =
 
 -- ---- spreading from a commit
 
-pub rises_none : (id : ObjectId) (g h : GraphData) → SettlesNone g h → SettlesFrom id g h
+pub rises_none : (id : ObjectId) (g h : GraphData) → MarksNoCommon g h → MarksCommonFrom id g h
 rises_none id g h none q n = absurd (true≢false (sym (none q n.1) ∙ n.0))
 
-pub rises_after : (id : ObjectId) (g h k : GraphData) → SettlesNone g h → SettlesFrom id h k → SettlesFrom id g k
+pub rises_after : (id : ObjectId) (g h k : GraphData) → MarksNoCommon g h → MarksCommonFrom id h k → MarksCommonFrom id g k
 rises_after id g h k none f q n = f q (lacked (has_mark COMMON h.held q) (has_mark COMMON g.held q) (none q) n.0, n.1)
 
-pub rises_settled : (id : ObjectId) (g h k : GraphData) → SettlesOnly id g h → SettlesFrom id h k → SettlesFrom id g k
+pub rises_settled : (id : ObjectId) (g h k : GraphData) → MarksCommonOnly id g h → MarksCommonFrom id h k → MarksCommonFrom id g k
 rises_settled id g h k only f q n = at (has_mark COMMON h.held q) refl
   where
     at : (b : Bool) → has_mark COMMON h.held q ≡ b → IsFrom k id q
@@ -78,7 +79,7 @@ rises_settled id g h k only f q n = at (has_mark COMMON h.held q) refl
     at false e = f q (e, n.1)
 
 -- a step to its parents, which may become due
-pub rises_first : (id : ObjectId) (g h : GraphData) → SettlesWithin (parents_in h.held id) g h → SettlesFrom id g h
+pub rises_first : (id : ObjectId) (g h : GraphData) → MarksCommonWithin (parents_in h.held id) g h → MarksCommonFrom id g h
 rises_first id g h within q n = ⊎_elim (λ was. absurd (true≢false (sym was ∙ n.0))) (λ c. IsFrom.parent IsFrom.itself c) (within q n.1)
 
 pub due_first : (id : ObjectId) (h : GraphData) (before due : List ObjectId) → before ≡ []
@@ -87,8 +88,8 @@ due_first id h before due is owes = All-weaker (λ q. Contains before q ⊎ Cont
     (λ q e. ⊎_elim (λ c. absurd (no_element q (subst (λ xs. Contains xs q) is c))) (λ c. IsFrom.parent IsFrom.itself c) e) due owes
 
 -- a step to the parents of a commit that was due
-pub rises_next : (id next : ObjectId) (g h k : GraphData) → Grows h k → IsFrom h id next → SettlesFrom id g h
-    → SettlesWithin (parents_in k.held next) h k → SettlesFrom id g k
+pub rises_next : (id next : ObjectId) (g h k : GraphData) → Grows h k → IsFrom h id next → MarksCommonFrom id g h
+    → MarksCommonWithin (parents_in k.held next) h k → MarksCommonFrom id g k
 rises_next id next g h k w i f within q n = ⊎_elim (λ was. rises_grown h k id q w (f q (n.0, was)))
     (λ c. IsFrom.parent (rises_grown h k id next w i) c) (within q n.1)
 

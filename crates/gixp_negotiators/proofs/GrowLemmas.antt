@@ -16,7 +16,8 @@ use Rattle.gixp_graph.specs.declared.flags.Flags.{Flags}
 use Rattle.gixp_graph.specs.GraphData.{HeldCommit, Commits, GraphData, graph_of, put, flagged, with_flags, is_marked, is_complete, parents_in}
 use Rattle.gixp_graph.specs.GraphLaws.{same_from}
 use Rattle.gixp_hash.specs.IdLaws.{ids_total}
-use Rattle.gixp_negotiators.specs.Marks.{has_all, has_mark, Grows, AddsNone, AddsOnly}
+use Rattle.gixp_negotiators.specs.Marks.{has_all, has_mark}
+use Rattle.gixp_negotiators.specs.AddedMarks.{Grows, AddsNone, AddsOnly, MarksOnlyAsCommon}
 
 -- bits that are set stay set
 at_bits : (x y z : ℕ) → min x z ≡ z → min (max x y) z ≡ z
@@ -190,6 +191,13 @@ has_part m b held id v e = part_at m b (finite.get held id) v e
 
 pub none_on : (b : ℕ) (g h k : GraphData) → AddsNone b g h → AddsNone b h k → AddsNone b g k
 none_on b g h k a c q m = a q (c q m)
+
+pub only_common_on : (g h k : GraphData) → MarksOnlyAsCommon g h → MarksOnlyAsCommon h k → MarksOnlyAsCommon g k
+only_common_on g h k a c = record {
+  sees = λ q m. a.sees q (c.sees q m);
+  lists = λ q m. a.lists q (c.lists q m);
+  pops = λ q m. a.pops q (c.pops q m);
+}
 
 pub only_none : (b : ℕ) (one : ObjectId) (g h k : GraphData) → AddsOnly b one g h → AddsNone b h k → AddsOnly b one g k
 only_none b one g h k a c q m = a q (c q m)

@@ -1,7 +1,9 @@
 pub mod FitLemmas
 pub mod FromLemmas
 pub mod GrowLemmas
+pub mod InTurnLemmas
 pub mod LookLemmas
+pub mod LookedLemmas
 pub mod OweLemmas
 pub mod SeeLemmas
 pub mod SpreadLemmas

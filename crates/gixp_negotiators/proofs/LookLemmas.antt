@@ -8,7 +8,9 @@ use Rattle.gixp_graph.specs.declared.flags.Flags.{Flags}
 use Rattle.gixp_graph.specs.Object.{Commit, commit_at, time_at}
 use Rattle.gixp_graph.specs.GraphData.{HeldCommit, GraphData, graph_of, put, found_in, looked_up, unmarked, shown, shown_time, is_complete, IsFaithful}
 use Rattle.gixp_graph.specs.GraphLaws.{put_same}
-use Rattle.gixp_negotiators.specs.Marks.{SEEN, has_all, has_mark, Grows, IsFoundWith, AddsNone}
+use Rattle.gixp_negotiators.specs.Marks.{SEEN, has_all, has_mark}
+use Rattle.gixp_negotiators.specs.AddedMarks.{Grows, AddsNone}
+use Rattle.gixp_negotiators.specs.CommitMarks.{IsFoundWith}
 use Rattle.gixp_negotiators.proofs.GrowLemmas.{grows_none, grows_insert, get_insert_same, none_insert}
 
 looked_at : (g : GraphData) (id : ObjectId) (o : Option HeldCommit) (p : Option Commit) → finite.get g.held id ≡ o

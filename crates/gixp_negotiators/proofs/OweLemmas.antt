@@ -8,8 +8,10 @@ use Rattle.gixp_hash.specs.ObjectId.{id_cmp}
 use Rattle.gixp_graph.specs.GraphData.{Commits, GraphData}
 use Rattle.gixp_graph.specs.GraphLaws.{same_from}
 use Rattle.gixp_negotiators.specs.declared.queue.Waiting.{Waiting}
-use Rattle.gixp_negotiators.specs.Marks.{COMMON, SEEN, POPPED, has_mark, Grows, SeesNone, SettlesNone, SettlesOnly, PopsNone}
-use Rattle.gixp_negotiators.specs.Waiting.{queued_one, open_in, owed_by, FitsSeen, FitsOwing}
+use Rattle.gixp_negotiators.specs.Marks.{COMMON, SEEN, POPPED, has_mark}
+use Rattle.gixp_negotiators.specs.AddedMarks.{Grows, SeesNone, MarksNoCommon, MarksCommonOnly, PopsNone}
+use Rattle.gixp_negotiators.specs.Queued.{queued_one, open_in, FitsSeen}
+use Rattle.gixp_negotiators.specs.Owed.{owed_by, FitsOwing}
 use Rattle.gixp_negotiators.proofs.FitLemmas.{same_none, same_queued, queued, spent, open_kept, open_settled}
 
 -- 1 for a commit that wasn't taken, else 0
@@ -59,7 +61,7 @@ owing_end R lost u ws g due none f = (
 )
 
 -- marks are added that don't count
-pub owing_grown : (lost u : ℕ) (ws : List Waiting) (g h : GraphData) (due : List ObjectId) → Grows g h → SeesNone g h → SettlesNone g h
+pub owing_grown : (lost u : ℕ) (ws : List Waiting) (g h : GraphData) (due : List ObjectId) → Grows g h → SeesNone g h → MarksNoCommon g h
     → PopsNone g h → FitsOwing lost u ws g due → FitsOwing lost u ws h due
 owing_grown lost u ws g h due w s c p f = record {
   waiting = λ id. f.waiting id ∙ same_queued g h id (same_none SEEN g h w s id) (same_none POPPED g h w p id);
@@ -70,7 +72,7 @@ owing_grown lost u ws g h due w s c p f = record {
 
 -- a commit that was seen becomes common and due
 pub owing_reached : (lost u : ℕ) (ws : List Waiting) (g h : GraphData) (due more : List ObjectId) (id : ObjectId) → Grows g h
-    → SeesNone g h → PopsNone g h → SettlesOnly id g h → has_mark SEEN g.held id ≡ true → has_mark COMMON g.held id ≡ false
+    → SeesNone g h → PopsNone g h → MarksCommonOnly id g h → has_mark SEEN g.held id ≡ true → has_mark COMMON g.held id ≡ false
     → has_mark COMMON h.held id ≡ true → more ≡ due ++ id ∷ [] → FitsOwing lost u ws g due → FitsOwing lost u ws h more
 owing_reached lost u ws g h due more id w s p only seen before after is f = record {
   waiting = λ q. f.waiting q ∙ same_queued g h q (same_none SEEN g h w s q) (same_none POPPED g h w p q);

@@ -18,7 +18,9 @@ use Rattle.gixp_negotiators.specs.declared.skipping.Skip.{Skip}
 use Rattle.gixp_negotiators.specs.declared.skipping.Legacy.{Legacy}
 use Rattle.gixp_negotiators.specs.declared.skipping.Legacy.TheVariants.{Common, Skips}
 use Rattle.gixp_negotiators.specs.Distance.{distance_after, skip_of}
-use Rattle.gixp_negotiators.specs.Marks.{COMMON, COMMON_REF, POPPED, has_all, has_mark, AddsNone, SettlesNone, Grows, Claims}
+use Rattle.gixp_negotiators.specs.Marks.{COMMON, COMMON_REF, POPPED, has_all, has_mark}
+use Rattle.gixp_negotiators.specs.AddedMarks.{AddsNone, MarksNoCommon, Grows}
+use Rattle.gixp_negotiators.specs.CommitMarks.{Claims}
 use Rattle.gixp_negotiators.specs.Passing.{Skipped, skip_in, longer, handed_on, is_among, HandsOne, Hands, AllTaken, Takes}
 
 not_true : (a b : Bool) → (a ≡ true → b ≡ true) → b ≡ false → a ≡ false
@@ -144,7 +146,7 @@ hands_all legacy ids k h old new l a = subst (λ xs. Hands legacy xs h old new) 
 -- ---- a commit is taken
 
 pub takes_none : (old : Skipped) (g h : GraphData) (id : ObjectId) → (IsSome (commit_at g.objects id) → has_mark POPPED g.held id ≡ true)
-    → SettlesNone g h → Takes old g id false old h
+    → MarksNoCommon g h → Takes old g id false old h
 takes_none old g h id spent none = record {
   hands = λ there lacks. absurd (true≢false (sym (spent there) ∙ lacks));
   others = λ q n. refl;
@@ -176,7 +178,7 @@ pub takes_some : (old new : Skipped) (g i h : GraphData) (id : ObjectId) (flags 
     → legacy ≡ Skips (skip_of (distance_after s.whole) (distance_after s.whole)))
     → (is_common ≡ false → s.left ≡ 0 → offered ≡ true) → (any : Bool) → (0 < s.left → any ≡ true → offered ≡ false)
     → (any ≡ false → AllTaken h parents) → (is_common ≡ false → any ≡ false → offered ≡ true) → (any ≡ true → AllTaken h parents → ⊥)
-    → SettlesNone g i → (legacy ≢ Common → SettlesNone i h)
+    → MarksNoCommon g i → (legacy ≢ Common → MarksNoCommon i h)
     → Takes old g id offered new h
 takes_some old new g i h id flags legacy parents s is_common offered k w ps ss hands common p r reached any early taken ends left none lone
     = record {

@@ -8,8 +8,9 @@ use Rattle.gixp_hash.specs.declared.object_id.ObjectId.{ObjectId}
 use Rattle.gixp_hash.specs.ObjectId.{id_cmp}
 use Rattle.gixp_graph.specs.GraphData.{GraphData, parents_in}
 use Rattle.gixp_graph.specs.GraphLaws.{same_from}
-use Rattle.gixp_negotiators.specs.Marks.{COMMON, COMMON_REF, SEEN, has_mark, Grows, SeesNone, SeesOnly, SettlesNone}
-use Rattle.gixp_negotiators.specs.Spread.{SeesCommon, SeesAmong, OpensParents}
+use Rattle.gixp_negotiators.specs.Marks.{COMMON, COMMON_REF, SEEN, has_mark}
+use Rattle.gixp_negotiators.specs.AddedMarks.{Grows, SeesNone, SeesOnly, MarksNoCommon}
+use Rattle.gixp_negotiators.specs.NewlySeen.{SeesCommon, SeesAmong, OpensParents}
 
 pub sees_same : (g h : GraphData) → SeesNone g h → SeesCommon g h
 unfolding SeesCommon
@@ -75,8 +76,8 @@ among_on ids g h k w a b id seen = ⊎_elim
 
 -- a commit was taken, and each newly seen commit is common or one of its parents
 pub opens_taken : (g h k : GraphData) (one : ObjectId) (parents : List ObjectId) (shared : Bool) → Grows h k → SeesNone g h
-    → SettlesNone g h → has_mark COMMON_REF g.held one ≡ shared → parents ≡ parents_in k.held one → (shared ≡ true → SeesCommon h k)
-    → (shared ≡ false → SettlesNone h k) → (shared ≡ false → SeesAmong parents h k) → OpensParents g one k
+    → MarksNoCommon g h → has_mark COMMON_REF g.held one ≡ shared → parents ≡ parents_in k.held one → (shared ≡ true → SeesCommon h k)
+    → (shared ≡ false → MarksNoCommon h k) → (shared ≡ false → SeesAmong parents h k) → OpensParents g one k
 opens_taken g h k one parents true w none settles listed is common lone others =
     inl (listed, sees_on g h k w (sees_same g h none) (common refl))
 opens_taken g h k one parents false w none settles listed is common lone others = inr (

@@ -11,9 +11,11 @@ use Rattle.gixp_hash.specs.ObjectId.{id_cmp}
 use Rattle.gixp_graph.specs.Object.{Objects, commit_at}
 use Rattle.gixp_graph.specs.GraphData.{GraphData, parents_in}
 use Rattle.gixp_graph.specs.GraphLaws.{same_from}
-use Rattle.gixp_negotiators.specs.Marks.{COMMON, SEEN, has_mark, Grows, SettlesNone, SettlesOnly}
+use Rattle.gixp_negotiators.specs.Marks.{COMMON, SEEN, has_mark}
+use Rattle.gixp_negotiators.specs.AddedMarks.{Grows, MarksNoCommon, MarksCommonOnly}
 use Rattle.gixp_negotiators.specs.MarkLaws.{held_marked}
-use Rattle.gixp_negotiators.specs.Spread.{is_there, was_seen, BecomesCommon, HasCommonParents, Spreads, SpreadsBut, KeepsSpread, StaysSpread, SpreadsFrom, SpreadsAllFrom, IsNewlyCommon}
+use Rattle.gixp_negotiators.specs.Spread.{is_there, was_seen, BecomesCommon, HasCommonParents, Spreads, SpreadsBut, KeepsSpread, StaysSpread, SpreadsFrom, SpreadsAllFrom}
+use Rattle.gixp_negotiators.specs.NewlyCommon.{IsNewlyCommon}
 use Rattle.gixp_negotiators.proofs.GrowLemmas.{grows_none, grows_on}
 
 none_due : (id : ObjectId) → Contains [] id → ⊥
@@ -55,13 +57,13 @@ module _ (kind : GraphData → ObjectId → Bool) (stays : (g h : GraphData) →
   spread_moved xs ys g h in' s id seen lacks common = ⊎_elim (λ c. inl (in' id c)) inr (s id seen lacks common)
 
   -- no commit becomes common
-  pub spread_grown : (due : List ObjectId) (f g h : GraphData) → Grows g h → SettlesNone g h → SpreadsBut kind due f g
+  pub spread_grown : (due : List ObjectId) (f g h : GraphData) → Grows g h → MarksNoCommon g h → SpreadsBut kind due f g
       → SpreadsBut kind due f h
   spread_grown due f g h w none s id seen lacks common =
       ⊎_elim inl (λ p. inr (common_on f g h id w (held_marked g id COMMON (none id common)) p)) (s id seen lacks (none id common))
 
   -- a commit becomes common and due
-  pub spread_settled : (due : List ObjectId) (one : ObjectId) (f g h : GraphData) → Grows g h → SettlesOnly one g h
+  pub spread_settled : (due : List ObjectId) (one : ObjectId) (f g h : GraphData) → Grows g h → MarksCommonOnly one g h
       → SpreadsBut kind due f g → SpreadsBut kind (due ++ one ∷ []) f h
   spread_settled due one f g h w only s id seen lacks common = ⊎_elim
       (λ was. ⊎_elim (λ c. inl (Contains-append_left due (one ∷ []) id c)) (λ p. inr (common_on f g h id w (held_marked g id COMMON was) p))
@@ -70,7 +72,7 @@ module _ (kind : GraphData → ObjectId → Bool) (stays : (g h : GraphData) →
       (or_cases (has_mark COMMON g.held id) (eq_by_cmp id_cmp id one) (only id common))
 
   -- a commit is queued that wasn't seen
-  pub spread_pushed : (due : List ObjectId) (one : ObjectId) (f g h : GraphData) → Grows f g → Grows g h → SettlesOnly one g h
+  pub spread_pushed : (due : List ObjectId) (one : ObjectId) (f g h : GraphData) → Grows f g → Grows g h → MarksCommonOnly one g h
       → has_mark SEEN g.held one ≡ false → SpreadsBut kind due f g → SpreadsBut kind due f h
   spread_pushed due one f g h v w only unseen s id seen lacks common = ⊎_elim
       (λ was. ⊎_elim inl (λ p. inr (common_on f g h id w (held_marked g id COMMON was) p)) (s id seen lacks was))
@@ -126,11 +128,11 @@ module _ (kind : GraphData → ObjectId → Bool) (stays : (g h : GraphData) →
   unfolding KeepsSpread
   kept_on due more rest g h k w a b f xs v s = b f xs (grows_on f g h v w) (a f xs v s)
 
-  pub kept_grown : (due : List ObjectId) (g h : GraphData) → Grows g h → SettlesNone g h → KeepsSpread kind due g due h
+  pub kept_grown : (due : List ObjectId) (g h : GraphData) → Grows g h → MarksNoCommon g h → KeepsSpread kind due g due h
   unfolding KeepsSpread
   kept_grown due g h w none f xs v s = spread_grown (xs ++ due) f g h w none s
 
-  pub kept_settled : (due more : List ObjectId) (one : ObjectId) (g h : GraphData) → Grows g h → SettlesOnly one g h → more ≡ due
+  pub kept_settled : (due more : List ObjectId) (one : ObjectId) (g h : GraphData) → Grows g h → MarksCommonOnly one g h → more ≡ due
       ++ one ∷ [] → KeepsSpread kind due g more h
   unfolding KeepsSpread
   kept_settled due more one g h w only is f xs v s = subst (λ ys. SpreadsBut kind ys f h)
@@ -146,23 +148,23 @@ module _ (kind : GraphData → ObjectId → Bool) (stays : (g h : GraphData) →
   unfolding StaysSpread
   stays_on g h k w a b f v s = b f (grows_on f g h v w) (a f v s)
 
-  pub stays_grown : (g h : GraphData) → Grows g h → SettlesNone g h → StaysSpread kind g h
+  pub stays_grown : (g h : GraphData) → Grows g h → MarksNoCommon g h → StaysSpread kind g h
   unfolding StaysSpread
   stays_grown g h w none f v s = spread_all [] f h refl (spread_grown [] f g h w none (spread_but [] f g s))
 
-  pub stays_pushed : (one : ObjectId) (g h : GraphData) → Grows g h → SettlesOnly one g h → has_mark SEEN g.held one ≡ false
+  pub stays_pushed : (one : ObjectId) (g h : GraphData) → Grows g h → MarksCommonOnly one g h → has_mark SEEN g.held one ≡ false
       → StaysSpread kind g h
   unfolding StaysSpread
   stays_pushed one g h w only unseen f v s = spread_all [] f h refl (spread_pushed [] one f g h v w only unseen (spread_but [] f g s))
 
   -- a commit becomes common, and the mark spreads from it
-  pub stays_settled : (one : ObjectId) (g h k : GraphData) → Grows g h → SettlesOnly one g h → SpreadsAllFrom kind one h k
+  pub stays_settled : (one : ObjectId) (g h k : GraphData) → Grows g h → MarksCommonOnly one g h → SpreadsAllFrom kind one h k
       → StaysSpread kind g k
   unfolding StaysSpread SpreadsAllFrom
   stays_settled one g h k w only all f v s = all f (grows_on f g h v w) (spread_settled [] one f g h w only (spread_but [] f g s))
 
   -- the mark spreads from a commit that need not be common
-  pub stays_through : (one : ObjectId) (g h k : GraphData) → Grows g h → SettlesNone g h → SpreadsAllFrom kind one h k
+  pub stays_through : (one : ObjectId) (g h k : GraphData) → Grows g h → MarksNoCommon g h → SpreadsAllFrom kind one h k
       → StaysSpread kind g k
   unfolding StaysSpread SpreadsAllFrom
   stays_through one g h k w none all f v s = all f (grows_on f g h v w)
@@ -171,21 +173,21 @@ module _ (kind : GraphData → ObjectId → Bool) (stays : (g h : GraphData) →
   -- ---- spreading from a commit
 
   -- the commit isn't in the objects, or wasn't seen
-  pub from_unseen : (one : ObjectId) (due : List ObjectId) (g h : GraphData) → Grows g h → SettlesNone g h
+  pub from_unseen : (one : ObjectId) (due : List ObjectId) (g h : GraphData) → Grows g h → MarksNoCommon g h
       → has_mark SEEN h.held one ≡ false → SpreadsFrom kind one due g due h
   unfolding SpreadsFrom
   from_unseen one due g h w none unseen f v s =
       spread_unseen due one f h h (grows_on f g h v w) unseen (spread_grown (one ∷ due) f g h w none s)
 
   -- the commit is queued
-  pub from_pushed : (one : ObjectId) (due : List ObjectId) (g h k : GraphData) → Grows g h → SettlesNone g h → Grows h k
-      → SettlesNone h k → has_mark SEEN h.held one ≡ false → SpreadsFrom kind one due g due k
+  pub from_pushed : (one : ObjectId) (due : List ObjectId) (g h k : GraphData) → Grows g h → MarksNoCommon g h → Grows h k
+      → MarksNoCommon h k → has_mark SEEN h.held one ≡ false → SpreadsFrom kind one due g due k
   unfolding SpreadsFrom
   from_pushed one due g h k w none z none' unseen f v s = spread_unseen due one f h k (grows_on f g h v w) unseen
       (spread_grown (one ∷ due) f h k z none' (spread_grown (one ∷ due) f g h w none s))
 
   -- its parents become common
-  pub from_parents : (one : ObjectId) (due more : List ObjectId) (g h k : GraphData) → Grows g h → SettlesNone g h
+  pub from_parents : (one : ObjectId) (due more : List ObjectId) (g h k : GraphData) → Grows g h → MarksNoCommon g h
       → (has_mark SEEN h.held one ≡ true → HasCommonParents kind h k one) → KeepsSpread kind due h more k
       → SpreadsFrom kind one due g more k
   unfolding SpreadsFrom KeepsSpread

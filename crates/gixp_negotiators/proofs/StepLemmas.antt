@@ -8,7 +8,10 @@ use Rattle.gixp_hash.specs.declared.object_id.ObjectId.{ObjectId}
 use Rattle.gixp_graph.specs.declared.flags.Flags.{Flags}
 use Rattle.gixp_graph.specs.Object.{commit_at}
 use Rattle.gixp_graph.specs.GraphData.{GraphData, parents_in}
-use Rattle.gixp_negotiators.specs.Marks.{COMMON, COMMON_REF, SEEN, POPPED, has_all, has_mark, Grows, AddsNone, SeesNone, SettlesNone, IsMarkedIfThere, IsFoundWith, Claims, IsOffered}
+use Rattle.gixp_negotiators.specs.Marks.{COMMON, COMMON_REF, SEEN, POPPED, has_all, has_mark}
+use Rattle.gixp_negotiators.specs.AddedMarks.{Grows, AddsNone, SeesNone, MarksNoCommon}
+use Rattle.gixp_negotiators.specs.CommitMarks.{IsMarkedIfThere, IsFoundWith, Claims}
+use Rattle.gixp_negotiators.specs.Offered.{IsOffered}
 use Rattle.gixp_negotiators.specs.MarkLaws.{grows_left, claimed_left}
 use Rattle.gixp_negotiators.proofs.GrowLemmas.{grows_on}
 
@@ -38,7 +41,7 @@ claims mark g h k id flags v w f none lacks has =
 
 -- a commit that was taken is offered, also after further steps
 pub offered : (g h k : GraphData) (id : ObjectId) (flags : Flags) → Claims POPPED g h id flags → has_all COMMON flags.0 ≡ false → Grows h k
-    → SettlesNone g h → (has_all COMMON_REF flags.0 ≡ false → SettlesNone h k) → All (IsMarkedIfThere SEEN g k) (parents_in k.held id)
+    → MarksNoCommon g h → (has_all COMMON_REF flags.0 ≡ false → MarksNoCommon h k) → All (IsMarkedIfThere SEEN g k) (parents_in k.held id)
     → IsOffered g k id
 offered g h k id flags c lacks w none lone parents = record {
   read = c.read;

@@ -12,10 +12,11 @@ use Rattle.gixp_hash.specs.declared.object_id.ObjectId.{ObjectId}
 use Rattle.gixp_hash.specs.ObjectId.{id_cmp}
 use Rattle.gixp_graph.specs.GraphData.{HeldCommit, GraphData, parents_in}
 use Rattle.gixp_graph.specs.GraphLaws.{same_from}
-use Rattle.gixp_negotiators.specs.Marks.{COMMON, SEEN, POPPED, has_all, has_mark, Grows, SeesNone, SettlesOnly, PopsNone, PopsOnly}
+use Rattle.gixp_negotiators.specs.Marks.{COMMON, SEEN, POPPED, has_all, has_mark}
+use Rattle.gixp_negotiators.specs.AddedMarks.{Grows, SeesNone, MarksCommonOnly, PopsNone, PopsOnly}
 use Rattle.gixp_negotiators.specs.MarkLaws.{held_marked}
-use Rattle.gixp_negotiators.specs.Spread.{AllRead, AllHeld, IsNewlyCommon, MarksOn, MarksThrough, SettlesAmong}
-use Rattle.gixp_negotiators.specs.Waiting.{KeepsUnread}
+use Rattle.gixp_negotiators.specs.NewlyCommon.{AllRead, AllHeld, IsNewlyCommon, MarksOn, MarksThrough, MarksCommonAmong}
+use Rattle.gixp_negotiators.specs.Unread.{KeepsUnread}
 use Rattle.gixp_negotiators.proofs.GrowLemmas.{same_id}
 use Rattle.gixp_negotiators.proofs.FitLemmas.{lacked, none_held}
 
@@ -99,7 +100,7 @@ read_then us vs g h k v u all id n = (held_then us vs g h k v u all id n).0
 -- ---- marking from a commit on
 
 -- marking begins with the commit
-pub through_first : (us : BTreeSet ObjectId) (g h : GraphData) (one : ObjectId) → SettlesAmong (one ∷ []) g h → MarksThrough us g one h
+pub through_first : (us : BTreeSet ObjectId) (g h : GraphData) (one : ObjectId) → MarksCommonAmong (one ∷ []) g h → MarksThrough us g one h
 through_first us g h one among q n = ⊎_elim (λ was. absurd (true≢false (sym was ∙ n.0)))
     (λ some. ⊎_elim (λ none. absurd (no_element q none)) (λ same. subst (MarksOn us g one) same MarksOn.itself)
     (Contains-push_cases [] one q some.1)) (among q n.1)
@@ -108,31 +109,31 @@ through_first us g h one among q n = ⊎_elim (λ was. absurd (true≢false (sym
     no_element q c = absurd (omega (arith, c.1))
 
 -- a commit that became common was seen
-pub settled_seen : (g h : GraphData) (ids : List ObjectId) → SettlesAmong ids g h → (q : ObjectId) → IsNewlyCommon g h q
+pub settled_seen : (g h : GraphData) (ids : List ObjectId) → MarksCommonAmong ids g h → (q : ObjectId) → IsNewlyCommon g h q
     → has_mark SEEN g.held q ≡ true
 settled_seen g h ids among q n = ⊎_elim (λ was. absurd (true≢false (sym was ∙ n.0))) (λ some. some.0) (among q n.1)
 
 -- marking goes on to the parents of a commit that was read
 pub through_more : (us : BTreeSet ObjectId) (g h k : GraphData) (one next : ObjectId) → Grows g h → IsNewlyCommon g h next
     → contains id_cmp us next ≡ false → ((q : ObjectId) → IsNewlyCommon g h q → has_mark SEEN g.held q ≡ true)
-    → SettlesAmong (parents_in h.held next) h k → MarksThrough us g one h → MarksThrough us g one k
+    → MarksCommonAmong (parents_in h.held next) h k → MarksThrough us g one h → MarksThrough us g one k
 through_more us g h k one next v newly read seen among marks q n = ⊎_elim
     (λ was. marks q (n.0, was))
     (λ some. MarksOn.parent (marks next newly) read
     (subst (λ ids. Contains ids q) (v.parents next (held_marked g next SEEN (seen next newly))) some.1))
     (among q n.1)
 
-pub seen_more : (g h k : GraphData) (ids : List ObjectId) → SeesNone g h → SettlesAmong ids h k
+pub seen_more : (g h k : GraphData) (ids : List ObjectId) → SeesNone g h → MarksCommonAmong ids h k
     → ((q : ObjectId) → IsNewlyCommon g h q → has_mark SEEN g.held q ≡ true) → (q : ObjectId) → IsNewlyCommon g k q
     → has_mark SEEN g.held q ≡ true
 seen_more g h k ids sees among seen q n = ⊎_elim (λ was. seen q (n.0, was)) (λ some. sees q some.0) (among q n.1)
 
 -- ---- which commits of a list become common
 
-pub among_same : (ids : List ObjectId) (g : GraphData) → SettlesAmong ids g g
+pub among_same : (ids : List ObjectId) (g : GraphData) → MarksCommonAmong ids g g
 among_same ids g q m = inl m
 
-pub among_one : (one : ObjectId) (g h : GraphData) → has_mark SEEN g.held one ≡ true → SettlesOnly one g h → SettlesAmong (one ∷ []) g h
+pub among_one : (one : ObjectId) (g h : GraphData) → has_mark SEEN g.held one ≡ true → MarksCommonOnly one g h → MarksCommonAmong (one ∷ []) g h
 among_one one g h seen only q m = ⊎_elim inl
     (λ e. inr (
       subst (λ i. has_mark SEEN g.held i ≡ true) (sym (same_from q one e)) seen,
@@ -140,8 +141,8 @@ among_one one g h seen only q m = ⊎_elim inl
     ))
     (or_cases (has_mark COMMON g.held q) (eq_by_cmp id_cmp q one) (only q m))
 
-pub among_step : (ids : List ObjectId) (i : ℕ) (d : ObjectId) (g h k : GraphData) → i < length ids → SeesNone g h → SettlesAmong ids g h
-    → SettlesAmong (get_or ids i d ∷ []) h k → SettlesAmong ids g k
+pub among_step : (ids : List ObjectId) (i : ℕ) (d : ObjectId) (g h k : GraphData) → i < length ids → SeesNone g h → MarksCommonAmong ids g h
+    → MarksCommonAmong (get_or ids i d ∷ []) h k → MarksCommonAmong ids g k
 among_step ids i d g h k lt sees a b q m = ⊎_elim (λ was. a q was)
     (λ some. inr (
       sees q some.0,

@@ -6,10 +6,18 @@ use Rattle.gixp_graph.specs.GraphData.{GraphData}
 use Rattle.gixp_negotiators.specs.declared.consecutive.Consecutive.{Consecutive}
 use Rattle.gixp_negotiators.specs.declared.queue.Waiting.{Waiting}
 use Rattle.gixp_negotiators.specs.declared.skipping.Skipping.{Skipping}
-use Rattle.gixp_negotiators.specs.Marks.{COMMON, SEEN, Grows, Offers, SeesNone, SeesOnly, SettlesNone, ListsNone, ListsOnly, PopsNone, StaysIfSeen, IsMarkedIfThere, IsListedIfNew, has_mark}
-use Rattle.gixp_negotiators.specs.Spread.{is_there, was_seen, WhereNew, HasCommonParents, StaysSpread, Spreads, AllRead, AllHeld, MarksThrough, SettlesFrom, SeesCommon, SeesAmong, FindsCommon}
+use Rattle.gixp_negotiators.specs.Marks.{COMMON, SEEN, has_mark}
+use Rattle.gixp_negotiators.specs.AddedMarks.{Grows, SeesNone, SeesOnly, MarksNoCommon, ListsNone, ListsOnly, PopsNone}
+use Rattle.gixp_negotiators.specs.CommitMarks.{StaysIfSeen, IsMarkedIfThere, IsListedIfNew}
+use Rattle.gixp_negotiators.specs.Offered.{Offers}
+use Rattle.gixp_negotiators.specs.Spread.{is_there, was_seen, WhereNew, HasCommonParents, StaysSpread, Spreads}
+use Rattle.gixp_negotiators.specs.NewlyCommon.{AllRead, AllHeld, MarksThrough, MarksCommonFrom}
+use Rattle.gixp_negotiators.specs.NewlySeen.{SeesCommon, SeesAmong, FindsCommon}
 use Rattle.gixp_negotiators.specs.Passing.{Distances}
-use Rattle.gixp_negotiators.specs.Waiting.{FitsSeen, KeepsTimed, KeepsCount, Picks, EndsAtOnce, QueuesNew, PicksDated, KeepsUnread, IsUnreadIfNew}
+use Rattle.gixp_negotiators.specs.Queued.{FitsSeen, KeepsCount, EndsAtOnce}
+use Rattle.gixp_negotiators.specs.Newest.{KeepsTimed, Picks}
+use Rattle.gixp_negotiators.specs.Dated.{QueuesNew, PicksDated}
+use Rattle.gixp_negotiators.specs.Unread.{KeepsUnread, IsUnreadIfNew}
 
 -- ---- `consecutive`
 
@@ -20,6 +28,12 @@ Steps n g m h = KeepsTimed n.uncommon (heap_items n.queue.waiting) g m.uncommon 
 -- a step that takes this queued commit keeps the invariant
 abbrev pub StepsTaking : Waiting → Consecutive → GraphData → Consecutive → GraphData → Type 0
 StepsTaking first n g m h = KeepsTimed n.uncommon (first ∷ heap_items n.queue.waiting) g m.uncommon (heap_items m.queue.waiting) h
+
+-- a step that may queue commits, takes none, and marks none as a ref of the server
+pub record QueuesInTurn (n : Consecutive) (g : GraphData) (m : Consecutive) (h : GraphData) : Type 0 where
+  pub keeps : Steps n g m h
+  pub lists : ListsNone g h
+  pub pops : PopsNone g h
 
 -- `known_common`: the commit is queued, and is the only one that is newly marked as a ref of the server; its parents
 -- become common, unless it is common itself; every other commit that is queued is common; only the commit and its
@@ -32,7 +46,7 @@ pub record KnowsInTurn (n : Consecutive) (g : GraphData) (id : ObjectId) (m : Co
   pub pops : PopsNone g h
   pub parents : WhereNew g id (HasCommonParents is_there g h id)
   pub finds : SeesAmong (id ∷ []) g h
-  pub only : SettlesFrom id g h
+  pub only : MarksCommonFrom id g h
   pub spreads : StaysSpread is_there g h
   pub again : StaysIfSeen n g id m h
   pub steps : Steps n g m h
@@ -42,7 +56,7 @@ pub record AddsInTurn (n : Consecutive) (g : GraphData) (id : ObjectId) (m : Con
   pub grows : Grows g h
   pub seen : IsMarkedIfThere SEEN g h id
   pub sees : SeesOnly id g h
-  pub settles : SettlesNone g h
+  pub settles : MarksNoCommon g h
   pub unlisted : ListsNone g h
   pub pops : PopsNone g h
   pub again : StaysIfSeen n g id m h
@@ -54,7 +68,7 @@ pub record LearnsInTurn (n : Consecutive) (g : GraphData) (id : ObjectId) (m : C
   pub grows : Grows g h
   pub common : IsMarkedIfThere COMMON g h id
   pub finds : SeesCommon g h
-  pub only : SettlesFrom id g h
+  pub only : MarksCommonFrom id g h
   pub unlisted : ListsNone g h
   pub pops : PopsNone g h
   pub spreads : StaysSpread is_there g h
@@ -102,7 +116,7 @@ pub record KnowsSkipping (n : Skipping) (g : GraphData) (id : ObjectId) (m : Ski
   pub sees : SeesOnly id g h
   pub listed : IsListedIfNew g h id
   pub lists : ListsOnly id g h
-  pub settles : SettlesNone g h
+  pub settles : MarksNoCommon g h
   pub pops : PopsNone g h
   pub queues : QueuesDated n g m
   pub skips : m.skips ≡ n.skips
@@ -116,7 +130,7 @@ pub record AddsSkipping (n : Skipping) (g : GraphData) (id : ObjectId) (m : Skip
   pub grows : Grows g h
   pub seen : IsMarkedIfThere SEEN g h id
   pub sees : SeesOnly id g h
-  pub settles : SettlesNone g h
+  pub settles : MarksNoCommon g h
   pub unlisted : ListsNone g h
   pub pops : PopsNone g h
   pub queues : QueuesDated n g m

@@ -12,7 +12,8 @@ use Rattle.gixp_negotiators.specs.declared.skipping.Skip.{Skip}
 use Rattle.gixp_negotiators.specs.declared.skipping.Legacy.{Legacy}
 use Rattle.gixp_negotiators.specs.declared.skipping.Legacy.TheVariants.{Common, Skips}
 use Rattle.gixp_negotiators.specs.Distance.{distance_after, skip_of}
-use Rattle.gixp_negotiators.specs.Marks.{COMMON, COMMON_REF, POPPED, has_mark, SettlesNone}
+use Rattle.gixp_negotiators.specs.Marks.{COMMON, COMMON_REF, POPPED, has_mark}
+use Rattle.gixp_negotiators.specs.AddedMarks.{MarksNoCommon}
 
 -- the distances of commits, by id
 abbrev pub Skipped : Type 0
@@ -63,7 +64,7 @@ pub record Takes (old : Skipped) (g : GraphData) (id : ObjectId) (is_offered : B
   pub reached : is_offered ≡ true → ((skip_in old id).left ≡ 0) ⊎ AllTaken h (parents_in h.held id)
   pub passed : IsSome (commit_at g.objects id) → has_mark POPPED g.held id ≡ false → is_offered ≡ false → has_mark COMMON h.held id ≡ false
       → (0 < (skip_in old id).left) × (AllTaken h (parents_in h.held id) → ⊥)
-  pub settles : has_mark COMMON g.held id ≡ false → has_mark COMMON_REF g.held id ≡ false → SettlesNone g h
+  pub settles : has_mark COMMON g.held id ≡ false → has_mark COMMON_REF g.held id ≡ false → MarksNoCommon g h
 
 -- some commits are taken one after another, and none of them is offered
 pub data TakesUnoffered (old : Skipped) (g : GraphData) : Skipped → GraphData → Type 0 where

@@ -4,7 +4,8 @@ use Rattle.std.specs.Prelude.{Contains}
 use Rattle.std.proofs.lemmas.List.Elements.{All-contains}
 use Rattle.gixp_hash.specs.declared.object_id.ObjectId.{ObjectId}
 use Rattle.gixp_graph.specs.GraphData.{GraphData, parents_in}
-use Rattle.gixp_negotiators.specs.Marks.{COMMON, SEEN, has_mark, Grows}
+use Rattle.gixp_negotiators.specs.Marks.{COMMON, SEEN, has_mark}
+use Rattle.gixp_negotiators.specs.AddedMarks.{Grows}
 use Rattle.gixp_negotiators.specs.MarkLaws.{held_marked}
 use Rattle.gixp_negotiators.specs.Spread.{BecomesCommon, Spreads, StaysSpread, LeadsTo}
 

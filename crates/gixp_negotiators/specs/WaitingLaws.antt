@@ -3,7 +3,7 @@ use Rattle.std.proofs.Common.{◌≡◌, ◌∙◌, ◌&&◌, ℕ, false, not, c
 use Rattle.gixp_hash.specs.declared.object_id.ObjectId.{ObjectId}
 use Rattle.gixp_graph.specs.GraphData.{GraphData}
 use Rattle.gixp_negotiators.specs.Marks.{SEEN, POPPED, has_mark}
-use Rattle.gixp_negotiators.specs.Waiting.{waits_of, open_in, Fits}
+use Rattle.gixp_negotiators.specs.Queued.{waits_of, open_in, Fits}
 
 -- a negotiator without commits fits a graph in which no commit was seen or taken
 pub new_fits : (g : GraphData) → ((id : ObjectId) → has_mark SEEN g.held id ≡ false) → ((id : ObjectId) → has_mark POPPED g.held id ≡ false)

@@ -70,20 +70,9 @@ impl Negotiator for AnyNegotiator {
     ghost use Rattle.gixp_negotiators.specs.Marks.{POPPED, left};
     ghost use Rattle.gixp_negotiators.specs.Algorithm.{KnowsByKind, AddsByKind, LearnsByKind, OffersByKind};
     ghost use Rattle.gixp_negotiators.specs.AlgorithmLaws.{any_lowers, any_keeps, any_learns};
-    ghost use Rattle.gixp_graph.specs.Run.{AnyCallLeft, AnyOfferLeft};
+    ghost use Rattle.gixp_negotiators.specs.OwnCalls.{calls_of};
 
-    ghost calls = { record {
-      count = λ n g. left POPPED g;
-      failures = λ n. 0;
-      knows = KnowsByKind;
-      adds = AddsByKind;
-      learns = LearnsByKind;
-      offers = OffersByKind;
-      knowing_fails = AnyCallLeft;
-      adding_fails = AnyCallLeft;
-      learning_fails = AnyCallLeft;
-      offering_fails = AnyOfferLeft;
-    } };
+    ghost calls = { calls_of (λ n g. left POPPED g) KnowsByKind AddsByKind LearnsByKind OffersByKind };
 
     ghost reports_refusals = { true };
 

@@ -1,17 +1,24 @@
 //! Offers each commit that isn't known to be common, the newest first.
-ghost use Rattle.std.specs.Prelude.{◌≡◌, ◌≤◌, ◌<◌, ◌+◌, ◌-◌, ◌⊎◌, ◌∷◌, [], ◌||◌, length, bit_and, true, false};
-ghost use Rattle.std.specs.Prelude.{IfOk, IfErr, IfSome, IfNone, OnOk, OnSome, IsTrue, All};
-ghost use Rattle.std.specs.BinaryHeap.{heap_len, heap_items};
-ghost use Rattle.std.specs.List.Sorted.{IsPermutation};
+ghost use Rattle.std.specs.Prelude.{◌≡◌, ◌≤◌, ◌<◌, ◌+◌, ◌-◌, ◌⊎◌, ◌∷◌, [], ◌||◌, bit_and, true, false};
+ghost use Rattle.std.specs.Prelude.{IfOk, IfErr, IfSome, IfNone, OnOk, IsTrue, All};
+ghost use Rattle.std.specs.BinaryHeap.{heap_items};
 ghost use Rattle.gixp_graph.specs.GraphData.{parents_in};
-ghost use Rattle.gixp_graph.specs.Negotiation.{IsMemory, IsRefusal, TellsWhy};
-ghost use Rattle.gixp_negotiators.specs.Marks.{COMMON, COMMON_REF, SEEN, POPPED, Grows, SeesNone, SeesOnly, SettlesNone, SettlesOnly, ListsNone, ListsOnly, PopsNone, StaysIfSeen, IsOffered, IsMarkedIfThere, IsMarkedIfNew, IsListedIfNew, has_mark, has_all, left};
-ghost use Rattle.gixp_negotiators.specs.Spread.{is_there, IsKnown, WhereOpen, WhereNew, AllCommonAmong, SeesCommon, SeesAmong, OpensParents, FindsCommon, HasCommonParents, SettlesFrom, SettlesWithin, OwesAmong};
+ghost use Rattle.gixp_graph.specs.Negotiation.{IsMemory};
+ghost use Rattle.gixp_negotiators.specs.Marks.{COMMON, COMMON_REF, SEEN, POPPED, has_mark, has_all, left};
+ghost use Rattle.gixp_negotiators.specs.AddedMarks.{SeesNone, SeesOnly, MarksNoCommon, MarksCommonOnly, ListsNone, ListsOnly, PopsNone};
+ghost use Rattle.gixp_negotiators.specs.CommitMarks.{StaysIfSeen, IsMarkedIfThere, IsMarkedIfNew, IsListedIfNew};
+ghost use Rattle.gixp_negotiators.specs.Offered.{IsOffered};
+ghost use Rattle.gixp_negotiators.specs.Spread.{is_there, IsKnown, WhereOpen, WhereNew, HasCommonParents};
+ghost use Rattle.gixp_negotiators.specs.NewlyCommon.{AllCommonAmong, MarksCommonFrom, MarksCommonWithin, OwesAmong};
+ghost use Rattle.gixp_negotiators.specs.NewlySeen.{SeesCommon, SeesAmong, OpensParents, FindsCommon};
 ghost use Rattle.gixp_negotiators.specs.Spread.{KeepsSpread, SpreadsFrom, SpreadsAllFrom, StaysSpread};
-ghost use Rattle.gixp_negotiators.specs.Waiting.{Fits, AllCommon, EndsAtOnce, IsNewest, IsNewestTimed};
-ghost use Rattle.gixp_negotiators.specs.Calls.{Steps, StepsTaking};
+ghost use Rattle.gixp_negotiators.specs.Queued.{Fits, AllCommon, EndsAtOnce};
+ghost use Rattle.gixp_negotiators.specs.Newest.{IsNewestTimed};
+ghost use Rattle.gixp_negotiators.specs.LooksUpCommits.{LooksUpCommits};
+ghost use Rattle.gixp_negotiators.specs.Work.{to_take, to_mark};
+ghost use Rattle.gixp_negotiators.specs.Calls.{Steps, StepsTaking, QueuesInTurn};
 
-use crate::marks::{SEEN_COMMON, SEEN_REF, claim, either_has, has, look};
+use crate::marks::{SEEN_COMMON, SEEN_REF, claim, either_has, has, look, parents_of};
 use crate::queue::{Queue, Waiting};
 use gixp_graph::{Flags, Graph, Negotiator, NegotiatorError, Objects};
 use gixp_hash::ObjectId;
@@ -55,13 +62,11 @@ impl Consecutive {
     ) -> Result<(), NegotiatorError>
         requires { (marks.0 ≡ SEEN) ⊎ ((marks.0 ≡ SEEN + COMMON) ⊎ (marks.0 ≡ SEEN + COMMON_REF)) }
         ensures keeps { OnOk result (Steps self.old graph.old.graph self.new graph.new.graph) }
-        ensures room { OnOk result (left SEEN graph.new.graph + heap_len self.new.queue.waiting
-            ≤ left SEEN graph.old.graph + heap_len self.old.queue.waiting) }
-        ensures common { left COMMON graph.new.graph ≤ left COMMON graph.old.graph }
+        ensures room { OnOk result (to_take self.new.queue graph.new.graph ≤ to_take self.old.queue graph.old.graph) }
         ensures waits { OnOk result (IsMarkedIfThere SEEN graph.old.graph graph.new.graph id.now) }
         ensures spreads { OnOk result (StaysSpread is_there graph.old.graph graph.new.graph) }
-        ensures settles { bit_and marks.0 COMMON ≡ 0 → SettlesNone graph.old.graph graph.new.graph }
-        ensures settles_only { SettlesOnly id.now graph.old.graph graph.new.graph }
+        ensures settles { bit_and marks.0 COMMON ≡ 0 → MarksNoCommon graph.old.graph graph.new.graph }
+        ensures marks_common_only { MarksCommonOnly id.now graph.old.graph graph.new.graph }
         ensures marked { OnOk result (IsMarkedIfNew marks.0 graph.old.graph graph.new.graph id.now) }
         ensures sees_only { SeesOnly id.now graph.old.graph graph.new.graph }
         ensures finds { OnOk result (bit_and marks.0 COMMON ≡ COMMON → SeesCommon graph.old.graph graph.new.graph) }
@@ -69,11 +74,7 @@ impl Consecutive {
         ensures lists_only { OnOk result (ListsOnly id.now graph.old.graph graph.new.graph) }
         ensures pops { OnOk result (PopsNone graph.old.graph graph.new.graph) }
         ensures again { OnOk result (StaysIfSeen self.old graph.old.graph id.now self.new graph.new.graph) }
-        ensures grows { Grows graph.old.graph graph.new.graph }
-        ensures failures { graph.old.failures ≤ graph.new.failures }
-        ensures failed { IfErr result (IsRefusal 0 0 graph.old.failures graph.new.failures) }
-        ensures unrefused { OnOk result (graph.new.refusals ≡ graph.old.refusals) }
-        ensures refused { IfErr result (λ e. TellsWhy e graph.old.refusals graph.new.refusals) }
+        ensures looks { LooksUpCommits graph.old graph.new result }
     {
         let Some((time, flags)) = claim(graph, id, Flags::SEEN, marks)? else {
             return Ok(());
@@ -113,28 +114,20 @@ impl Consecutive {
     }
 
     // Marks a commit as common. Returns false where it isn't found or was common before.
-    fn settle<O: Objects>(
+    fn make_common<O: Objects>(
         &mut self,
         graph: &mut Graph<O>,
         id: &ObjectId,
     ) -> Result<bool, NegotiatorError>
-        ensures keeps { OnOk result (Steps self.old graph.old.graph self.new graph.new.graph) }
+        ensures steps { OnOk result (QueuesInTurn self.old graph.old.graph self.new graph.new.graph) }
         ensures less { IfOk result (λ done. IsTrue done → left COMMON graph.new.graph + 1 ≤ left COMMON graph.old.graph) }
-        ensures common { left COMMON graph.new.graph ≤ left COMMON graph.old.graph }
         ensures marked { OnOk result (IsMarkedIfThere COMMON graph.old.graph graph.new.graph id.now) }
-        ensures seen { left SEEN graph.new.graph ≤ left SEEN graph.old.graph }
         ensures queue { self.new.queue ≡ self.old.queue }
-        ensures kept { IfOk result (λ done. done ≡ false → SettlesNone graph.old.graph graph.new.graph) }
-        ensures settles_only { SettlesOnly id.now graph.old.graph graph.new.graph }
+        ensures kept { IfOk result (λ done. done ≡ false → MarksNoCommon graph.old.graph graph.new.graph) }
+        ensures marks_common_only { MarksCommonOnly id.now graph.old.graph graph.new.graph }
         ensures sees { SeesNone graph.old.graph graph.new.graph }
         ensures settled { IfOk result (λ done. IsTrue done → has_mark COMMON graph.new.graph.held id.now ≡ true) }
-        ensures lists { OnOk result (ListsNone graph.old.graph graph.new.graph) }
-        ensures pops { OnOk result (PopsNone graph.old.graph graph.new.graph) }
-        ensures grows { Grows graph.old.graph graph.new.graph }
-        ensures failures { graph.old.failures ≤ graph.new.failures }
-        ensures failed { IfErr result (IsRefusal 0 0 graph.old.failures graph.new.failures) }
-        ensures unrefused { OnOk result (graph.new.refusals ≡ graph.old.refusals) }
-        ensures refused { IfErr result (λ e. TellsWhy e graph.old.refusals graph.new.refusals) }
+        ensures looks { LooksUpCommits graph.old graph.new result }
     {
         let Some((_, flags)) = claim(graph, id, Flags::COMMON, Flags::COMMON)? else {
             return Ok(false);
@@ -151,40 +144,21 @@ impl Consecutive {
         id: &ObjectId,
         due: &mut Vec<ObjectId>,
     ) -> Result<(), NegotiatorError>
-        ensures keeps { OnOk result (Steps self.old graph.old.graph self.new graph.new.graph) }
-        ensures less { OnOk result (left COMMON graph.new.graph + length due.new.items
-            ≤ left COMMON graph.old.graph + length due.old.items) }
-        ensures seen { left SEEN graph.new.graph ≤ left SEEN graph.old.graph }
+        ensures steps { OnOk result (QueuesInTurn self.old graph.old.graph self.new graph.new.graph) }
+        ensures less { OnOk result (to_mark due.new.items graph.new.graph ≤ to_mark due.old.items graph.old.graph) }
         ensures queue { self.new.queue ≡ self.old.queue }
         ensures spreads { OnOk result (KeepsSpread is_there due.old.items graph.old.graph due.new.items graph.new.graph) }
         ensures marked { OnOk result (IsMarkedIfThere COMMON graph.old.graph graph.new.graph id.now) }
         ensures sees { SeesNone graph.old.graph graph.new.graph }
         ensures common { OnOk result (AllCommonAmong graph.old.graph due.old.items → AllCommonAmong graph.new.graph due.new.items) }
-        ensures lists { OnOk result (ListsNone graph.old.graph graph.new.graph) }
-        ensures pops { OnOk result (PopsNone graph.old.graph graph.new.graph) }
-        ensures settles_only { SettlesOnly id.now graph.old.graph graph.new.graph }
+        ensures marks_common_only { MarksCommonOnly id.now graph.old.graph graph.new.graph }
         ensures owes { OnOk result (OwesAmong (id.now ∷ []) due.old.items due.new.items) }
-        ensures grows { Grows graph.old.graph graph.new.graph }
-        ensures failures { graph.old.failures ≤ graph.new.failures }
-        ensures failed { IfErr result (IsRefusal 0 0 graph.old.failures graph.new.failures) }
-        ensures unrefused { OnOk result (graph.new.refusals ≡ graph.old.refusals) }
-        ensures refused { IfErr result (λ e. TellsWhy e graph.old.refusals graph.new.refusals) }
+        ensures looks { LooksUpCommits graph.old graph.new result }
     {
-        if !self.settle(graph, id)? {
+        if !self.make_common(graph, id)? {
             return Ok(());
         }
         Ok(due.push(*id)?)
-    }
-
-    fn parents_of<O: Objects>(
-        &self,
-        graph: &Graph<O>,
-        id: &ObjectId,
-    ) -> Result<Vec<ObjectId>, NegotiatorError>
-        ensures parents { IfOk result (λ parents. parents.items ≡ parents_in graph.now.graph.held id.now) }
-        ensures failed { IfErr result IsMemory }
-    {
-        Ok(graph.parents(self.alloc, id)?)
     }
 
     // Marks some commits as common, and makes those due that weren't common before.
@@ -194,24 +168,16 @@ impl Consecutive {
         ids: &[ObjectId],
         due: &mut Vec<ObjectId>,
     ) -> Result<(), NegotiatorError>
-        ensures keeps { OnOk result (Steps self.old graph.old.graph self.new graph.new.graph) }
-        ensures less { OnOk result (left COMMON graph.new.graph + length due.new.items
-            ≤ left COMMON graph.old.graph + length due.old.items) }
-        ensures seen { left SEEN graph.new.graph ≤ left SEEN graph.old.graph }
+        ensures steps { OnOk result (QueuesInTurn self.old graph.old.graph self.new graph.new.graph) }
+        ensures less { OnOk result (to_mark due.new.items graph.new.graph ≤ to_mark due.old.items graph.old.graph) }
         ensures queue { self.new.queue ≡ self.old.queue }
         ensures spreads { OnOk result (KeepsSpread is_there due.old.items graph.old.graph due.new.items graph.new.graph) }
         ensures marked { OnOk result (All (IsMarkedIfThere COMMON graph.old.graph graph.new.graph) ids.now) }
         ensures sees { SeesNone graph.old.graph graph.new.graph }
         ensures common { OnOk result (AllCommonAmong graph.old.graph due.old.items → AllCommonAmong graph.new.graph due.new.items) }
-        ensures lists { OnOk result (ListsNone graph.old.graph graph.new.graph) }
-        ensures pops { OnOk result (PopsNone graph.old.graph graph.new.graph) }
-        ensures among { OnOk result (SettlesWithin ids.now graph.old.graph graph.new.graph) }
+        ensures among { OnOk result (MarksCommonWithin ids.now graph.old.graph graph.new.graph) }
         ensures owes { OnOk result (OwesAmong ids.now due.old.items due.new.items) }
-        ensures grows { Grows graph.old.graph graph.new.graph }
-        ensures failures { graph.old.failures ≤ graph.new.failures }
-        ensures failed { IfErr result (IsRefusal 0 0 graph.old.failures graph.new.failures) }
-        ensures unrefused { OnOk result (graph.new.refusals ≡ graph.old.refusals) }
-        ensures refused { IfErr result (λ e. TellsWhy e graph.old.refusals graph.new.refusals) }
+        ensures looks { LooksUpCommits graph.old graph.new result }
     {
         for id in ids {
             self.reach(graph, id, due)?;
@@ -226,25 +192,17 @@ impl Consecutive {
         id: &ObjectId,
         due: &mut Vec<ObjectId>,
     ) -> Result<(), NegotiatorError>
-        ensures keeps { OnOk result (Steps self.old graph.old.graph self.new graph.new.graph) }
-        ensures less { OnOk result (left COMMON graph.new.graph + length due.new.items
-            ≤ left COMMON graph.old.graph + length due.old.items) }
-        ensures room { OnOk result (left SEEN graph.new.graph + heap_len self.new.queue.waiting
-            ≤ left SEEN graph.old.graph + heap_len self.old.queue.waiting) }
+        ensures steps { OnOk result (QueuesInTurn self.old graph.old.graph self.new graph.new.graph) }
+        ensures less { OnOk result (to_mark due.new.items graph.new.graph ≤ to_mark due.old.items graph.old.graph) }
+        ensures room { OnOk result (to_take self.new.queue graph.new.graph ≤ to_take self.old.queue graph.old.graph) }
         ensures spreads { OnOk result (SpreadsFrom is_there id.now due.old.items graph.old.graph due.new.items graph.new.graph) }
         ensures ancestors { OnOk result (has_mark SEEN graph.old.graph.held id.now ≡ true
             → HasCommonParents is_there graph.old.graph graph.new.graph id.now) }
         ensures finds { OnOk result (IsKnown graph.old.graph id.now → SeesCommon graph.old.graph graph.new.graph) }
         ensures common { OnOk result (AllCommonAmong graph.old.graph due.old.items → AllCommonAmong graph.new.graph due.new.items) }
-        ensures lists { OnOk result (ListsNone graph.old.graph graph.new.graph) }
-        ensures pops { OnOk result (PopsNone graph.old.graph graph.new.graph) }
-        ensures among { OnOk result (SettlesWithin (parents_in graph.new.graph.held id.now) graph.old.graph graph.new.graph) }
+        ensures among { OnOk result (MarksCommonWithin (parents_in graph.new.graph.held id.now) graph.old.graph graph.new.graph) }
         ensures owes { OnOk result (OwesAmong (parents_in graph.new.graph.held id.now) due.old.items due.new.items) }
-        ensures grows { Grows graph.old.graph graph.new.graph }
-        ensures failures { graph.old.failures ≤ graph.new.failures }
-        ensures failed { IfErr result (IsRefusal 0 0 graph.old.failures graph.new.failures) }
-        ensures unrefused { OnOk result (graph.new.refusals ≡ graph.old.refusals) }
-        ensures refused { IfErr result (λ e. TellsWhy e graph.old.refusals graph.new.refusals) }
+        ensures looks { LooksUpCommits graph.old graph.new result }
     {
         let Some((_, flags)) = look(graph, id)? else {
             return Ok(());
@@ -253,7 +211,7 @@ impl Consecutive {
             self.push(graph, id, Flags::SEEN)?;
             return Ok(());
         }
-        let parents = self.parents_of(graph, id)?;
+        let parents = parents_of(graph, self.alloc, id)?;
         self.reach_all(graph, &parents, due)?;
         Ok(())
     }
@@ -264,21 +222,14 @@ impl Consecutive {
         graph: &mut Graph<O>,
         id: &ObjectId,
     ) -> Result<(), NegotiatorError>
-        ensures keeps { OnOk result (Steps self.old graph.old.graph self.new graph.new.graph) }
-        ensures room { OnOk result (left SEEN graph.new.graph + heap_len self.new.queue.waiting
-            ≤ left SEEN graph.old.graph + heap_len self.old.queue.waiting) }
+        ensures steps { OnOk result (QueuesInTurn self.old graph.old.graph self.new graph.new.graph) }
+        ensures room { OnOk result (to_take self.new.queue graph.new.graph ≤ to_take self.old.queue graph.old.graph) }
         ensures spreads { OnOk result (SpreadsAllFrom is_there id.now graph.old.graph graph.new.graph) }
         ensures ancestors { OnOk result (has_mark SEEN graph.old.graph.held id.now ≡ true
             → HasCommonParents is_there graph.old.graph graph.new.graph id.now) }
         ensures finds { OnOk result (IsKnown graph.old.graph id.now → SeesCommon graph.old.graph graph.new.graph) }
-        ensures lists { OnOk result (ListsNone graph.old.graph graph.new.graph) }
-        ensures pops { OnOk result (PopsNone graph.old.graph graph.new.graph) }
-        ensures only { OnOk result (SettlesFrom id.now graph.old.graph graph.new.graph) }
-        ensures grows { Grows graph.old.graph graph.new.graph }
-        ensures failures { graph.old.failures ≤ graph.new.failures }
-        ensures failed { IfErr result (IsRefusal 0 0 graph.old.failures graph.new.failures) }
-        ensures unrefused { OnOk result (graph.new.refusals ≡ graph.old.refusals) }
-        ensures refused { IfErr result (λ e. TellsWhy e graph.old.refusals graph.new.refusals) }
+        ensures only { OnOk result (MarksCommonFrom id.now graph.old.graph graph.new.graph) }
+        ensures looks { LooksUpCommits graph.old graph.new result }
     {
         let mut due = Vec::new(self.alloc);
         self.spread(graph, id, &mut due)?;
@@ -294,21 +245,14 @@ impl Consecutive {
         graph: &mut Graph<O>,
         id: &ObjectId,
     ) -> Result<(), NegotiatorError>
-        ensures keeps { OnOk result (Steps self.old graph.old.graph self.new graph.new.graph) }
-        ensures room { OnOk result (left SEEN graph.new.graph + heap_len self.new.queue.waiting
-            ≤ left SEEN graph.old.graph + heap_len self.old.queue.waiting) }
+        ensures steps { OnOk result (QueuesInTurn self.old graph.old.graph self.new graph.new.graph) }
+        ensures room { OnOk result (to_take self.new.queue graph.new.graph ≤ to_take self.old.queue graph.old.graph) }
         ensures spreads { OnOk result (StaysSpread is_there graph.old.graph graph.new.graph) }
         ensures ancestors { OnOk result (WhereOpen graph.old.graph id.now
             (HasCommonParents is_there graph.old.graph graph.new.graph id.now)) }
         ensures finds { OnOk result (IsKnown graph.old.graph id.now → SeesCommon graph.old.graph graph.new.graph) }
-        ensures lists { OnOk result (ListsNone graph.old.graph graph.new.graph) }
-        ensures pops { OnOk result (PopsNone graph.old.graph graph.new.graph) }
-        ensures only { OnOk result (SettlesFrom id.now graph.old.graph graph.new.graph) }
-        ensures grows { Grows graph.old.graph graph.new.graph }
-        ensures failures { graph.old.failures ≤ graph.new.failures }
-        ensures failed { IfErr result (IsRefusal 0 0 graph.old.failures graph.new.failures) }
-        ensures unrefused { OnOk result (graph.new.refusals ≡ graph.old.refusals) }
-        ensures refused { IfErr result (λ e. TellsWhy e graph.old.refusals graph.new.refusals) }
+        ensures only { OnOk result (MarksCommonFrom id.now graph.old.graph graph.new.graph) }
+        ensures looks { LooksUpCommits graph.old graph.new result }
     {
         let Some((_, flags)) = look(graph, id)? else {
             return Ok(());
@@ -326,20 +270,14 @@ impl Consecutive {
         graph: &mut Graph<O>,
         id: &ObjectId,
     ) -> Result<(), NegotiatorError>
-        ensures keeps { OnOk result (Steps self.old graph.old.graph self.new graph.new.graph) }
+        ensures steps { OnOk result (QueuesInTurn self.old graph.old.graph self.new graph.new.graph) }
         ensures spreads { OnOk result (StaysSpread is_there graph.old.graph graph.new.graph) }
-        ensures lists { OnOk result (ListsNone graph.old.graph graph.new.graph) }
-        ensures pops { OnOk result (PopsNone graph.old.graph graph.new.graph) }
         ensures finds { OnOk result (SeesCommon graph.old.graph graph.new.graph) }
-        ensures only { OnOk result (SettlesFrom id.now graph.old.graph graph.new.graph) }
-        ensures grows { Grows graph.old.graph graph.new.graph }
+        ensures only { OnOk result (MarksCommonFrom id.now graph.old.graph graph.new.graph) }
         ensures common { OnOk result (IsMarkedIfThere COMMON graph.old.graph graph.new.graph id.now) }
-        ensures failures { graph.old.failures ≤ graph.new.failures }
-        ensures failed { IfErr result (IsRefusal 0 0 graph.old.failures graph.new.failures) }
-        ensures unrefused { OnOk result (graph.new.refusals ≡ graph.old.refusals) }
-        ensures refused { IfErr result (λ e. TellsWhy e graph.old.refusals graph.new.refusals) }
+        ensures looks { LooksUpCommits graph.old graph.new result }
     {
-        if !self.settle(graph, id)? {
+        if !self.make_common(graph, id)? {
             return Ok(());
         }
         self.spread_all(graph, id)?;
@@ -353,21 +291,14 @@ impl Consecutive {
         parent: &ObjectId,
         is_common: bool,
     ) -> Result<(), NegotiatorError>
-        ensures keeps { OnOk result (Steps self.old graph.old.graph self.new graph.new.graph) }
-        ensures room { OnOk result (left SEEN graph.new.graph + heap_len self.new.queue.waiting
-            ≤ left SEEN graph.old.graph + heap_len self.old.queue.waiting) }
+        ensures steps { OnOk result (QueuesInTurn self.old graph.old.graph self.new graph.new.graph) }
+        ensures room { OnOk result (to_take self.new.queue graph.new.graph ≤ to_take self.old.queue graph.old.graph) }
         ensures waits { OnOk result (IsMarkedIfThere SEEN graph.old.graph graph.new.graph parent.now) }
         ensures spreads { OnOk result (StaysSpread is_there graph.old.graph graph.new.graph) }
         ensures finds { IsTrue is_common → OnOk result (SeesCommon graph.old.graph graph.new.graph) }
         ensures others { is_common ≡ false → OnOk result (SeesOnly parent.now graph.old.graph graph.new.graph) }
-        ensures lists { OnOk result (ListsNone graph.old.graph graph.new.graph) }
-        ensures pops { OnOk result (PopsNone graph.old.graph graph.new.graph) }
-        ensures settles { is_common ≡ false → OnOk result (SettlesNone graph.old.graph graph.new.graph) }
-        ensures grows { Grows graph.old.graph graph.new.graph }
-        ensures failures { graph.old.failures ≤ graph.new.failures }
-        ensures failed { IfErr result (IsRefusal 0 0 graph.old.failures graph.new.failures) }
-        ensures unrefused { OnOk result (graph.new.refusals ≡ graph.old.refusals) }
-        ensures refused { IfErr result (λ e. TellsWhy e graph.old.refusals graph.new.refusals) }
+        ensures settles { is_common ≡ false → OnOk result (MarksNoCommon graph.old.graph graph.new.graph) }
+        ensures looks { LooksUpCommits graph.old graph.new result }
     {
         if is_common {
             self.push(graph, parent, SEEN_COMMON)?;
@@ -385,21 +316,14 @@ impl Consecutive {
         parents: &[ObjectId],
         is_common: bool,
     ) -> Result<(), NegotiatorError>
-        ensures keeps { OnOk result (Steps self.old graph.old.graph self.new graph.new.graph) }
-        ensures room { OnOk result (left SEEN graph.new.graph + heap_len self.new.queue.waiting
-            ≤ left SEEN graph.old.graph + heap_len self.old.queue.waiting) }
+        ensures steps { OnOk result (QueuesInTurn self.old graph.old.graph self.new graph.new.graph) }
+        ensures room { OnOk result (to_take self.new.queue graph.new.graph ≤ to_take self.old.queue graph.old.graph) }
         ensures waits { OnOk result (All (IsMarkedIfThere SEEN graph.old.graph graph.new.graph) parents.now) }
         ensures spreads { OnOk result (StaysSpread is_there graph.old.graph graph.new.graph) }
         ensures finds { IsTrue is_common → OnOk result (SeesCommon graph.old.graph graph.new.graph) }
         ensures others { is_common ≡ false → OnOk result (SeesAmong parents.now graph.old.graph graph.new.graph) }
-        ensures lists { OnOk result (ListsNone graph.old.graph graph.new.graph) }
-        ensures pops { OnOk result (PopsNone graph.old.graph graph.new.graph) }
-        ensures settles { is_common ≡ false → OnOk result (SettlesNone graph.old.graph graph.new.graph) }
-        ensures grows { Grows graph.old.graph graph.new.graph }
-        ensures failures { graph.old.failures ≤ graph.new.failures }
-        ensures failed { IfErr result (IsRefusal 0 0 graph.old.failures graph.new.failures) }
-        ensures unrefused { OnOk result (graph.new.refusals ≡ graph.old.refusals) }
-        ensures refused { IfErr result (λ e. TellsWhy e graph.old.refusals graph.new.refusals) }
+        ensures settles { is_common ≡ false → OnOk result (MarksNoCommon graph.old.graph graph.new.graph) }
+        ensures looks { LooksUpCommits graph.old graph.new result }
     {
         for parent in parents {
             self.follow(graph, parent, is_common)?;
@@ -426,17 +350,12 @@ impl Consecutive {
     ) -> Result<bool, NegotiatorError>
         ensures keeps { OnOk result (StepsTaking first.now self.old graph.old.graph self.new graph.new.graph) }
         ensures offered { IfOk result (λ offered. IsTrue offered → IsOffered graph.old.graph graph.new.graph first.now.id) }
-        ensures room { OnOk result (left SEEN graph.new.graph + heap_len self.new.queue.waiting
-            ≤ left SEEN graph.old.graph + heap_len self.old.queue.waiting) }
+        ensures room { OnOk result (to_take self.new.queue graph.new.graph ≤ to_take self.old.queue graph.old.graph) }
         ensures spreads { OnOk result (StaysSpread is_there graph.old.graph graph.new.graph) }
         ensures passes { IfOk result (λ offered. offered ≡ false → SeesCommon graph.old.graph graph.new.graph) }
         ensures opens { IfOk result (λ offered. IsTrue offered → OpensParents graph.old.graph first.now.id graph.new.graph) }
         ensures lists { OnOk result (ListsNone graph.old.graph graph.new.graph) }
-        ensures grows { Grows graph.old.graph graph.new.graph }
-        ensures failures { graph.old.failures ≤ graph.new.failures }
-        ensures failed { IfErr result (IsRefusal 0 0 graph.old.failures graph.new.failures) }
-        ensures unrefused { OnOk result (graph.new.refusals ≡ graph.old.refusals) }
-        ensures refused { IfErr result (λ e. TellsWhy e graph.old.refusals graph.new.refusals) }
+        ensures looks { LooksUpCommits graph.old graph.new result }
     {
         let Some((_, flags)) = claim(graph, &first.id, Flags::POPPED, Flags::POPPED)? else {
             return Ok(false);
@@ -444,26 +363,9 @@ impl Consecutive {
         let is_common = has(flags, Flags::COMMON);
         self.release(is_common);
         let spreads = is_shared(flags);
-        let parents = self.parents_of(graph, &first.id)?;
+        let parents = parents_of(graph, self.alloc, &first.id)?;
         self.follow_all(graph, &parents, spreads)?;
         Ok(!is_common)
-    }
-
-    // Takes the next commit from the queue, unless all are common.
-    fn pop(&mut self) -> Option<Waiting>
-        ensures some { OnSome result (heap_len self.new.queue.waiting + 1 ≡ heap_len self.old.queue.waiting) }
-        ensures open { OnSome result (0 < self.old.uncommon) }
-        ensures taken { IfSome result (λ first. IsPermutation (heap_items self.old.queue.waiting)
-            (first ∷ heap_items self.new.queue.waiting)) }
-        ensures newest { IfSome result (IsNewest (heap_items self.new.queue.waiting)) }
-        ensures none { IfNone result ((self.old.uncommon ≡ 0) ⊎ (heap_items self.old.queue.waiting ≡ [])) }
-        ensures stays { IfNone result (heap_items self.new.queue.waiting ≡ heap_items self.old.queue.waiting) }
-        ensures uncommon { self.new.uncommon ≡ self.old.uncommon }
-    {
-        if self.uncommon == 0 {
-            return None;
-        }
-        self.queue.pop()
     }
 
     // The next commit to offer.
@@ -482,13 +384,9 @@ impl Consecutive {
         ensures lists { OnOk result (ListsNone graph.old.graph graph.new.graph) }
         ensures ends { IfOk result (λ have. EndsAtOnce self.old.uncommon (heap_items self.old.queue.waiting)
             graph.old.graph have graph.new.graph) }
-        ensures grows { Grows graph.old.graph graph.new.graph }
-        ensures failures { graph.old.failures ≤ graph.new.failures }
-        ensures failed { IfErr result (IsRefusal 0 0 graph.old.failures graph.new.failures) }
-        ensures unrefused { OnOk result (graph.new.refusals ≡ graph.old.refusals) }
-        ensures refused { IfErr result (λ e. TellsWhy e graph.old.refusals graph.new.refusals) }
+        ensures looks { LooksUpCommits graph.old graph.new result }
     {
-        while let Some(first) = self.pop() {
+        while let Some(first) = self.queue.pop_unless_all_common(self.uncommon) {
             if self.take(graph, &first)? {
                 return Ok(Some(first.id));
             }
@@ -512,12 +410,8 @@ impl Consecutive {
         ensures pops { OnOk result (PopsNone graph.old.graph graph.new.graph) }
         ensures finds { OnOk result (SeesAmong (id.now ∷ []) graph.old.graph graph.new.graph) }
         ensures again { OnOk result (StaysIfSeen self.old graph.old.graph id.now self.new graph.new.graph) }
-        ensures only { OnOk result (SettlesFrom id.now graph.old.graph graph.new.graph) }
-        ensures grows { Grows graph.old.graph graph.new.graph }
-        ensures failures { graph.old.failures ≤ graph.new.failures }
-        ensures failed { IfErr result (IsRefusal 0 0 graph.old.failures graph.new.failures) }
-        ensures unrefused { OnOk result (graph.new.refusals ≡ graph.old.refusals) }
-        ensures refused { IfErr result (λ e. TellsWhy e graph.old.refusals graph.new.refusals) }
+        ensures only { OnOk result (MarksCommonFrom id.now graph.old.graph graph.new.graph) }
+        ensures looks { LooksUpCommits graph.old graph.new result }
     {
         let Some((_, flags)) = look(graph, id)? else {
             return Ok(());
@@ -545,20 +439,9 @@ impl Negotiator for Consecutive {
     ghost use Rattle.gixp_negotiators.specs.MarkLaws.{offer_lowers, grows_left};
     ghost use Rattle.gixp_negotiators.specs.Marks.{POPPED, left};
     ghost use Rattle.gixp_negotiators.specs.Calls.{KnowsInTurn, AddsInTurn, LearnsInTurn, OffersInTurn};
-    ghost use Rattle.gixp_graph.specs.Run.{AnyCallLeft, AnyOfferLeft};
+    ghost use Rattle.gixp_negotiators.specs.OwnCalls.{calls_of};
 
-    ghost calls = { record {
-      count = λ n g. left POPPED g;
-      failures = λ n. 0;
-      knows = KnowsInTurn;
-      adds = AddsInTurn;
-      learns = LearnsInTurn;
-      offers = OffersInTurn;
-      knowing_fails = AnyCallLeft;
-      adding_fails = AnyCallLeft;
-      learning_fails = AnyCallLeft;
-      offering_fails = AnyOfferLeft;
-    } };
+    ghost calls = { calls_of (λ n g. left POPPED g) KnowsInTurn AddsInTurn LearnsInTurn OffersInTurn };
 
     ghost reports_refusals = { true };
 

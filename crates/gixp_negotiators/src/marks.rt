@@ -1,12 +1,17 @@
 //! Marks of commits.
-ghost use Rattle.std.specs.Prelude.{◌≡◌, ℕ, ◌≤◌, ◌==◌, ◌||◌, IsTrue, IfOk, IfErr, IfSome, IfNone, OnOk, IsSome, Some, None, bit_and, true, false};
+ghost use Rattle.std.specs.Prelude.{◌≡◌, ℕ, ◌≤◌, ◌==◌, ◌||◌, IsTrue, IfOk, IfErr, IfSome, IfNone, IsSome, Some, None, bit_and, true, false};
 ghost use Rattle.std.specs.FinMap as finite;
 ghost use Rattle.gixp_graph.specs.Object.{commit_at, time_at};
-ghost use Rattle.gixp_graph.specs.Negotiation.{IsRefusal, TellsWhy};
-ghost use Rattle.gixp_negotiators.specs.Marks.{COMMON, COMMON_REF, SEEN, POPPED, Grows, Claims, IsFoundWith, IsMarkedIfThere, IsMarkedIfSeen, AddsNone, SeesNone, SeesOnly, SettlesNone, SettlesOnly, ListsNone, ListsOnly, PopsNone, PopsOnly, has_mark, has_all, left};
+ghost use Rattle.gixp_graph.specs.GraphData.{parents_in};
+ghost use Rattle.gixp_graph.specs.Negotiation.{IsMemory};
+ghost use Rattle.gixp_negotiators.specs.LooksUpCommits.{LooksUpCommits};
+ghost use Rattle.gixp_negotiators.specs.Marks.{COMMON, COMMON_REF, SEEN, POPPED, has_mark, has_all, left};
+ghost use Rattle.gixp_negotiators.specs.AddedMarks.{Grows, AddsNone, SeesNone, SeesOnly, MarksNoCommon, MarksCommonOnly, ListsNone, ListsOnly, PopsNone, PopsOnly};
+ghost use Rattle.gixp_negotiators.specs.CommitMarks.{Claims, IsFoundWith, IsMarkedIfThere, IsMarkedIfSeen};
 
 use gixp_graph::{Flags, Graph, NegotiatorError, Objects};
 use gixp_hash::ObjectId;
+use std::alloc::Global;
 
 /// The marks of a queued common commit.
 pub(crate) const SEEN_COMMON: Flags = Flags(Flags::SEEN.0 | Flags::COMMON.0);
@@ -41,18 +46,12 @@ pub(crate) fn look<O: Objects>(
     ensures none { IfOk result (λ found. IfNone found (commit_at graph.old.graph.objects id.now ≡ None)) }
     ensures absent { IfOk result (λ found. IfNone found (has_mark SEEN graph.new.graph.held id.now ≡ false)) }
     ensures sees { SeesNone graph.old.graph graph.new.graph }
-    ensures settles { SettlesNone graph.old.graph graph.new.graph }
+    ensures settles { MarksNoCommon graph.old.graph graph.new.graph }
     ensures lists { ListsNone graph.old.graph graph.new.graph }
     ensures pops { PopsNone graph.old.graph graph.new.graph }
     ensures marks { (mark : ℕ) → has_all mark 0 ≡ false → AddsNone mark graph.old.graph graph.new.graph }
     ensures held { IsSome (finite.get graph.old.graph.held id.now) → graph.new.graph ≡ graph.old.graph }
-    ensures grows { Grows graph.old.graph graph.new.graph }
-    ensures seen { left SEEN graph.new.graph ≤ left SEEN graph.old.graph }
-    ensures common { left COMMON graph.new.graph ≤ left COMMON graph.old.graph }
-    ensures failures { graph.old.failures ≤ graph.new.failures }
-    ensures failed { IfErr result (IsRefusal 0 0 graph.old.failures graph.new.failures) }
-    ensures unrefused { OnOk result (graph.new.refusals ≡ graph.old.refusals) }
-    ensures refused { IfErr result (λ e. TellsWhy e graph.old.refusals graph.new.refusals) }
+    ensures looks { LooksUpCommits graph.old graph.new result }
 {
     Ok(graph.lookup(id)?)
 }
@@ -63,8 +62,8 @@ pub(crate) fn add<O: Objects>(graph: &mut Graph<O>, id: &ObjectId, marks: Flags)
     ensures grows { Grows graph.old.graph graph.new.graph }
     ensures sees { bit_and marks.0 SEEN ≡ 0 → SeesNone graph.old.graph graph.new.graph }
     ensures sees_only { SeesOnly id.now graph.old.graph graph.new.graph }
-    ensures settles { bit_and marks.0 COMMON ≡ 0 → SettlesNone graph.old.graph graph.new.graph }
-    ensures settles_only { SettlesOnly id.now graph.old.graph graph.new.graph }
+    ensures settles { bit_and marks.0 COMMON ≡ 0 → MarksNoCommon graph.old.graph graph.new.graph }
+    ensures marks_common_only { MarksCommonOnly id.now graph.old.graph graph.new.graph }
     ensures lists { bit_and marks.0 COMMON_REF ≡ 0 → ListsNone graph.old.graph graph.new.graph }
     ensures lists_only { ListsOnly id.now graph.old.graph graph.new.graph }
     ensures pops { bit_and marks.0 POPPED ≡ 0 → PopsNone graph.old.graph graph.new.graph }
@@ -95,7 +94,7 @@ pub(crate) fn claim<O: Objects>(
     // Where nothing was added, the commit wasn't seen, or had the mark.
     ensures absent { IfOk result (λ found. IfNone found (SeesNone graph.old.graph graph.new.graph
         × IsMarkedIfSeen mark.0 graph.new.graph id.now)) }
-    ensures kept { IfOk result (λ found. IfNone found (SettlesNone graph.old.graph graph.new.graph)) }
+    ensures kept { IfOk result (λ found. IfNone found (MarksNoCommon graph.old.graph graph.new.graph)) }
     ensures unlisted { IfOk result (λ found. IfNone found (ListsNone graph.old.graph graph.new.graph)) }
     ensures unpopped { IfOk result (λ found. IfNone found (PopsNone graph.old.graph graph.new.graph)) }
     ensures again { IfOk result (λ found. IfNone found
@@ -104,19 +103,13 @@ pub(crate) fn claim<O: Objects>(
         (λ found. IfNone found (IsSome (commit_at graph.old.graph.objects id.now) → has_mark POPPED graph.old.graph.held id.now ≡ true)) }
     ensures sees { bit_and marks.0 SEEN ≡ 0 → SeesNone graph.old.graph graph.new.graph }
     ensures sees_only { SeesOnly id.now graph.old.graph graph.new.graph }
-    ensures settles { bit_and marks.0 COMMON ≡ 0 → SettlesNone graph.old.graph graph.new.graph }
-    ensures settles_only { SettlesOnly id.now graph.old.graph graph.new.graph }
+    ensures settles { bit_and marks.0 COMMON ≡ 0 → MarksNoCommon graph.old.graph graph.new.graph }
+    ensures marks_common_only { MarksCommonOnly id.now graph.old.graph graph.new.graph }
     ensures lists { bit_and marks.0 COMMON_REF ≡ 0 → ListsNone graph.old.graph graph.new.graph }
     ensures lists_only { ListsOnly id.now graph.old.graph graph.new.graph }
     ensures pops { bit_and marks.0 POPPED ≡ 0 → PopsNone graph.old.graph graph.new.graph }
     ensures pops_only { PopsOnly id.now graph.old.graph graph.new.graph }
-    ensures grows { Grows graph.old.graph graph.new.graph }
-    ensures seen { left SEEN graph.new.graph ≤ left SEEN graph.old.graph }
-    ensures common { left COMMON graph.new.graph ≤ left COMMON graph.old.graph }
-    ensures failures { graph.old.failures ≤ graph.new.failures }
-    ensures failed { IfErr result (IsRefusal 0 0 graph.old.failures graph.new.failures) }
-    ensures unrefused { OnOk result (graph.new.refusals ≡ graph.old.refusals) }
-    ensures refused { IfErr result (λ e. TellsWhy e graph.old.refusals graph.new.refusals) }
+    ensures looks { LooksUpCommits graph.old graph.new result }
 {
     let Some((time, flags)) = look(graph, id)? else {
         return Ok(None);
@@ -137,4 +130,16 @@ pub(crate) fn is_marked<O: Objects>(graph: &Graph<O>, id: &ObjectId, marks: Flag
         Some((_, flags)) => has(flags, marks),
         None => false,
     }
+}
+
+/// The parents of a held commit.
+pub(crate) fn parents_of<O: Objects>(
+    graph: &Graph<O>,
+    alloc: Global,
+    id: &ObjectId,
+) -> Result<Vec<ObjectId>, NegotiatorError>
+    ensures parents { IfOk result (λ parents. parents.items ≡ parents_in graph.now.graph.held id.now) }
+    ensures failed { IfErr result IsMemory }
+{
+    Ok(graph.parents(alloc, id)?)
 }

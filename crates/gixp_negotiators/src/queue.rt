@@ -1,9 +1,10 @@
 //! A queue of commits by time.
-ghost use Rattle.std.specs.Prelude.{◌≡◌, ◌≤◌, ◌+◌, ◌-◌, ◌^◌, ◌≤ℤ◌, ◌∷◌, [], All, OnOk, OnSome, IfSome, IfNone};
+ghost use Rattle.std.specs.Prelude.{◌≡◌, ◌≤◌, ◌<◌, ◌⊎◌, ◌+◌, ◌-◌, ◌^◌, ◌≤ℤ◌, ◌∷◌, [], All, OnOk, OnSome, IfSome, IfNone};
 ghost use Rattle.std.specs.BinaryHeap.{heap_len, heap_items, IsHeap};
 ghost use Rattle.std.specs.List.Sorted.{IsPermutation};
 ghost use Rattle.std.proofs.Props.{props};
 ghost use Rattle.gixp_negotiators.specs.Waiting.{waiting_cmp, waiting_at};
+ghost use Rattle.gixp_negotiators.specs.Newest.{IsNewestWaiting};
 
 use gixp_hash::ObjectId;
 use std::alloc::{AllocError, Global};
@@ -73,5 +74,20 @@ impl Queue {
         ensures rank { self.new.rank ≡ self.old.rank }
     {
         self.waiting.pop()
+    }
+
+    /// Takes the first commit, unless all queued commits are common. `uncommon` counts those that aren't.
+    pub fn pop_unless_all_common(&mut self, uncommon: usize) -> Option<Waiting>
+        ensures some { OnSome result (heap_len self.new.waiting + 1 ≡ heap_len self.old.waiting) }
+        ensures open { OnSome result (0 < uncommon) }
+        ensures taken { IfSome result (λ first. IsPermutation (heap_items self.old.waiting) (first ∷ heap_items self.new.waiting)) }
+        ensures newest { IfSome result (IsNewestWaiting (heap_items self.new.waiting)) }
+        ensures none { IfNone result ((uncommon ≡ 0) ⊎ (heap_items self.old.waiting ≡ [])) }
+        ensures stays { IfNone result (heap_items self.new.waiting ≡ heap_items self.old.waiting) }
+    {
+        if uncommon == 0 {
+            return None;
+        }
+        self.pop()
     }
 }

@@ -1,25 +1,33 @@
 //! Offers commits at growing distances, the newest first.
-ghost use Rattle.std.specs.Prelude.{◌≡◌, ◌≢◌, ℕ, pos, List, ◌≤◌, ◌<◌, ◌+◌, ◌-◌, ◌⊎◌, ◌||◌, ◌∷◌, [], length, bit_and, true, false};
+ghost use Rattle.std.specs.Prelude.{◌≡◌, ◌≢◌, ℕ, pos, List, ◌≤◌, ◌<◌, ◌+◌, ◌-◌, ◌⊎◌, ◌||◌, ◌∷◌, [], bit_and, true, false};
 ghost use Rattle.std.specs.BTreeSet.{contains};
 ghost use Rattle.std.specs.BTreeMap.{is_at};
 ghost use Rattle.gixp_hash.specs.declared.object_id.ObjectId.{ObjectId};
 ghost use Rattle.gixp_hash.specs.ObjectId.{id_cmp};
-ghost use Rattle.std.specs.Prelude.{IfOk, IfErr, IfSome, IfNone, IsSome, OnOk, OnSome, IsTrue, All};
-ghost use Rattle.std.specs.BinaryHeap.{heap_len, heap_items};
-ghost use Rattle.std.specs.List.Sorted.{IsPermutation};
+ghost use Rattle.std.specs.Prelude.{IfOk, IfErr, IfSome, IfNone, IsSome, OnOk, IsTrue, All};
+ghost use Rattle.std.specs.BinaryHeap.{heap_items};
 ghost use Rattle.gixp_graph.specs.Object.{commit_at};
-ghost use Rattle.gixp_graph.specs.GraphData.{GraphData, parents_in};
+ghost use Rattle.gixp_graph.specs.GraphData.{parents_in};
 ghost use Rattle.gixp_negotiators.specs.declared.queue.Waiting.{Waiting};
-ghost use Rattle.gixp_graph.specs.Negotiation.{IsMemory, IsRefusal, TellsWhy};
-ghost use Rattle.gixp_negotiators.specs.Marks.{COMMON, COMMON_REF, SEEN, POPPED, Grows, SeesNone, SeesOnly, SettlesNone, ListsNone, ListsOnly, PopsNone, StaysIfSeen, IsOffered, IsMarkedIfThere, IsListedIfNew, has_all, has_mark, left};
-ghost use Rattle.gixp_negotiators.specs.Spread.{was_seen, BecomesCommon, KeepsSpread, SpreadsFrom, StaysNewly, AllRead, AllHeld, MarksThrough, SettlesAmong, Spreads};
-ghost use Rattle.gixp_negotiators.specs.Waiting.{FitsOwing, AllCommon, IsNewest, IsNewestIn, QueuesNew, KeepsUnread, IsUnreadIfNew};
+ghost use Rattle.gixp_graph.specs.Negotiation.{IsMemory};
+ghost use Rattle.gixp_negotiators.specs.Marks.{COMMON, COMMON_REF, SEEN, POPPED, has_all, has_mark, left};
+ghost use Rattle.gixp_negotiators.specs.AddedMarks.{SeesOnly, MarksNoCommon, ListsNone, ListsOnly, PopsNone, MarksOnlyAsCommon};
+ghost use Rattle.gixp_negotiators.specs.CommitMarks.{StaysIfSeen, IsMarkedIfThere, IsListedIfNew};
+ghost use Rattle.gixp_negotiators.specs.Offered.{IsOffered};
+ghost use Rattle.gixp_negotiators.specs.Spread.{was_seen, BecomesCommon, KeepsSpread, SpreadsFrom, Spreads};
+ghost use Rattle.gixp_negotiators.specs.NewlyCommon.{StaysNewly, AllRead, AllHeld, MarksThrough, MarksCommonAmong};
+ghost use Rattle.gixp_negotiators.specs.Owed.{FitsOwing};
+ghost use Rattle.gixp_negotiators.specs.Queued.{AllCommon};
+ghost use Rattle.gixp_negotiators.specs.Dated.{IsNewestIn, QueuesNew};
+ghost use Rattle.gixp_negotiators.specs.Unread.{KeepsUnread, IsUnreadIfNew};
+ghost use Rattle.gixp_negotiators.specs.LooksUpCommits.{LooksUpCommits};
+ghost use Rattle.gixp_negotiators.specs.Work.{to_take, to_mark};
 ghost use Rattle.gixp_negotiators.specs.Calls.{FitsSkipping, CountsStill, CountsTaking, CountsAll};
 ghost use Rattle.gixp_negotiators.specs.declared.skipping.Legacy.TheVariants.{Common, Skips};
 ghost use Rattle.gixp_negotiators.specs.Distance.{distance_after, skip_of};
 ghost use Rattle.gixp_negotiators.specs.Passing.{skip_in, HandsOne, Hands, AllTaken, Takes, Distances};
 
-use crate::marks::{SEEN_REF, add, claim, has, is_marked};
+use crate::marks::{SEEN_REF, add, claim, has, is_marked, parents_of};
 use crate::queue::{Queue, Waiting};
 use gixp_graph::{Flags, Graph, Negotiator, NegotiatorError, Objects};
 use gixp_hash::ObjectId;
@@ -89,11 +97,10 @@ impl Skipping {
     ) -> Result<(), NegotiatorError>
         requires { (marks.0 ≡ SEEN) ⊎ (marks.0 ≡ SEEN + COMMON_REF) }
         ensures fits { OnOk result (CountsAll self.old graph.old.graph self.new graph.new.graph) }
-        ensures room { OnOk result (left SEEN graph.new.graph + heap_len self.new.queue.waiting
-            ≤ left SEEN graph.old.graph + heap_len self.old.queue.waiting) }
+        ensures room { OnOk result (to_take self.new.queue graph.new.graph ≤ to_take self.old.queue graph.old.graph) }
         ensures waits { OnOk result (IsMarkedIfThere SEEN graph.old.graph graph.new.graph id.now) }
         ensures listed { OnOk result (bit_and marks.0 COMMON_REF ≡ COMMON_REF → IsListedIfNew graph.old.graph graph.new.graph id.now) }
-        ensures settles { SettlesNone graph.old.graph graph.new.graph }
+        ensures settles { MarksNoCommon graph.old.graph graph.new.graph }
         ensures queues { OnOk result (QueuesNew (heap_items self.old.queue.waiting) graph.old.graph (heap_items self.new.queue.waiting)) }
         ensures skips { OnOk result (self.new.skips ≡ self.old.skips) }
         ensures sees { SeesOnly id.now graph.old.graph graph.new.graph }
@@ -103,11 +110,7 @@ impl Skipping {
         ensures unread { OnOk result (KeepsUnread self.old.unread graph.old.graph self.new.unread graph.new.graph) }
         ensures unread_if_new { OnOk result (IsUnreadIfNew graph.old.graph id.now self.new.unread) }
         ensures again { OnOk result (StaysIfSeen self.old graph.old.graph id.now self.new graph.new.graph) }
-        ensures grows { Grows graph.old.graph graph.new.graph }
-        ensures failures { graph.old.failures ≤ graph.new.failures }
-        ensures failed { IfErr result (IsRefusal 0 0 graph.old.failures graph.new.failures) }
-        ensures unrefused { OnOk result (graph.new.refusals ≡ graph.old.refusals) }
-        ensures refused { IfErr result (λ e. TellsWhy e graph.old.refusals graph.new.refusals) }
+        ensures looks { LooksUpCommits graph.old graph.new result }
     {
         let is_read = graph.get(id).is_some();
         let Some((time, _)) = claim(graph, id, Flags::SEEN, marks)? else {
@@ -153,17 +156,6 @@ impl Skipping {
         Ok(0)
     }
 
-    fn parents_of<O: Objects>(
-        &self,
-        graph: &Graph<O>,
-        id: &ObjectId,
-    ) -> Result<Vec<ObjectId>, NegotiatorError>
-        ensures parents { IfOk result (λ parents. parents.items ≡ parents_in graph.now.graph.held id.now) }
-        ensures failed { IfErr result IsMemory }
-    {
-        Ok(graph.parents(self.alloc, id)?)
-    }
-
     // Marks as common the parents of a common commit that were seen.
     fn spread<O: Objects>(
         &self,
@@ -173,22 +165,14 @@ impl Skipping {
     ) -> Result<(), NegotiatorError>
         ensures fits { OnOk result ((lost u : ℕ) (ws : List Waiting) → FitsOwing lost u ws graph.old.graph due.old.items
             → FitsOwing lost u ws graph.new.graph due.new.items) }
-        ensures less { OnOk result (left COMMON graph.new.graph + length due.new.items
-            ≤ left COMMON graph.old.graph + length due.old.items) }
-        ensures seen { left SEEN graph.new.graph ≤ left SEEN graph.old.graph }
+        ensures less { OnOk result (to_mark due.new.items graph.new.graph ≤ to_mark due.old.items graph.old.graph) }
         ensures spreads { OnOk result (SpreadsFrom was_seen id.now due.old.items graph.old.graph due.new.items graph.new.graph) }
         ensures newly { OnOk result (StaysNewly due.old.items graph.old.graph due.new.items graph.new.graph) }
-        ensures among { OnOk result (SettlesAmong (parents_in graph.old.graph.held id.now) graph.old.graph graph.new.graph) }
-        ensures sees { SeesNone graph.old.graph graph.new.graph }
-        ensures lists { OnOk result (ListsNone graph.old.graph graph.new.graph) }
-        ensures pops { OnOk result (PopsNone graph.old.graph graph.new.graph) }
-        ensures grows { Grows graph.old.graph graph.new.graph }
-        ensures failures { graph.old.failures ≤ graph.new.failures }
-        ensures failed { IfErr result (IsRefusal 0 0 graph.old.failures graph.new.failures) }
-        ensures unrefused { OnOk result (graph.new.refusals ≡ graph.old.refusals) }
-        ensures refused { IfErr result (λ e. TellsWhy e graph.old.refusals graph.new.refusals) }
+        ensures among { OnOk result (MarksCommonAmong (parents_in graph.old.graph.held id.now) graph.old.graph graph.new.graph) }
+        ensures marks { OnOk result (MarksOnlyAsCommon graph.old.graph graph.new.graph) }
+        ensures looks { LooksUpCommits graph.old graph.new result }
     {
-        let parents = self.parents_of(graph, id)?;
+        let parents = parents_of(graph, self.alloc, id)?;
         reach_all(graph, &parents, due)?;
         Ok(())
     }
@@ -216,21 +200,14 @@ impl Skipping {
             self.old graph.old.graph self.new graph.new.graph) }
         ensures common { OnOk result (has_mark SEEN graph.old.graph.held id.now ≡ true
             → has_mark COMMON graph.new.graph.held id.now ≡ true) }
-        ensures seen { left SEEN graph.new.graph ≤ left SEEN graph.old.graph }
         ensures queue { self.new.queue ≡ self.old.queue }
         ensures skips { self.new.skips ≡ self.old.skips }
         ensures spreads { OnOk result (AllRead self.old.unread graph.old.graph graph.new.graph
             → Spreads was_seen graph.old.graph graph.new.graph) }
         ensures unread { self.new.unread ≡ self.old.unread }
         ensures through { OnOk result (MarksThrough self.old.unread graph.old.graph id.now graph.new.graph) }
-        ensures sees { SeesNone graph.old.graph graph.new.graph }
-        ensures lists { OnOk result (ListsNone graph.old.graph graph.new.graph) }
-        ensures pops { OnOk result (PopsNone graph.old.graph graph.new.graph) }
-        ensures grows { Grows graph.old.graph graph.new.graph }
-        ensures failures { graph.old.failures ≤ graph.new.failures }
-        ensures failed { IfErr result (IsRefusal 0 0 graph.old.failures graph.new.failures) }
-        ensures unrefused { OnOk result (graph.new.refusals ≡ graph.old.refusals) }
-        ensures refused { IfErr result (λ e. TellsWhy e graph.old.refusals graph.new.refusals) }
+        ensures marks { OnOk result (MarksOnlyAsCommon graph.old.graph graph.new.graph) }
+        ensures looks { LooksUpCommits graph.old graph.new result }
     {
         let mut due = Vec::new(self.alloc);
         reach(graph, id, &mut due)?;
@@ -278,19 +255,12 @@ impl Skipping {
     ) -> Result<(), NegotiatorError>
         ensures fits { OnOk result (CountsStill (AllRead self.old.unread graph.old.graph graph.new.graph)
             self.old graph.old.graph self.new graph.new.graph) }
-        ensures seen { left SEEN graph.new.graph ≤ left SEEN graph.old.graph }
         ensures queue { self.new.queue ≡ self.old.queue }
         ensures hands { OnOk result (HandsOne legacy id.now self.old.skips.entries self.new.skips.entries) }
-        ensures settles { legacy ≢ Common → OnOk result (SettlesNone graph.old.graph graph.new.graph) }
+        ensures settles { legacy ≢ Common → OnOk result (MarksNoCommon graph.old.graph graph.new.graph) }
         ensures unread { self.new.unread ≡ self.old.unread }
-        ensures sees { SeesNone graph.old.graph graph.new.graph }
-        ensures lists { OnOk result (ListsNone graph.old.graph graph.new.graph) }
-        ensures pops { OnOk result (PopsNone graph.old.graph graph.new.graph) }
-        ensures grows { Grows graph.old.graph graph.new.graph }
-        ensures failures { graph.old.failures ≤ graph.new.failures }
-        ensures failed { IfErr result (IsRefusal 0 0 graph.old.failures graph.new.failures) }
-        ensures unrefused { OnOk result (graph.new.refusals ≡ graph.old.refusals) }
-        ensures refused { IfErr result (λ e. TellsWhy e graph.old.refusals graph.new.refusals) }
+        ensures marks { OnOk result (MarksOnlyAsCommon graph.old.graph graph.new.graph) }
+        ensures looks { LooksUpCommits graph.old graph.new result }
     {
         match legacy {
             Legacy::Common => {
@@ -313,22 +283,17 @@ impl Skipping {
     ) -> Result<bool, NegotiatorError>
         ensures fits { OnOk result (CountsStill (AllHeld self.old.unread graph.old.graph graph.new.graph)
             self.old graph.old.graph self.new graph.new.graph) }
-        ensures room { OnOk result (left SEEN graph.new.graph + heap_len self.new.queue.waiting
-            ≤ left SEEN graph.old.graph + heap_len self.old.queue.waiting) }
+        ensures room { OnOk result (to_take self.new.queue graph.new.graph ≤ to_take self.old.queue graph.old.graph) }
         ensures waits { OnOk result (IsMarkedIfThere SEEN graph.old.graph graph.new.graph parent.now) }
         ensures left { IfOk result (λ waits. waits ≡ true → has_mark POPPED graph.new.graph.held parent.now ≡ false) }
         ensures taken { IfOk result (λ waits. waits ≡ false → has_mark POPPED graph.new.graph.held parent.now ≡ true) }
         ensures hands { OnOk result (Hands legacy (parent.now ∷ []) graph.new.graph self.old.skips.entries self.new.skips.entries) }
         ensures queues { OnOk result (QueuesNew (heap_items self.old.queue.waiting) graph.old.graph (heap_items self.new.queue.waiting)) }
-        ensures settles { legacy ≢ Common → OnOk result (SettlesNone graph.old.graph graph.new.graph) }
+        ensures settles { legacy ≢ Common → OnOk result (MarksNoCommon graph.old.graph graph.new.graph) }
         ensures lists { OnOk result (ListsNone graph.old.graph graph.new.graph) }
         ensures pops { OnOk result (PopsNone graph.old.graph graph.new.graph) }
         ensures unread { OnOk result (KeepsUnread self.old.unread graph.old.graph self.new.unread graph.new.graph) }
-        ensures grows { Grows graph.old.graph graph.new.graph }
-        ensures failures { graph.old.failures ≤ graph.new.failures }
-        ensures failed { IfErr result (IsRefusal 0 0 graph.old.failures graph.new.failures) }
-        ensures unrefused { OnOk result (graph.new.refusals ≡ graph.old.refusals) }
-        ensures refused { IfErr result (λ e. TellsWhy e graph.old.refusals graph.new.refusals) }
+        ensures looks { LooksUpCommits graph.old graph.new result }
     {
         self.push(graph, parent, Flags::SEEN)?;
         if is_marked(graph, parent, Flags::POPPED) {
@@ -347,22 +312,17 @@ impl Skipping {
     ) -> Result<bool, NegotiatorError>
         ensures fits { OnOk result (CountsStill (AllHeld self.old.unread graph.old.graph graph.new.graph)
             self.old graph.old.graph self.new graph.new.graph) }
-        ensures room { OnOk result (left SEEN graph.new.graph + heap_len self.new.queue.waiting
-            ≤ left SEEN graph.old.graph + heap_len self.old.queue.waiting) }
+        ensures room { OnOk result (to_take self.new.queue graph.new.graph ≤ to_take self.old.queue graph.old.graph) }
         ensures waits { OnOk result (All (IsMarkedIfThere SEEN graph.old.graph graph.new.graph) parents.now) }
         ensures left { IfOk result (λ any. any ≡ true → AllTaken graph.new.graph parents.now → ⊥) }
         ensures taken { IfOk result (λ any. any ≡ false → AllTaken graph.new.graph parents.now) }
         ensures hands { OnOk result (Hands legacy parents.now graph.new.graph self.old.skips.entries self.new.skips.entries) }
         ensures queues { OnOk result (QueuesNew (heap_items self.old.queue.waiting) graph.old.graph (heap_items self.new.queue.waiting)) }
-        ensures settles { legacy ≢ Common → OnOk result (SettlesNone graph.old.graph graph.new.graph) }
+        ensures settles { legacy ≢ Common → OnOk result (MarksNoCommon graph.old.graph graph.new.graph) }
         ensures lists { OnOk result (ListsNone graph.old.graph graph.new.graph) }
         ensures pops { OnOk result (PopsNone graph.old.graph graph.new.graph) }
         ensures unread { OnOk result (KeepsUnread self.old.unread graph.old.graph self.new.unread graph.new.graph) }
-        ensures grows { Grows graph.old.graph graph.new.graph }
-        ensures failures { graph.old.failures ≤ graph.new.failures }
-        ensures failed { IfErr result (IsRefusal 0 0 graph.old.failures graph.new.failures) }
-        ensures unrefused { OnOk result (graph.new.refusals ≡ graph.old.refusals) }
-        ensures refused { IfErr result (λ e. TellsWhy e graph.old.refusals graph.new.refusals) }
+        ensures looks { LooksUpCommits graph.old graph.new result }
     {
         let mut any = false;
         for parent in parents {
@@ -383,16 +343,11 @@ impl Skipping {
         ensures offered { IfOk result (λ offered. IsTrue offered → IsOffered graph.old.graph graph.new.graph first.now.id) }
         ensures takes { IfOk result
             (λ offered. Takes self.old.skips.entries graph.old.graph first.now.id offered self.new.skips.entries graph.new.graph) }
-        ensures room { OnOk result (left SEEN graph.new.graph + heap_len self.new.queue.waiting
-            ≤ left SEEN graph.old.graph + heap_len self.old.queue.waiting) }
+        ensures room { OnOk result (to_take self.new.queue graph.new.graph ≤ to_take self.old.queue graph.old.graph) }
         ensures queues { OnOk result (QueuesNew (heap_items self.old.queue.waiting) graph.old.graph (heap_items self.new.queue.waiting)) }
         ensures lists { OnOk result (ListsNone graph.old.graph graph.new.graph) }
         ensures unread { OnOk result (KeepsUnread self.old.unread graph.old.graph self.new.unread graph.new.graph) }
-        ensures grows { Grows graph.old.graph graph.new.graph }
-        ensures failures { graph.old.failures ≤ graph.new.failures }
-        ensures failed { IfErr result (IsRefusal 0 0 graph.old.failures graph.new.failures) }
-        ensures unrefused { OnOk result (graph.new.refusals ≡ graph.old.refusals) }
-        ensures refused { IfErr result (λ e. TellsWhy e graph.old.refusals graph.new.refusals) }
+        ensures looks { LooksUpCommits graph.old graph.new result }
     {
         let Some((_, flags)) = claim(graph, &first.id, Flags::POPPED, Flags::POPPED)? else {
             return Ok(false);
@@ -401,28 +356,9 @@ impl Skipping {
         let skip = self.skip_of(&first.id);
         let is_common = has(flags, Flags::COMMON);
         self.discount(is_common);
-        let parents = self.parents_of(graph, &first.id)?;
+        let parents = parents_of(graph, self.alloc, &first.id)?;
         let any = self.follow_all(graph, &parents, legacy_of(flags, skip))?;
         Ok(is_offered(is_common, skip.left, any))
-    }
-
-    // Takes the next commit from the queue, unless all are common.
-    fn pop(&mut self) -> Option<Waiting>
-        ensures some { OnSome result (heap_len self.new.queue.waiting + 1 ≡ heap_len self.old.queue.waiting) }
-        ensures open { OnSome result (0 < self.old.uncommon) }
-        ensures taken { IfSome result (λ first. IsPermutation (heap_items self.old.queue.waiting)
-            (first ∷ heap_items self.new.queue.waiting)) }
-        ensures newest { IfSome result (IsNewest (heap_items self.new.queue.waiting)) }
-        ensures none { IfNone result ((self.old.uncommon ≡ 0) ⊎ (heap_items self.old.queue.waiting ≡ [])) }
-        ensures stays { IfNone result (heap_items self.new.queue.waiting ≡ heap_items self.old.queue.waiting) }
-        ensures skips { self.new.skips ≡ self.old.skips }
-        ensures unread { self.new.unread ≡ self.old.unread }
-        ensures uncommon { self.new.uncommon ≡ self.old.uncommon }
-    {
-        if self.uncommon == 0 {
-            return None;
-        }
-        self.queue.pop()
     }
 
     // The next commit to offer.
@@ -442,13 +378,9 @@ impl Skipping {
         ensures queues { OnOk result (QueuesNew (heap_items self.old.queue.waiting) graph.old.graph (heap_items self.new.queue.waiting)) }
         ensures lists { OnOk result (ListsNone graph.old.graph graph.new.graph) }
         ensures unread { OnOk result (KeepsUnread self.old.unread graph.old.graph self.new.unread graph.new.graph) }
-        ensures grows { Grows graph.old.graph graph.new.graph }
-        ensures failures { graph.old.failures ≤ graph.new.failures }
-        ensures failed { IfErr result (IsRefusal 0 0 graph.old.failures graph.new.failures) }
-        ensures unrefused { OnOk result (graph.new.refusals ≡ graph.old.refusals) }
-        ensures refused { IfErr result (λ e. TellsWhy e graph.old.refusals graph.new.refusals) }
+        ensures looks { LooksUpCommits graph.old graph.new result }
     {
-        while let Some(first) = self.pop() {
+        while let Some(first) = self.queue.pop_unless_all_common(self.uncommon) {
             if self.take(graph, &first)? {
                 return Ok(Some(first.id));
             }
@@ -466,19 +398,12 @@ fn reach<O: Objects>(
     ensures fits { OnOk result ((lost u : ℕ) (ws : List Waiting) → FitsOwing lost u ws graph.old.graph due.old.items
         → FitsOwing lost u ws graph.new.graph due.new.items) }
     ensures common { OnOk result (has_mark SEEN graph.old.graph.held id.now ≡ true → has_mark COMMON graph.new.graph.held id.now ≡ true) }
-    ensures less { OnOk result (left COMMON graph.new.graph + length due.new.items ≤ left COMMON graph.old.graph + length due.old.items) }
-    ensures seen { left SEEN graph.new.graph ≤ left SEEN graph.old.graph }
+    ensures less { OnOk result (to_mark due.new.items graph.new.graph ≤ to_mark due.old.items graph.old.graph) }
     ensures spreads { OnOk result (KeepsSpread was_seen due.old.items graph.old.graph due.new.items graph.new.graph) }
     ensures newly { OnOk result (StaysNewly due.old.items graph.old.graph due.new.items graph.new.graph) }
-    ensures among { OnOk result (SettlesAmong (id.now ∷ []) graph.old.graph graph.new.graph) }
-    ensures sees { SeesNone graph.old.graph graph.new.graph }
-    ensures lists { OnOk result (ListsNone graph.old.graph graph.new.graph) }
-    ensures pops { OnOk result (PopsNone graph.old.graph graph.new.graph) }
-    ensures grows { Grows graph.old.graph graph.new.graph }
-    ensures failures { graph.old.failures ≤ graph.new.failures }
-    ensures failed { IfErr result (IsRefusal 0 0 graph.old.failures graph.new.failures) }
-    ensures unrefused { OnOk result (graph.new.refusals ≡ graph.old.refusals) }
-    ensures refused { IfErr result (λ e. TellsWhy e graph.old.refusals graph.new.refusals) }
+    ensures among { OnOk result (MarksCommonAmong (id.now ∷ []) graph.old.graph graph.new.graph) }
+    ensures marks { OnOk result (MarksOnlyAsCommon graph.old.graph graph.new.graph) }
+    ensures looks { LooksUpCommits graph.old graph.new result }
 {
     if !is_due(graph, id) {
         return Ok(());
@@ -508,20 +433,13 @@ fn reach_all<O: Objects>(
 ) -> Result<(), NegotiatorError>
     ensures fits { OnOk result ((lost u : ℕ) (ws : List Waiting) → FitsOwing lost u ws graph.old.graph due.old.items
         → FitsOwing lost u ws graph.new.graph due.new.items) }
-    ensures less { OnOk result (left COMMON graph.new.graph + length due.new.items ≤ left COMMON graph.old.graph + length due.old.items) }
-    ensures seen { left SEEN graph.new.graph ≤ left SEEN graph.old.graph }
+    ensures less { OnOk result (to_mark due.new.items graph.new.graph ≤ to_mark due.old.items graph.old.graph) }
     ensures spreads { OnOk result (KeepsSpread was_seen due.old.items graph.old.graph due.new.items graph.new.graph) }
     ensures newly { OnOk result (StaysNewly due.old.items graph.old.graph due.new.items graph.new.graph) }
     ensures common { OnOk result (All (BecomesCommon was_seen graph.old.graph graph.new.graph) ids.now) }
-    ensures among { OnOk result (SettlesAmong ids.now graph.old.graph graph.new.graph) }
-    ensures sees { SeesNone graph.old.graph graph.new.graph }
-    ensures lists { OnOk result (ListsNone graph.old.graph graph.new.graph) }
-    ensures pops { OnOk result (PopsNone graph.old.graph graph.new.graph) }
-    ensures grows { Grows graph.old.graph graph.new.graph }
-    ensures failures { graph.old.failures ≤ graph.new.failures }
-    ensures failed { IfErr result (IsRefusal 0 0 graph.old.failures graph.new.failures) }
-    ensures unrefused { OnOk result (graph.new.refusals ≡ graph.old.refusals) }
-    ensures refused { IfErr result (λ e. TellsWhy e graph.old.refusals graph.new.refusals) }
+    ensures among { OnOk result (MarksCommonAmong ids.now graph.old.graph graph.new.graph) }
+    ensures marks { OnOk result (MarksOnlyAsCommon graph.old.graph graph.new.graph) }
+    ensures looks { LooksUpCommits graph.old graph.new result }
 {
     for id in ids {
         reach(graph, id, due)?;
@@ -578,20 +496,9 @@ impl Negotiator for Skipping {
     ghost use Rattle.gixp_negotiators.specs.MarkLaws.{offer_lowers, grows_left};
     ghost use Rattle.gixp_negotiators.specs.Marks.{POPPED, left};
     ghost use Rattle.gixp_negotiators.specs.Calls.{KnowsSkipping, AddsSkipping, LearnsSkipping, OffersSkipping};
-    ghost use Rattle.gixp_graph.specs.Run.{AnyCallLeft, AnyOfferLeft};
+    ghost use Rattle.gixp_negotiators.specs.OwnCalls.{calls_of};
 
-    ghost calls = { record {
-      count = λ n g. left POPPED g;
-      failures = λ n. 0;
-      knows = KnowsSkipping;
-      adds = AddsSkipping;
-      learns = LearnsSkipping;
-      offers = OffersSkipping;
-      knowing_fails = AnyCallLeft;
-      adding_fails = AnyCallLeft;
-      learning_fails = AnyCallLeft;
-      offering_fails = AnyOfferLeft;
-    } };
+    ghost calls = { calls_of (λ n g. left POPPED g) KnowsSkipping AddsSkipping LearnsSkipping OffersSkipping };
 
     ghost reports_refusals = { true };
 

@@ -27,15 +27,15 @@ pub struct PackSummary {
 
 /// The fault of bytes that aren't a whole pack.
 #[derive(Clone, Copy, Debug, PartialEq, Eq, Error)]
-pub enum PackError {
+pub enum CheckError {
     /// There are fewer bytes than a header and a trailer have.
-    #[error("it ends early")]
+    #[error("it ends too early")]
     Short,
     /// It doesn't begin with `PACK`.
-    #[error("it doesn't begin as a pack")]
+    #[error("it doesn't begin like a pack")]
     Signature,
     /// Its version is neither 2 nor 3.
-    #[error("it has the version {0}, which is unknown")]
+    #[error("its version {0} is unknown")]
     Version(u32),
     /// The last 20 bytes aren't the SHA-1 of those before them.
     #[error("its checksum is wrong")]
@@ -93,7 +93,7 @@ impl PackCheck {
     /// # Errors
     ///
     /// The first fault of the bytes, in the order of the variants.
-    pub fn finish(self) -> Result<PackSummary, PackError>
+    pub fn finish(self) -> Result<PackSummary, CheckError>
         ensures { (m : List ℕ) → HasTaken self m → result ≡ pack_of m }
     {
         let PackCheck {
@@ -103,11 +103,11 @@ impl PackCheck {
             bytes,
         } = self;
         if bytes < (HEADER_LEN + TRAILER_LEN) as u64 {
-            return Err(PackError::Short);
+            return Err(CheckError::Short);
         }
         let objects = objects_of(&header)?;
         if !is_same(&hasher.finalize(), &last) {
-            return Err(PackError::Checksum);
+            return Err(CheckError::Checksum);
         }
         Ok(PackSummary { bytes, objects })
     }
@@ -144,18 +144,18 @@ fn word_at(bytes: &[u8], at: usize) -> u32
 }
 
 // The number of objects in a header.
-fn objects_of(header: &[u8]) -> Result<u32, PackError>
+fn objects_of(header: &[u8]) -> Result<u32, CheckError>
     ensures { result ≡ objects_of header.now }
 {
     if header.len() < HEADER_LEN {
-        return Err(PackError::Short);
+        return Err(CheckError::Short);
     }
     if !is_same(&header[..4], SIGNATURE) {
-        return Err(PackError::Signature);
+        return Err(CheckError::Signature);
     }
     match word_at(header, 4) {
         2 => Ok(word_at(header, 8)),
         3 => Ok(word_at(header, 8)),
-        version => Err(PackError::Version(version)),
+        version => Err(CheckError::Version(version)),
     }
 }

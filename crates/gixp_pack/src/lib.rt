@@ -4,4 +4,4 @@
 mod check;
 mod same;
 
-pub use check::{PackCheck, PackError, PackSummary};
+pub use check::{CheckError, PackCheck, PackSummary};

@@ -1,7 +1,7 @@
 //! Laws of the derived equality.
 ghost use Rattle.std.specs.Prelude.{◌≡◌, ◌↔◌, IsTrue};
 
-use crate::check::{PackError, PackSummary};
+use crate::check::{CheckError, PackSummary};
 
 fn is_same_summary(a: &PackSummary, b: &PackSummary) -> bool
     ensures { IsTrue result ↔ (a.now ≡ b.now) }
@@ -9,7 +9,7 @@ fn is_same_summary(a: &PackSummary, b: &PackSummary) -> bool
     a == b
 }
 
-fn is_same_error(left: &PackError, right: &PackError) -> bool
+fn is_same_error(left: &CheckError, right: &CheckError) -> bool
     ensures { IsTrue result ↔ (left.now ≡ right.now) }
 {
     left == right

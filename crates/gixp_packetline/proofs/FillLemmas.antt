@@ -57,11 +57,11 @@ module _ {R : Type 0} where
     reads = let l = ap length got.0 in omega arith;
   }))
 
-  came : (rem : R → Option (List ℕ)) (old : Packets R) (w : Shown) (rd : R) (n : ℕ) (got : List ℕ) → 0 < n → 0 < old.reads_left
+  received : (rem : R → Option (List ℕ)) (old : Packets R) (w : Shown) (rd : R) (n : ℕ) (got : List ℕ) → 0 < n → 0 < old.reads_left
       → old.ended ≡ false
       → w.pending ≡ old.window.pending ++ got → length got ≡ n → Consumes (rem old.reader) (rem rd) got → length w.pending ≤ 65520
       → Filled rem old (record (read_by old w rd) { ended = false })
-  came rem old w rd n got more some going e len takes bound =
+  received rem old w rd n got more some going e len takes bound =
       let l : length w.pending ≡ length old.window.pending + length got = ap length e ∙ length-append old.window.pending got in
       record {
         kept = record {
@@ -119,7 +119,7 @@ module _ {R : Type 0} where
           let P : Packets R → Type 0 = λ x. F x (Ok tt) in
           let more : 0 < n = omega arith in
           let at = h.1 more in
-          let filled = came rem old w rd n got.0 more some going got.1 got.2 got.3 got.5 in
+          let filled = received rem old w rd n got.0 more some going got.1 got.2 got.3 got.5 in
           let shut : record (read_by old w rd) { ended = false } ≡ read_by old w rd =
           ap (λ (b : Bool). record (read_by old w rd) { ended = b }) (sym going) in
           subst (F new) (sym at.0) (subst P (shut ∙ sym at.1) filled)

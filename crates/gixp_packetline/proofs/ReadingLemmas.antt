@@ -53,9 +53,9 @@ so_far-line old mid new texts h k = let text = new.line in record {
       (λ q r. next_of mid.version q ≡ gives text r)
       (λ p r. lines_ahead old p ≡ before (texts ++ text ∷ []) (lines_ahead new r))
       (λ p q r a b.
-      let behind : lines_ahead new r ≡ lines_of mid.version r = ahead_running new r k.stopped ∙ ap (λ v. lines_of v r) k.version in
+      let following : lines_ahead new r ≡ lines_of mid.version r = ahead_running new r k.stopped ∙ ap (λ v. lines_of v r) k.version in
       a ∙ ap (before texts) (ahead_running mid q k.running ∙ gives_line mid.version q.list q.end text r b
-      ∙ ap (before (text ∷ [])) (sym behind))
+      ∙ ap (before (text ∷ [])) (sym following))
       ∙ append_before texts text (lines_ahead new r))
       h.next k.next;
   stopped = k.stopped ∙ sym k.running ∙ h.stopped;

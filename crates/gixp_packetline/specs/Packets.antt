@@ -197,9 +197,9 @@ module _ {R : Type 0} where
     pub front : head_of old.window.pending ≡ Partial
 
   -- the head of the packet line at the front, or why it isn't known
-  abbrev pub Settles : (R → Option (List ℕ)) → Packets R → Packets R → Result Head Error → Type 0
-  Settles remaining old new (Ok head) = Settled remaining old new head
-  Settles remaining old new (Err e) = SettledEnd remaining old new e ⊎ SettledFault remaining old new e ⊎ SettledBreak old new e
+  abbrev pub FillsHeader : (R → Option (List ℕ)) → Packets R → Packets R → Result Head Error → Type 0
+  FillsHeader remaining old new (Ok head) = Settled remaining old new head
+  FillsHeader remaining old new (Err e) = SettledEnd remaining old new e ⊎ SettledFault remaining old new e ⊎ SettledBreak old new e
 
   -- the reads so far, while the front has only part of a packet line
   pub record Settling (remaining : R → Option (List ℕ)) (old now : Packets R) : Type 0 where

@@ -13,8 +13,8 @@ pub record Errors (E R : Type 0) : Type 0 where
   pub is_no_memory : R → Bool
 
 -- the error is this one, unless an allocation failed
-abbrev pub StandsFor : {E R : Type 0} → Errors E R → E → R → Type 0
-StandsFor errors e r = errors.is_no_memory (errors.refusal e) ≡ false → errors.refusal e ≡ r
+abbrev pub ErrorIs : {E R : Type 0} → Errors E R → E → R → Type 0
+ErrorIs errors e r = errors.is_no_memory (errors.refusal e) ≡ false → errors.refusal e ≡ r
 
 -- `Read old new taken`: the call took this between the two states, and did nothing else
 module _ {E R T : Type 0} (errors : Errors E R) (Read : Reading → Reading → T → Type 0) where
@@ -45,7 +45,7 @@ module _ {E R T : Type 0} (errors : Errors E R) (Read : Reading → Reading → 
     pub refusal : R
     pub last : IsLast taken refusal new
     pub first : IfSome old.to_come (λ p. First old p refusal)
-    pub error : StandsFor errors e refusal
+    pub error : ErrorIs errors e refusal
 
   -- the first error is the reader's own, which every later call returns
   pub record ReaderRefused (old new : Reading) (e : E) : Type 0 where

@@ -8,13 +8,14 @@ ghost use Rattle.gixp_packetline.specs.Items.{is_stop};
 ghost use Rattle.std.specs.declared.io.ErrorKind.TheVariants.{Other};
 ghost use Rattle.gixp_packetline.specs.declared.read.Error.TheVariants.{Io, Memory};
 ghost use Rattle.gixp_packetline.specs.declared.packets.Place.TheVariants.{Open};
-ghost use Rattle.gixp_packetline.specs.Packets.{NotesRead, Fills, Settles, Spends, packets_reading, memory_remaining};
+ghost use Rattle.gixp_packetline.specs.Packets.{NotesRead, Fills, FillsHeader, Spends, packets_reading, memory_remaining};
 
 use crate::packet::{Head, read_head};
 use crate::protocol::{MessageKind, Protocol};
 use crate::read::{Error, ExtendedBufRead};
 use crate::window::Window;
 use bstr::BString;
+use gixp_utils::without_line_end;
 use std::alloc::{AllocError, Global};
 use std::io::{Cursor, ErrorKind, Read};
 
@@ -100,13 +101,13 @@ impl Packets<Cursor<Vec<u8>>> {
 }
 
 impl<R: Read> Packets<R> {
-    ghost use Rattle.gixp_packetline.specs.ReadAhead.{StandsAhead};
+    ghost use Rattle.gixp_packetline.specs.ReadAhead.{HoldsAhead};
 
     /// Returns the reader, and the bytes that were read from it after the last line, flush packet or delimiter packet that was
     /// taken or peeked at.
     pub fn into_parts(self) -> (R, Vec<u8>)
         ensures reader { result.0 ≡ self.reader }
-        ensures ahead { StandsAhead (packets_reading R.remaining self) (R.remaining result.0) result.1.items }
+        ensures ahead { HoldsAhead (packets_reading R.remaining self) (R.remaining result.0) result.1.items }
     {
         let Packets {
             alloc: _alloc,
@@ -198,8 +199,8 @@ impl<R: Read> Packets<R> {
     }
 
     // Reads until the packet line at the front is whole, and returns its head.
-    fn settle(&mut self) -> Result<Head, Error>
-        ensures { Settles R.remaining self.old self.new result }
+    fn fill_header(&mut self) -> Result<Head, Error>
+        ensures { FillsHeader R.remaining self.old self.new result }
     {
         loop {
             match read_head(self.window.pending()) {
@@ -221,7 +222,7 @@ impl<R: Read> Packets<R> {
         ensures open { result ≡ Ok true → self.new.place ≡ Open }
         ensures spends { Spends self.old self.new result }
     {
-        match self.settle() {
+        match self.fill_header() {
             Ok(Head::Data(size)) => {
                 let text = &self.window.pending()[4..size];
                 if is_server_error(text) {
@@ -335,12 +336,7 @@ fn server_error(alloc: Global, text: &[u8]) -> Error
     requires { is_error text.now ≡ true }
     ensures { (refusal_of result ≡ server (error_message text.now)) ⊎ (result ≡ Memory) }
 {
-    let message = &text[4..];
-    let message = match message {
-        [front @ .., b'\n'] => front,
-        _ => message,
-    };
-    match message.to_vec(alloc) {
+    match without_line_end(&text[4..]).to_vec(alloc) {
         Ok(message) => Error::Server {
             message: BString::from(message),
         },

@@ -1,7 +1,7 @@
 //! The buffer that packet lines are read into.
 ghost use Rattle.std.specs.Prelude.{◌≡◌, ◌+◌, ◌-◌, ◌<◌, ◌≤◌, [], length, take, drop, slice_range, vec_len, IfOk};
 ghost use Rattle.std.specs.IoError.{error_kind};
-ghost use Rattle.gixp_packetline.specs.Window.{Shown, ReadsBehind, Receives};
+ghost use Rattle.gixp_packetline.specs.Window.{Shown, ReadsAfter, Receives};
 
 use crate::packet::MAX_FRAME;
 use std::alloc::{AllocError, Global};
@@ -40,15 +40,11 @@ fn kind_of(e: io::Error) -> ErrorKind
 }
 
 // Reads once, into the buffer from `end` on.
-fn read_behind<R: Read>(
-    reader: &mut R,
-    buffer: &mut Vec<u8>,
-    end: usize,
-) -> Result<usize, ErrorKind>
+fn read_after<R: Read>(reader: &mut R, buffer: &mut Vec<u8>, end: usize) -> Result<usize, ErrorKind>
     requires { end ≤ vec_len buffer.old }
     ensures len { vec_len buffer.new ≡ vec_len buffer.old }
     ensures front { take end buffer.new.items ≡ take end buffer.old.items }
-    ensures bytes { ReadsBehind (R.remaining reader.old) (R.remaining reader.new) end buffer.new.items result }
+    ensures bytes { ReadsAfter (R.remaining reader.old) (R.remaining reader.new) end buffer.new.items result }
 {
     match reader.read(&mut buffer[end..]) {
         Ok(n) => Ok(n),
@@ -156,7 +152,7 @@ impl Window {
         to_front(&mut self.bytes, self.start, self.end);
         self.end -= self.start;
         self.start = 0;
-        let received = read_behind(reader, &mut self.bytes, self.end);
+        let received = read_after(reader, &mut self.bytes, self.end);
         if let Ok(n) = &received {
             self.end += *n;
         }

@@ -1,11 +1,12 @@
 -- What happens to a packet line of a response, by where it occurs (gitprotocol-v2, "fetch": "packfile-uris",
 -- "sideband-all"; git's "Packfile URIs").
 use Rattle.std.specs.Prelude.{ℕ, suc, ◌+◌, ◌-◌, ◌<◌, ◌==◌, nat_eq, nat_lt, not, ◌&&◌, ◌||◌, Bool, true, false, if◌then◌else◌, List, [], ◌∷◌, length, take, drop, codes, slice_range}
+use Rattle.std.specs.Io.BufRead.{strip_last}
 use Rattle.std.specs.List.{starts_with, list_all}
 use Rattle.std.specs.Str.{bytes_eq}
 use Rattle.std.specs.Char.{is_ascii_hexdigit}
-use Rattle.gixp_packfile_uris.specs.declared.place.Place.{Place}
-use Rattle.gixp_packfile_uris.specs.declared.place.Place.TheVariants.{SectionStart, Section, Uris, Over}
+use Rattle.gixp_packfile_uris.specs.declared.place.LinePlace.{LinePlace}
+use Rattle.gixp_packfile_uris.specs.declared.place.LinePlace.TheVariants.{SectionStart, Section, Uris, Over}
 use Rattle.gixp_packfile_uris.specs.declared.place.Fate.{Fate}
 use Rattle.gixp_packfile_uris.specs.declared.place.Fate.TheVariants.{Pass, Take, Refuse}
 
@@ -13,12 +14,9 @@ use Rattle.gixp_packfile_uris.specs.declared.place.Fate.TheVariants.{Pass, Take,
 abbrev pub without_band : List ℕ → List ℕ
 without_band line = if starts_with nat_eq line (1 ∷ []) then drop 1 line else line
 
--- a line without its LF
-abbrev pub without_end : List ℕ → List ℕ
-without_end line = if bytes_eq (drop (length line - 1) line) (codes "\n") then take (length line - 1) line else line
-
+-- without its LF, too
 abbrev pub text_of : List ℕ → List ℕ
-text_of line = without_end (without_band line)
+text_of line = strip_last 10 (without_band line)
 
 -- whether a line is a message on band 2 or 3
 abbrev pub is_message : List ℕ → Bool
@@ -45,12 +43,12 @@ start_fate line = if is_header line then Take (Uris 0) else Pass Section
 abbrev pub uri_fate : ℕ → List ℕ → Fate
 uri_fate count line = if nat_lt count 1000 && is_uri_line (text_of line) then Take (Uris (count + 1)) else Refuse
 
-abbrev pub fate_at : Place → List ℕ → Fate
+abbrev pub fate_at : LinePlace → List ℕ → Fate
 fate_at SectionStart line = start_fate line
 fate_at (Uris count) line = uri_fate count line
 fate_at Section line = Pass Section
 fate_at Over line = Pass Over
 
 -- a message may occur anywhere, and is passed on
-abbrev pub fate : Place → List ℕ → Fate
+abbrev pub fate : LinePlace → List ℕ → Fate
 fate place line = if is_message line then Pass place else fate_at place line

@@ -2,14 +2,14 @@
 use Rattle.std.specs.Prelude.{ℕ, Bool, true, false, if◌then◌else◌, List, [], ◌∷◌, ◌++◌}
 use Rattle.gixp_packetline.specs.Frames.{Frame, payload, special, End, ended, Frames, no_frames, with_frame}
 use Rattle.gixp_packetline.specs.declared.protocol.MessageKind.TheVariants.{Flush, Delimiter, ResponseEnd, Text}
-use Rattle.gixp_packfile_uris.specs.declared.place.Place.{Place}
-use Rattle.gixp_packfile_uris.specs.declared.place.Place.TheVariants.{SectionStart, Over}
+use Rattle.gixp_packfile_uris.specs.declared.place.LinePlace.{LinePlace}
+use Rattle.gixp_packfile_uris.specs.declared.place.LinePlace.TheVariants.{SectionStart, Over}
 use Rattle.gixp_packfile_uris.specs.declared.place.Fate.TheVariants.{Pass, Take, Refuse}
 use Rattle.gixp_packfile_uris.specs.Line.{text_of, fate}
 use Rattle.gixp_packfile_uris.specs.Parts.{in_uris, after_delimiter}
 
 -- the packet lines without the section; a delimiter packet ends it, and an invalid line or a flush packet in it ends the stream
-abbrev pub without_uris : Place → List Frame → End → Frames
+abbrev pub without_uris : LinePlace → List Frame → End → Frames
 without_uris place [] end = no_frames end
 without_uris place (payload p ∷ frames) end = elim (fate place p) [
   | Pass next ↦ with_frame (payload p) (without_uris next frames end)
@@ -25,7 +25,7 @@ without_uris place (special ResponseEnd ∷ frames) end =
 without_uris place (special Text ∷ frames) end = no_frames ended
 
 -- the lines of the section, without their bands and LFs
-abbrev pub uri_lines : Place → List Frame → List (List ℕ)
+abbrev pub uri_lines : LinePlace → List Frame → List (List ℕ)
 uri_lines place [] = []
 uri_lines place (payload p ∷ frames) = elim (fate place p) [
   | Pass next ↦ uri_lines next frames
@@ -38,7 +38,7 @@ uri_lines place (special ResponseEnd ∷ frames) = if in_uris place then [] else
 uri_lines place (special Text ∷ frames) = []
 
 -- whether the section has an invalid line, a flush packet or a response-end packet
-abbrev pub is_refused : Place → List Frame → Bool
+abbrev pub is_refused : LinePlace → List Frame → Bool
 is_refused place [] = false
 is_refused place (payload p ∷ frames) = elim (fate place p) [
   | Pass next ↦ is_refused next frames

@@ -4,7 +4,7 @@ ghost use Rattle.gixp_packetline.specs.Frames.{Frame, End};
 ghost use Rattle.gixp_packetline.specs.Grammar.{AreFrames};
 ghost use Rattle.gixp_packfile_uris.specs.Parts.{parts_of};
 ghost use Rattle.gixp_packfile_uris.specs.Uris.{without_uris, uri_lines, is_refused};
-ghost use Rattle.gixp_packfile_uris.specs.declared.place.Place.TheVariants.{SectionStart};
+ghost use Rattle.gixp_packfile_uris.specs.declared.place.LinePlace.TheVariants.{SectionStart};
 
 /// The packet lines that are passed on are those of the stream without the section `packfile-uris` of each response.
 /// The sink takes the lines of the section. Reads fail at the end exactly if the section has an invalid line, a flush

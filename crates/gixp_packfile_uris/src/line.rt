@@ -2,9 +2,10 @@
 ghost use Rattle.std.specs.Prelude.{◌≡◌, length};
 ghost use Rattle.std.specs.Char.{is_ascii_hexdigit};
 ghost use Rattle.std.specs.List.{list_all};
-ghost use Rattle.gixp_packfile_uris.specs.Line.{without_band, without_end, text_of, is_message, is_header, is_uri_byte, is_uri_line, start_fate, uri_fate, fate};
+ghost use Rattle.gixp_packfile_uris.specs.Line.{without_band, text_of, is_message, is_header, is_uri_byte, is_uri_line, start_fate, uri_fate, fate};
 
-use crate::place::{Fate, MOST_URIS, Place};
+use crate::place::{Fate, LinePlace, MOST_URIS};
+use gixp_utils::without_line_end;
 
 // A line without band 1, where all lines have a band.
 fn without_band(line: &[u8]) -> &[u8]
@@ -16,20 +17,11 @@ fn without_band(line: &[u8]) -> &[u8]
     }
 }
 
-fn without_end(line: &[u8]) -> &[u8]
-    ensures { result.now ≡ without_end line.now }
-{
-    match line.strip_suffix(b"\n") {
-        Some(text) => text,
-        None => line,
-    }
-}
-
 /// The text of a line, without its band and LF.
 pub(crate) fn text_of(line: &[u8]) -> &[u8]
     ensures { result.now ≡ text_of line.now }
 {
-    without_end(without_band(line))
+    without_line_end(without_band(line))
 }
 
 fn is_message(line: &[u8]) -> bool
@@ -86,9 +78,9 @@ fn start_fate(line: &[u8]) -> Fate
     ensures { result ≡ start_fate line.now }
 {
     if is_header(line) {
-        Fate::Take(Place::Uris(0))
+        Fate::Take(LinePlace::Uris(0))
     } else {
-        Fate::Pass(Place::Section)
+        Fate::Pass(LinePlace::Section)
     }
 }
 
@@ -97,23 +89,23 @@ fn uri_fate(count: usize, line: &[u8]) -> Fate
     ensures { result ≡ uri_fate count line.now }
 {
     if count < MOST_URIS && is_uri_line(text_of(line)) {
-        Fate::Take(Place::Uris(count + 1))
+        Fate::Take(LinePlace::Uris(count + 1))
     } else {
         Fate::Refuse
     }
 }
 
 /// What happens to a line.
-pub(crate) fn fate(place: Place, line: &[u8]) -> Fate
+pub(crate) fn fate(place: LinePlace, line: &[u8]) -> Fate
     ensures { result ≡ fate place line.now }
 {
     if is_message(line) {
         return Fate::Pass(place);
     }
     match place {
-        Place::SectionStart => start_fate(line),
-        Place::Uris(count) => uri_fate(count, line),
-        Place::Section => Fate::Pass(Place::Section),
-        Place::Over => Fate::Pass(Place::Over),
+        LinePlace::SectionStart => start_fate(line),
+        LinePlace::Uris(count) => uri_fate(count, line),
+        LinePlace::Section => Fate::Pass(LinePlace::Section),
+        LinePlace::Over => Fate::Pass(LinePlace::Over),
     }
 }

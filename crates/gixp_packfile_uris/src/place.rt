@@ -18,7 +18,7 @@ pub trait UriSink {
 
 /// Where a packet line occurs in a response of version 2.
 #[derive(Clone, Copy)]
-pub(crate) enum Place {
+pub(crate) enum LinePlace {
     /// At the start of a section, where `packfile-uris` may begin.
     SectionStart,
     /// In another section.
@@ -33,9 +33,9 @@ pub(crate) enum Place {
 #[derive(Clone, Copy)]
 pub(crate) enum Fate {
     /// It is passed on.
-    Pass(Place),
+    Pass(LinePlace),
     /// It belongs to the section `packfile-uris`.
-    Take(Place),
+    Take(LinePlace),
     /// It is not a valid line of that section, and ends the stream.
     Refuse,
 }
@@ -56,7 +56,7 @@ pub(crate) enum Next {
 /// What comes after a held packet line, and how many of its bytes are passed on before that.
 #[derive(Clone, Copy)]
 pub(crate) struct After {
-    pub(crate) place: Place,
+    pub(crate) place: LinePlace,
     pub(crate) next: Next,
     pub(crate) count: usize,
 }
@@ -80,7 +80,7 @@ pub(crate) struct After {
 pub struct PackfileUris<R, S> {
     pub(crate) reader: R,
     pub(crate) sink: S,
-    pub(crate) place: Place,
+    pub(crate) place: LinePlace,
     pub(crate) next: Next,
     // Space for one packet line. The bytes from `start` to `end` were read and not yet passed on.
     pub(crate) room: Vec<u8>,

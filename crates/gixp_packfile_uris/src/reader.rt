@@ -9,7 +9,7 @@ ghost use Rattle.gixp_packfile_uris.specs.Order.{is_holding};
 ghost use Rattle.gixp_packfile_uris.specs.Sink.{TakesLines, all_lines, SameKnown, IsKnownFalse};
 
 use crate::line::{fate, text_of};
-use crate::place::{After, Fate, Next, PackfileUris, Place, UriSink};
+use crate::place::{After, Fate, LinePlace, Next, PackfileUris, UriSink};
 use hex;
 use std::alloc::{AllocError, Global};
 use std::io;
@@ -33,31 +33,31 @@ fn size_of(digits: &[u8]) -> Option<usize>
     }
 }
 
-fn in_uris(place: Place) -> bool
+fn in_uris(place: LinePlace) -> bool
     ensures { result ≡ in_uris place }
 {
     match place {
-        Place::Uris(_) => true,
-        Place::SectionStart | Place::Section | Place::Over => false,
+        LinePlace::Uris(_) => true,
+        LinePlace::SectionStart | LinePlace::Section | LinePlace::Over => false,
     }
 }
 
 // Where a section begins after a delimiter packet.
-fn after_delimiter(place: Place) -> Place
+fn after_delimiter(place: LinePlace) -> LinePlace
     ensures { result ≡ after_delimiter place }
 {
     match place {
-        Place::SectionStart | Place::Section => Place::SectionStart,
-        Place::Uris(_) | Place::Over => Place::Over,
+        LinePlace::SectionStart | LinePlace::Section => LinePlace::SectionStart,
+        LinePlace::Uris(_) | LinePlace::Over => LinePlace::Over,
     }
 }
 
-fn delimiter_after(place: Place) -> After
+fn delimiter_after(place: LinePlace) -> After
     ensures { result ≡ delimiter_after place }
 {
     if in_uris(place) {
         After {
-            place: Place::Over,
+            place: LinePlace::Over,
             next: Next::Hold(4),
             count: 0,
         }
@@ -71,7 +71,7 @@ fn delimiter_after(place: Place) -> After
 }
 
 // What comes after a flush or response-end packet.
-fn flush_after(place: Place) -> After
+fn flush_after(place: LinePlace) -> After
     ensures { result ≡ flush_after place }
 {
     if in_uris(place) {
@@ -82,7 +82,7 @@ fn flush_after(place: Place) -> After
         }
     } else {
         After {
-            place: Place::SectionStart,
+            place: LinePlace::SectionStart,
             next: Next::Payload(0),
             count: 4,
         }
@@ -90,12 +90,12 @@ fn flush_after(place: Place) -> After
 }
 
 // What comes after the digits of a line of this size.
-fn line_after(place: Place, size: usize) -> After
+fn line_after(place: LinePlace, size: usize) -> After
     ensures { result ≡ line_after place size }
 {
     let next = match place {
-        Place::SectionStart | Place::Uris(_) => Next::Hold(size),
-        Place::Section | Place::Over => Next::Payload(size.saturating_sub(4)),
+        LinePlace::SectionStart | LinePlace::Uris(_) => Next::Hold(size),
+        LinePlace::Section | LinePlace::Over => Next::Payload(size.saturating_sub(4)),
     };
     After {
         place,
@@ -105,7 +105,7 @@ fn line_after(place: Place, size: usize) -> After
 }
 
 // What comes after the four digits of a packet line.
-fn digits_after(place: Place, size: Option<usize>) -> After
+fn digits_after(place: LinePlace, size: Option<usize>) -> After
     ensures { result ≡ digits_after place size }
 {
     match size {
@@ -121,7 +121,7 @@ fn digits_after(place: Place, size: Option<usize>) -> After
 }
 
 // What comes after a whole line of `count` bytes.
-fn fate_after(place: Place, fate: Fate, count: usize) -> After
+fn fate_after(place: LinePlace, fate: Fate, count: usize) -> After
     ensures { result ≡ fate_after place fate count }
 {
     match fate {
@@ -143,7 +143,7 @@ fn fate_after(place: Place, fate: Fate, count: usize) -> After
     }
 }
 
-fn takes_uri(place: Place, fate: Fate) -> bool
+fn takes_uri(place: LinePlace, fate: Fate) -> bool
     ensures { result ≡ takes_uri place fate }
 {
     match fate {
@@ -194,7 +194,7 @@ impl<R: Read + Drop, S: UriSink + Drop> PackfileUris<R, S> {
         Ok(PackfileUris {
             reader,
             sink,
-            place: Place::SectionStart,
+            place: LinePlace::SectionStart,
             next: Next::Hold(4),
             room: vec![in alloc; 0; MOST_BYTES]?,
             start: 0,

@@ -4,7 +4,7 @@ use Rattle.std.specs.Option.{option_map}
 use Rattle.gixp_packetline.specs.declared.protocol.Protocol.{Protocol}
 use Rattle.gixp_packetline.specs.Pieces.{Pieces}
 use Rattle.gixp_packetline.specs.Reading.{Reading, Rose}
-use Rattle.gixp_wire.specs.Transport.{SentBy}
+use Rattle.gixp_transport.specs.Transport.{SentBy}
 use Rattle.gixp_sidebands.specs.Bands.{unband}
 use Rattle.gixp_response.specs.Answer.{AnswerValue, Found, whole}
 use Rattle.gixp_response.specs.AnswerReading.{Answered}

@@ -10,12 +10,12 @@ use Rattle.gixp_packetline.specs.TransportState.{TransportState}
 use Rattle.gixp_capabilities.specs.declared.client.Error.{Error as client_error}
 use Rattle.gixp_capabilities.specs.declared.client.Error.TheVariants as client
 use Rattle.gixp_capabilities.specs.Client.{client_refusal}
-use Rattle.gixp_wire.specs.declared.service.Service.TheVariants.{UploadPack}
-use Rattle.gixp_wire.specs.declared.service.SetServiceResponse.{SetServiceResponse}
-use Rattle.gixp_wire.specs.Bodies.{bodies_reading}
-use Rattle.gixp_wire.specs.CapabilityAdvertisement.{Advertised, advertisement, Answers, IsOfSaid, IsFromDevice}
-use Rattle.gixp_wire.specs.Handshake.{Handshakes, HandshakesBy}
-use Rattle.gixp_wire.specs.Transport.{first_answer, later_answers, answer_pieces}
+use Rattle.gixp_transport.specs.declared.service.Service.TheVariants.{UploadPack}
+use Rattle.gixp_transport.specs.declared.service.SetServiceResponse.{SetServiceResponse}
+use Rattle.gixp_transport.specs.Bodies.{bodies_reading}
+use Rattle.gixp_transport.specs.CapabilityAdvertisement.{Advertised, advertisement, Answers, IsOfAdvertisement, IsFromDevice}
+use Rattle.gixp_transport.specs.Handshake.{Handshakes, HandshakesBy}
+use Rattle.gixp_transport.specs.Transport.{first_answer, later_answers, answer_pieces}
 use Rattle.gixp_refs.specs.declared.handshake.refs.parse.Error.{Error as parse_error}
 use Rattle.gixp_refs.specs.declared.handshake.refs.parse.Error.TheVariants as parse
 use Rattle.gixp_refs.specs.Ref.{RefValue, ref_value}
@@ -29,9 +29,9 @@ use Rattle.gixp_handshake.specs.declared.handshake.read.Handshake.{Handshake}
 use Rattle.gixp_handshake.specs.Shake.{CredentialCall, OpeningResult, Got, StopsForMemory, Denied, First, Opens, ReadsFirst, KeepsVersion, FinishesHandshake, is_accepted}
 use Rattle.gixp_handshake.specs.ShakeError.{from_client, from_parse, is_denial, is_denied}
 use Rattle.gixp_planner.specs.Refusal.{handshake_name}
-use Rattle.gixp_planner.specs.Session.{AreUnanswered, GreetsWithoutAccount}
+use Rattle.gixp_handshake.specs.WithoutAccount.{AreUnanswered, GreetsWithoutAccount}
 use Rattle.gixp_planner.specs.Discovered.{Discovery, discovered, with_refs, by_symrefs, by_refs, by_acceptance, by_advertisement, discovery, values_of, HasDiscovered, IsDiscovered, GreetingsFollow}
-use Rattle.gixp_planner.proofs.MappedLemmas.{if-known, new-held, Hears, hears-by, Greeted, greeted}
+use Rattle.gixp_planner.proofs.MappedLemmas.{if-known, new-held, ReceivesAdvertisement, receives-by, Greeted, greeted}
 use Rattle.gixp_planner.proofs.AnswerLemmas.{never-none}
 
 -- ---- what was said
@@ -40,58 +40,59 @@ use Rattle.gixp_planner.proofs.AnswerLemmas.{never-none}
 abbrev pub next_pieces : Reading → Pieces
 next_pieces r = answer_pieces (first_answer r.held.answers)
 
-record Said (accepted : List Protocol) (p : Pieces) (new : Reading) (found : SetServiceResponse) : Type 0 where
+record AdvertisedSo (accepted : List Protocol) (p : Pieces) (new : Reading) (found : SetServiceResponse) : Type 0 where
   what : Advertised
-  said : advertisement p ≡ Ok what
+  advertised : advertisement p ≡ Ok what
   answers : Answers what new found
   version : new.version ≡ what.version
   accepts : is_accepted accepted found.actual_protocol ≡ is_accepted accepted what.version
 
-heard : (old new : Reading) (found : SetServiceResponse) → Hears old new found → Said old.held.accepted (next_pieces old) new found
-heard old new found h =
+is-advertised : (old new : Reading) (found : SetServiceResponse) → ReceivesAdvertisement old new found
+    → AdvertisedSo old.held.accepted (next_pieces old) new found
+is-advertised old new found h =
     let v = if-known _ h.mid.to_come (next_pieces old) h.takes.to_come h.reads.value in
     record {
       what = v.0;
-      said = v.1;
+      advertised = v.1;
       answers = v.2;
       version = h.reads.version ∙ v.2.version;
       accepts = ap (is_accepted old.held.accepted) v.2.version;
     }
 
 -- where its version is accepted, or isn't
-said-so : (accepted : List Protocol) (p : Pieces) (new : Reading) (found : SetServiceResponse) (s : Said accepted p new found)
+advertised-so : (accepted : List Protocol) (p : Pieces) (new : Reading) (found : SetServiceResponse) (s : AdvertisedSo accepted p new found)
     (ok : Bool) → is_accepted accepted found.actual_protocol ≡ ok
     → discovery accepted p ≡ by_acceptance ok s.what
-said-so accepted p new found s ok e = ap (by_advertisement accepted) s.said ∙ ap (λ b. by_acceptance b s.what) (sym s.accepts ∙ e)
+advertised-so accepted p new found s ok e = ap (by_advertisement accepted) s.advertised ∙ ap (λ b. by_acceptance b s.what) (sym s.accepts ∙ e)
 
 -- the lines that come next are those after what was said
-lines-said : (accepted : List Protocol) (p : Pieces) (new : Reading) (found : SetServiceResponse) (s : Said accepted p new found)
+lines-advertised : (accepted : List Protocol) (p : Pieces) (new : Reading) (found : SetServiceResponse) (s : AdvertisedSo accepted p new found)
     → lines_from_stop s.what.stopped s.what.version s.what.rest ≡ lines_ahead new s.what.rest
-lines-said accepted p new found s = sym (ap (λ x. lines_from_stop x new.version s.what.rest) s.answers.stopped
+lines-advertised accepted p new found s = sym (ap (λ x. lines_from_stop x new.version s.what.rest) s.answers.stopped
     ∙ ap (λ v. lines_from_stop s.what.stopped v s.what.rest) s.version)
 
 -- ---- a handshake that came to its refs
 
 -- what it came to, and what is held then
 pub record Discovers (old new : Reading) (h : Handshake) : Type 0 where
-  pub said : Discovery
-  pub so : discovery old.held.accepted (next_pieces old) ≡ Ok said
-  pub has : HasDiscovered said h
+  pub advertised : Discovery
+  pub so : discovery old.held.accepted (next_pieces old) ≡ Ok advertised
+  pub has : HasDiscovered advertised h
   pub held : new.held ≡ record old.held { answers = later_answers old.held.answers }
-  pub version : said.refs ≡ None → new.version ≡ said.version
+  pub version : advertised.refs ≡ None → new.version ≡ advertised.version
 
 no-refs : (refs : List RefValue) → ◌≡◌ {A = Option (List RefValue)} (Some refs) None → ⊥
 no-refs refs e = cc e
 
 module _ (plain : Bool) (old new : Reading) (h : Handshake) (g : Greeted plain old new h)
-    (s : Said old.held.accepted (next_pieces old) g.mid g.found) where
+    (s : AdvertisedSo old.held.accepted (next_pieces old) g.mid g.found) where
   held-then : g.mid.held ≡ record old.held { answers = later_answers old.held.answers }
-  held-then = g.hears.reads.held ∙ g.hears.takes.held
+  held-then = g.receives.reads.held ∙ g.receives.takes.held
 
   discovers-by : (follow : Bool) → discovery old.held.accepted (next_pieces old) ≡ by_refs follow s.what
       → ReadsFirst follow g.found plain g.mid new (Ok h) → Discovers old new h
   discovers-by false e f = record {
-    said = discovered s.what None;
+    advertised = discovered s.what None;
     so = e;
     has = record {
       version = g.version ∙ s.answers.version;
@@ -105,9 +106,9 @@ module _ (plain : Bool) (old new : Reading) (h : Handshake) (g : Greeted plain o
       let reads = f.4.2 in
       let lines = if-known _ g.mid.to_come s.what.rest s.answers.rest reads.lines in
       let values : v1_refs f.4.0 (lines_from_stop s.what.stopped s.what.version s.what.rest) ≡ Ok (map ref_value f.0.items) =
-      ap (v1_refs f.4.0) (lines-said old.held.accepted (next_pieces old) g.mid g.found s ∙ lines.2) ∙ reads.values in
+      ap (v1_refs f.4.0) (lines-advertised old.held.accepted (next_pieces old) g.mid g.found s ∙ lines.2) ∙ reads.values in
       record {
-        said = discovered s.what (Some (map ref_value f.0.items));
+        advertised = discovered s.what (Some (map ref_value f.0.items));
         so = e ∙ ap (by_symrefs s.what) (ap symref_table (sym s.answers.capabilities) ∙ f.4.1) ∙ ap (with_refs s.what) values;
         has = record {
           version = g.version ∙ s.answers.version;
@@ -122,9 +123,9 @@ pub discovers : (plain : Bool) (old new : Reading) (h : Handshake) → old.held.
     → GreetsWithoutAccount plain old new (Ok h) → Discovers old new h
 discovers plain old new h alone greets =
     let g = greeted plain old new h alone greets in
-    let s = heard old g.mid g.found g.hears in
+    let s = is-advertised old g.mid g.found g.receives in
     discovers-by plain old new h g s g.found.has_refs
-    (said-so old.held.accepted (next_pieces old) g.mid g.found s true g.accepted
+    (advertised-so old.held.accepted (next_pieces old) g.mid g.found s true g.accepted
     ∙ ap (λ b. by_refs b s.what) (sym s.answers.has_refs)) g.first
 
 -- ---- one that was refused
@@ -190,8 +191,8 @@ from-device old new client.Memory z d = refl
 
 -- what was said is refused
 record Unsaid (p : Pieces) (c : client_error) : Type 0 where
-  said : advertisement p ≡ Err (client_refusal c)
-  caused : IsOfSaid c
+  advertised : advertisement p ≡ Err (client_refusal c)
+  caused : IsOfAdvertisement c
 
 unsaid : (old new : Reading) (c : client_error) → new.failures ≡ 0 → HandshakesBy false UploadPack [] old new (Err c)
     → Unsaid (next_pieces old) c ⊎ (c ≡ client.Memory)
@@ -199,12 +200,12 @@ unsaid old new c z (inl h) = absurd (never-none old.failures new.failures h.3.1 
 unsaid old new c z (inr h) = by_why h.3.why h.3.caused
   where
     by_why : (IfSome h.0.to_come (λ p. advertisement p ≡ Err (client_refusal c)) × (new.failures ≡ h.0.failures)) ⊎ IsFromDevice h.0 new c
-        → (IsOfSaid c × (new.failures ≡ h.0.failures)) ⊎ IsFromDevice h.0 new c → Unsaid (next_pieces old) c ⊎ (c ≡ client.Memory)
+        → (IsOfAdvertisement c × (new.failures ≡ h.0.failures)) ⊎ IsFromDevice h.0 new c → Unsaid (next_pieces old) c ⊎ (c ≡ client.Memory)
     by_why (inr d) x = inr (from-device h.0 new c z d)
     by_why (inl w) (inr d) = inr (from-device h.0 new c z d)
     by_why (inl w) (inl x) =
         inl (record {
-          said = if-known (λ p. advertisement p ≡ Err (client_refusal c)) h.0.to_come (next_pieces old) h.1.to_come w.0;
+          advertised = if-known (λ p. advertisement p ≡ Err (client_refusal c)) h.0.to_come (next_pieces old) h.1.to_come w.0;
           caused = x.0;
         })
 
@@ -212,7 +213,7 @@ unsaid old new c z (inr h) = by_why h.3.why h.3.caused
 wants-none : (kind : ErrorKind) → kind ≡ UnexpectedEof → is_denial kind ≡ false
 wants-none kind e = ap is_denial e
 
-undenied-so : (c : client_error) → IsOfSaid c → is_denied c ≡ false
+undenied-so : (c : client_error) → IsOfAdvertisement c → is_denied c ≡ false
 undenied-so (client.Io kind) s = wants-none kind s
 undenied-so (client.Read e) s = refl
 undenied-so client.LineTooLong s = refl
@@ -227,7 +228,7 @@ not-denied c p (inr m) = ap is_denied m
 
 -- an error of the handshake is that of what was said
 memory-ends : (v : Result Discovery (List ℕ)) (e : handshake_error) → e ≡ handshake.Memory → IsDiscovered v (Err e)
-memory-ends (Ok said) e m = m
+memory-ends (Ok advertised) e m = m
 memory-ends (Err name) e m = inr m
 
 named-ends : (v : Result Discovery (List ℕ)) (name : List ℕ) (e : handshake_error) → v ≡ Err name → (handshake_name e ≡ name)
@@ -249,7 +250,7 @@ module _ (old new : Reading) (e : handshake_error) (turns : List CredentialCall)
   verdict = discovery old.held.accepted (next_pieces old)
 
   -- in its refs
-  module _ (mid : Reading) (found : SetServiceResponse) (s : Said old.held.accepted (next_pieces old) mid found) where
+  module _ (mid : Reading) (found : SetServiceResponse) (s : AdvertisedSo old.held.accepted (next_pieces old) mid found) where
     unread-refs : (x : parse_error) (v : verdict ≡ Err (codes "ParseRefs")) → e ≡ from_parse x → IsDiscovered verdict (Err e)
     unread-refs x v q = named-ends verdict (codes "ParseRefs") e v
         (subst (λ y. (handshake_name y ≡ codes "ParseRefs") ⊎ (y ≡ handshake.Memory)) (sym q) (named-parse x))
@@ -265,11 +266,11 @@ module _ (old new : Reading) (e : handshake_error) (turns : List CredentialCall)
     by-lines t v x (inr n) f = memory-ends verdict e (f ∙ ap from_parse n.error)
     by-lines t v x (inl (inl l)) f =
         unread-refs x
-        (v ∙ ap (with_refs s.what) (ap (v1_refs t) (lines-said old.held.accepted (next_pieces old) mid found s)
+        (v ∙ ap (with_refs s.what) (ap (v1_refs t) (lines-advertised old.held.accepted (next_pieces old) mid found s)
         ∙ if-known (λ p. v1_refs t (lines_ahead mid p) ≡ Err l.refusal) mid.to_come s.what.rest s.answers.rest l.first)) f
     by-lines t v x (inl (inr (inl l))) f =
         unread-refs x
-        (v ∙ ap (with_refs s.what) (ap (v1_refs t) (lines-said old.held.accepted (next_pieces old) mid found s) ∙ if-known
+        (v ∙ ap (with_refs s.what) (ap (v1_refs t) (lines-advertised old.held.accepted (next_pieces old) mid found s) ∙ if-known
         (λ p. v1_refs t (lines_ahead mid p) ≡ Err (refusal_from l.refusal)) mid.to_come s.what.rest s.answers.rest l.first)) f
     by-lines t v x (inl (inr (inr (inl l)))) f =
         memory-ends verdict e (f ∙ ap from_parse (memory-read x (l.error ∙ outside l.now new l.refusal z l.failed (l.is_plain refl))))
@@ -290,11 +291,11 @@ module _ (old new : Reading) (e : handshake_error) (turns : List CredentialCall)
     by-version : (ok : Bool) → is_accepted old.held.accepted found.actual_protocol ≡ ok → KeepsVersion ok found true mid new (Err e)
         → IsDiscovered verdict (Err e)
     by-version true q k =
-        by-first found.has_refs (said-so old.held.accepted (next_pieces old) mid found s true q
+        by-first found.has_refs (advertised-so old.held.accepted (next_pieces old) mid found s true q
         ∙ ap (λ b. by_refs b s.what) (sym s.answers.has_refs)) k.0
     by-version false q k =
         named-ends verdict (codes "TransportProtocolPolicyViolation") e
-        (said-so old.held.accepted (next_pieces old) mid found s false q) (inl (ap handshake_name (err-same e _ k.1)))
+        (advertised-so old.held.accepted (next_pieces old) mid found s false q) (inl (ap handshake_name (err-same e _ k.1)))
 
   -- or before it
   by-opening : (opened : OpeningResult) (d : handshake_error) (mid : Reading) → opened ≡ err_opened d
@@ -308,7 +309,7 @@ module _ (old new : Reading) (e : handshake_error) (turns : List CredentialCall)
 
     unheard : (c : client_error) → Unsaid (next_pieces old) c ⊎ (c ≡ client.Memory) → e ≡ from_client c → IsDiscovered verdict (Err e)
     unheard c (inl s) q =
-        named-ends verdict (codes "Transport") e (ap (by_advertisement old.held.accepted) s.said)
+        named-ends verdict (codes "Transport") e (ap (by_advertisement old.held.accepted) s.advertised)
         (subst (λ y. (handshake_name y ≡ codes "Transport") ⊎ (y ≡ handshake.Memory)) (sym q) (named-client c))
     unheard c (inr m) q = memory-ends verdict e (q ∙ ap from_client m)
 
@@ -333,9 +334,9 @@ module _ (old new : Reading) (e : handshake_error) (turns : List CredentialCall)
         → First first UploadPack [] now mid turns opened → IsDiscovered verdict (Err e)
     by-call (Err c) now h f = by-denial (is_denied c) c now refl h f
     by-call (Ok found) now h f =
-        let hears = hears-by UploadPack [] old.held.persists old now found alone h in
+        let receives = receives-by UploadPack [] old.held.persists old now found alone h in
         let k = subst (λ o. FinishesHandshake old.held.accepted o true mid new (Err e)) f.2 g in
-        by-version now found (heard old now found hears) (is_accepted old.held.accepted found.actual_protocol) refl
+        by-version now found (is-advertised old now found receives) (is_accepted old.held.accepted found.actual_protocol) refl
         (subst (λ r. KeepsVersion (is_accepted old.held.accepted found.actual_protocol) found true r new (Err e)) f.1 k)
 
     by-opens : Opens UploadPack [] old mid turns opened ⊎ StopsForMemory old mid turns opened → IsDiscovered verdict (Err e)

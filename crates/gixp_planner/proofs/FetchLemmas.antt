@@ -27,12 +27,12 @@ use Rattle.gixp_fetch.specs.Fetched.{CarriesOut}
 use Rattle.gixp_fetch.proofs.SessionLemmas.{received_held}
 use Rattle.gixp_planner.specs.Refusal.{PlanRefusal}
 use Rattle.gixp_planner.specs.Session.{planner_agent, planner_call, FetchesOver, FetchesMapped}
-use Rattle.gixp_planner.specs.Follows.{AsksBehind}
+use Rattle.gixp_planner.specs.Follows.{AsksAfterMap}
 use Rattle.gixp_planner.proofs.MappedLemmas.{HoldAlike, same-ok}
 use Rattle.gixp_planner.proofs.WantLemmas.{Basis, SameBasis, decided, asked_for, decided-alike, asked-alike}
 use Rattle.gixp_planner.proofs.CountLemmas.{CountsNone, received-failures}
 use Rattle.gixp_planner.proofs.ListRoundLemmas.{ListRound}
-use Rattle.gixp_planner.proofs.RoundLemmas.{AtAlike, asks-behind, packed-alike}
+use Rattle.gixp_planner.proofs.RoundLemmas.{AtAlike, asks-following, packed-alike}
 
 -- a side that knows the repository: it goes by a basis, and its negotiator offers a list
 pub record OffersList {N A : Type 0} (negotiation_calls : NegotiationCalls N A) (basis : N → Basis)
@@ -185,7 +185,7 @@ module _ {N I A S C P X : Type 0} (parties : Parties N I A S C P X) (basis : N �
     (reads : (s : S) (ids : List ObjectId) (t : S) → IsEmpty s → parties.store_calls.reads s ids t → ids ≡ [])
     (none : CountsNone parties.consumes) where
   abbrev how : Protocol → Bool → Manner N I A
-  how v banded = manner_of parties.negotiation_calls parties.says v banded parties.plain
+  how v banded = manner_of parties.negotiation_calls parties.polls v banded parties.plain
 
   -- it came to a pack
   pub record Rounded (v : Protocol) (caps : List CapabilityValue) (n : N) (old new : Reading) : Type 0 where
@@ -202,9 +202,9 @@ module _ {N I A S C P X : Type 0} (parties : Parties N I A S C P X) (basis : N �
     failures : new.failures ≡ end.reading.failures
 
   -- or there was nothing to ask for
-  abbrev pub Came : Protocol → List CapabilityValue → N → Reading → Reading → Option Outcome → Type 0
-  Came v caps n old new (Some out) = Rounded v caps n old new
-  Came v caps n old new None = Rested parties.negotiation_calls basis haves list v caps n old new
+  abbrev pub Received : Protocol → List CapabilityValue → N → Reading → Reading → Option Outcome → Type 0
+  Received v caps n old new (Some out) = Rounded v caps n old new
+  Received v caps n old new None = Rested parties.negotiation_calls basis haves list v caps n old new
 
   module _ (IsOver : N → Type 0) (h : Handshake) (old new : Reading) where
     prepared-first : (asked : ArgumentsValue) (banded : Bool) → Prepared git_table h.server_protocol_version
@@ -255,12 +255,12 @@ module _ {N I A S C P X : Type 0} (parties : Parties N I A S C P X) (basis : N �
               s.negotiated.packed);
           held =
               ap (λ (r : Reading). r.held) (sym f.ends)
-              ∙ ap (λ (w : World N I S C). w.reading.held) c.stands
+              ∙ ap (λ (w : World N I S C). w.reading.held) c.position
               ∙ received_held parties.consumes f.first.consumer s.end.reading c.last.consumer c.last.reading f.progress
               s.delivered.received;
           failures =
               ap (λ (r : Reading). r.failures) (sym f.ends)
-              ∙ ap (λ (w : World N I S C). w.reading.failures) c.stands
+              ∙ ap (λ (w : World N I S C). w.reading.failures) c.position
               ∙ received-failures parties.consumes none f.first.consumer s.end.reading c.last.consumer c.last.reading f.progress
               s.delivered.received;
         }
@@ -276,22 +276,22 @@ module _ {N I A S C P X : Type 0} (parties : Parties N I A S C P X) (basis : N �
           opens = opened-first c.held s.ids c.last.store c.asked s.asked (subst IsEmpty (sym c.locks.0) f.empty) p.0 s.opened;
           last = c.last.negotiate;
           idle = s.idle;
-          rests = sym f.ends ∙ ap (λ (w : World N I S C). w.reading) c.stands ∙ s.rests.reading ∙ f.begins;
+          rests = sym f.ends ∙ ap (λ (w : World N I S C). w.reading) c.position ∙ s.rests.reading ∙ f.begins;
         }
 
     pub came : (o : Option Outcome) → FetchesMapped parties IsOver IsEmpty h old new (Ok o) → (n : N) × IsOver n
-        × Came h.server_protocol_version h.capabilities n old new o
+        × Received h.server_protocol_version h.capabilities n old new o
     came o (inr n) = absurd (not-refused-ok _ _ n.1)
     came (Some out) (inl f) = (f.first.negotiate, f.over, rounded out f f.fetched.fetched)
     came None (inl f) = (f.first.negotiate, f.over, rested f f.fetched.fetched)
 
   -- what it asked for after the requests up to its ref map
-  pub asked-behind : (v : Protocol) (caps : List CapabilityValue) (n : N) (old new : Reading) → old.held.persists ≡ false
-      → (o : Option Outcome) → Came v caps n old new o → AsksBehind (came_to o) old.held.sent new.held.sent
-  asked-behind v caps n old new alone (Some out) r =
-      let s = asks-behind (how v (bands v caps)) _ r.rounds r.updates r.reply r.end alone r.packed in
+  pub asked-following : (v : Protocol) (caps : List CapabilityValue) (n : N) (old new : Reading) → old.held.persists ≡ false
+      → (o : Option Outcome) → Received v caps n old new o → AsksAfterMap (came_to o) old.held.sent new.held.sent
+  asked-following v caps n old new alone (Some out) r =
+      let s = asks-following (how v (bands v caps)) _ r.rounds r.updates r.reply r.end alone r.packed in
       (s.0, s.1, ap (λ (h : TransportState). h.sent) r.held ∙ s.2)
-  asked-behind v caps n old new alone None r = ap (λ (z : Reading). z.held.sent) r.rests
+  asked-following v caps n old new alone None r = ap (λ (z : Reading). z.held.sent) r.rests
 
   -- ---- two fetches
 
@@ -312,14 +312,14 @@ module _ {N I A S C P X : Type 0} (parties : Parties N I A S C P X) (basis : N �
         other-rests parties.negotiation_calls basis haves list v caps n o basis_same haves_same a b hold d l.ready l.wanted l.began r
 
     -- both came to the same end
-    pub ends-same : (x y : Option Outcome) → Came v caps n a c x → Came v caps o b d y → came_to x ≡ came_to y
+    pub ends-same : (x y : Option Outcome) → Received v caps n a c x → Received v caps o b d y → came_to x ≡ came_to y
     ends-same (Some x) (Some y) l r = refl
     ends-same (Some x) None l r = absurd (other-none l r)
     ends-same None (Some y) l r = absurd (first-none l r)
     ends-same None None l r = refl
 
     -- where none is counted both sent the same
-    pub sent-same : c.failures ≡ 0 → d.failures ≡ 0 → (x y : Option Outcome) → Came v caps n a c x → Came v caps o b d y → c.held ≡ d.held
+    pub sent-same : c.failures ≡ 0 → d.failures ≡ 0 → (x y : Option Outcome) → Received v caps n a c x → Received v caps o b d y → c.held ≡ d.held
     sent-same z w (Some x) (Some y) l r =
         l.held ∙ packed-alike (how v (bands v caps)) haves list.goes _ _ _ _ _ _ _ _ _ _ (starts-so l r) l.packed
         (sym l.failures ∙ z) r.packed (sym r.failures ∙ w) ∙ sym r.held

@@ -3,9 +3,9 @@
 use Rattle.std.proofs.Common.{◌≡◌, ℕ, Bool, true, List, [], ◌++◌, codes, Option, Some, None, Result, Ok, Err, ◌⊎◌, inl, inr, refl, sym, ap, ◌∙◌, subst}
 use Rattle.std.specs.Prelude.{IsOk}
 use Rattle.std.specs.Io.KnownBytes.{Appends, Keeps}
-use Rattle.gixp_wire.specs.declared.bodies.Body.{Body}
+use Rattle.gixp_transport.specs.declared.bodies.Body.{Body}
 use Rattle.gixp_hash.specs.declared.object_id.ObjectId.{ObjectId}
-use Rattle.gixp_wire.specs.Bodies.{bodies_reading}
+use Rattle.gixp_transport.specs.Bodies.{bodies_reading}
 use Rattle.gixp_packetline.specs.Reading.{Reading}
 use Rattle.gixp_packetline.specs.TransportState.{TransportState}
 use Rattle.gixp_refmap.specs.declared.refmap.map.RefMap.{RefMap}
@@ -23,13 +23,13 @@ use Rattle.gixp_planner.specs.Text.{Course, requests_shown, mapped_shown, end_sh
 use Rattle.gixp_planner.specs.Session.{FetchesMapped, Runs, ungreeted, unmapped, fetched, end_of}
 use Rattle.gixp_planner.specs.PlannedText.{PlannedText, shown, refused}
 use Rattle.gixp_planner.specs.Mapped.{IsMapped}
-use Rattle.gixp_planner.specs.Follows.{AsksBehind, AreSame, RefusedForSpec, EndsSession, IsWritten, Follow}
+use Rattle.gixp_planner.specs.Follows.{AsksAfterMap, AreSame, RefusedForSpec, EndsSession, IsWritten, Follow}
 use Rattle.gixp_planner.proofs.RefusedLemmas.{planned-ungreeted}
 use Rattle.gixp_planner.proofs.SeenLemmas.{LookAlike}
 use Rattle.gixp_planner.proofs.MappedLemmas.{HoldAlike, hold-alike, SameGreeting, SameMap, both-greet, both-alike, not-ok, EndedWhole, ended-whole}
 use Rattle.gixp_planner.proofs.WantLemmas.{Basis, SameBasis}
 use Rattle.gixp_planner.proofs.CountLemmas.{CountsNone}
-use Rattle.gixp_planner.proofs.FetchLemmas.{OffersList, not-refused-ok, came_to, Came, came, ends-same, sent-same, asked-behind}
+use Rattle.gixp_planner.proofs.FetchLemmas.{OffersList, not-refused-ok, came_to, Received, came, ends-same, sent-same, asked-following}
 
 -- ---- a session
 
@@ -83,8 +83,8 @@ module _ {N I A S C P X : Type 0} (parties : Parties N I A S C P X) (basis : N �
     outcome : Option Outcome
     negotiate : N
     over : IsOver made negotiate
-    came : Came parties basis haves list IsEmpty reads none mapped.handshake.server_protocol_version mapped.handshake.capabilities
-        negotiate mapped.behind last outcome
+    came : Received parties basis haves list IsEmpty reads none mapped.handshake.server_protocol_version mapped.handshake.capabilities
+        negotiate mapped.following last outcome
     ends : last.held.sent ≡ course.sent
     maps : course.mapped ≡ Some made
     ended : course.ended ≡ came_to outcome
@@ -99,18 +99,18 @@ module _ {N I A S C P X : Type 0} (parties : Parties N I A S C P X) (basis : N �
           → EndedWhole s.0.last.failures ran course.ended → Arrived IsOver course
       by_run ran (ungreeted e g m f) k = absurd (not-refused ran (refusal (codes "handshake") (handshake_name e)) k.whole f)
       by_run ran (unmapped h mid e g l m f) k = absurd (not-refused ran (refusal (codes "refs") (map_name e)) k.whole f)
-      by_run ran (fetched h mid behind m (Err e) g l t p f) k = absurd (not-refused ran (refusal (codes "fetch") (fetch_name e)) k.whole f)
-      by_run ran (fetched h mid behind m (Ok o) g l t p f) k =
-          let c = came parties basis haves list IsEmpty reads none (IsOver m) (without_refs h) behind s.0.last o t in
+      by_run ran (fetched h mid following m (Err e) g l t p f) k = absurd (not-refused ran (refusal (codes "fetch") (fetch_name e)) k.whole f)
+      by_run ran (fetched h mid following m (Ok o) g l t p f) k =
+          let c = came parties basis haves list IsEmpty reads none (IsOver m) (without_refs h) following s.0.last o t in
           record {
-            sent = behind.held.sent;
+            sent = following.held.sent;
             made = m;
             mapped = record {
               context = s.0.context;
               transport = s.0.transport;
               handshake = h;
               mid = mid;
-              behind = behind;
+              following = following;
               read = s.0.read;
               over = s.0.over;
               greets = g;
@@ -134,7 +134,7 @@ module _ {N I A S C P X : Type 0} (parties : Parties N I A S C P X) (basis : N �
     greet : SameGreeting x.mapped.mid y.mapped.mid x.mapped.handshake y.mapped.handshake
     greet = both-greet bodies specs x.sent y.sent x.made y.made x.mapped y.mapped
 
-    maps-same : SameMap x.mapped.behind y.mapped.behind x.made y.made
+    maps-same : SameMap x.mapped.following y.mapped.following x.made y.made
     maps-same = both-alike bodies specs x.sent y.sent x.made y.made x.mapped y.mapped
 
     basis-same : SameBasis (basis x.negotiate) (basis y.negotiate) × (haves x.negotiate ≡ ids) × (haves y.negotiate ≡ ids)
@@ -143,31 +143,31 @@ module _ {N I A S C P X : Type 0} (parties : Parties N I A S C P X) (basis : N �
     haves-same : haves x.negotiate ≡ haves y.negotiate
     haves-same = basis-same.1 ∙ sym basis-same.2
 
-    hold : HoldAlike x.mapped.behind y.mapped.behind
-    hold = hold-alike x.mapped.behind y.mapped.behind maps-same.alike
+    hold : HoldAlike x.mapped.following y.mapped.following
+    hold = hold-alike x.mapped.following y.mapped.following maps-same.alike
 
-    came-same : Came parties basis haves list IsEmpty reads none x.mapped.handshake.server_protocol_version
-        x.mapped.handshake.capabilities y.negotiate y.mapped.behind y.last y.outcome
+    came-same : Received parties basis haves list IsEmpty reads none x.mapped.handshake.server_protocol_version
+        x.mapped.handshake.capabilities y.negotiate y.mapped.following y.last y.outcome
     came-same =
-        subst (λ v. Came parties basis haves list IsEmpty reads none v x.mapped.handshake.capabilities y.negotiate y.mapped.behind
+        subst (λ v. Received parties basis haves list IsEmpty reads none v x.mapped.handshake.capabilities y.negotiate y.mapped.following
         y.last y.outcome) (sym greet.version)
-        (subst (λ k. Came parties basis haves list IsEmpty reads none y.mapped.handshake.server_protocol_version k y.negotiate
-        y.mapped.behind y.last y.outcome) (sym greet.capabilities) y.came)
+        (subst (λ k. Received parties basis haves list IsEmpty reads none y.mapped.handshake.server_protocol_version k y.negotiate
+        y.mapped.following y.last y.outcome) (sym greet.capabilities) y.came)
 
     held-same : x.last.held ≡ y.last.held
     held-same =
         sent-same parties basis haves list IsEmpty reads none x.mapped.handshake.server_protocol_version x.mapped.handshake.capabilities
-        x.negotiate y.negotiate x.mapped.behind y.mapped.behind x.last y.last basis-same.0 haves-same hold
+        x.negotiate y.negotiate x.mapped.following y.mapped.following x.last y.last basis-same.0 haves-same hold
         x.uncounted y.uncounted x.outcome y.outcome x.came came-same
 
-    asked : AsksBehind c.ended x.sent c.sent
+    asked : AsksAfterMap c.ended x.sent c.sent
     asked =
         let a =
-        asked-behind parties basis haves list IsEmpty reads none x.mapped.handshake.server_protocol_version
-        x.mapped.handshake.capabilities x.negotiate x.mapped.behind x.last hold.alone x.outcome x.came in
-        subst (λ e. AsksBehind e x.sent c.sent) (sym x.ended)
-        (subst (λ s. AsksBehind (came_to x.outcome) s c.sent) x.mapped.by_then
-        (subst (λ s. AsksBehind (came_to x.outcome) x.mapped.behind.held.sent s) x.ends a))
+        asked-following parties basis haves list IsEmpty reads none x.mapped.handshake.server_protocol_version
+        x.mapped.handshake.capabilities x.negotiate x.mapped.following x.last hold.alone x.outcome x.came in
+        subst (λ e. AsksAfterMap e x.sent c.sent) (sym x.ended)
+        (subst (λ s. AsksAfterMap (came_to x.outcome) s c.sent) x.mapped.by_then
+        (subst (λ s. AsksAfterMap (came_to x.outcome) x.mapped.following.held.sent s) x.ends a))
 
     are-same : AreSame bodies specs c d
     are-same =
@@ -175,7 +175,7 @@ module _ {N I A S C P X : Type 0} (parties : Parties N I A S C P X) (basis : N �
         let ended : c.ended ≡ d.ended =
         x.ended
         ∙ ends-same parties basis haves list IsEmpty reads none x.mapped.handshake.server_protocol_version
-        x.mapped.handshake.capabilities x.negotiate y.negotiate x.mapped.behind y.mapped.behind x.last y.last basis-same.0
+        x.mapped.handshake.capabilities x.negotiate y.negotiate x.mapped.following y.mapped.following x.last y.last basis-same.0
         haves-same
         hold x.outcome y.outcome x.came came-same
         ∙ sym y.ended in

@@ -10,7 +10,7 @@ use Rattle.gixp_negotiators.specs.declared.have_list.HaveList.{HaveList}
 use Rattle.gixp_graph.specs.declared.empty.NoRefs.{NoRefs}
 use Rattle.gixp_shallow.specs.Shallow.{is_no_change}
 use Rattle.gixp_negotiate.specs.Ignored.{is_ignored}
-use Rattle.gixp_negotiate.specs.Wants.{wishes}
+use Rattle.gixp_negotiate.specs.Wants.{request_lines}
 use Rattle.gixp_planner.proofs.SeenLemmas.{LookAlike}
 use Rattle.gixp_planner.proofs.WantLemmas.{Basis, SameBasis, asked_for}
 
@@ -30,13 +30,13 @@ module _ {O G E : Type 0} (contents : O → Objects) where
       → m.ref_map.now ≡ n.ref_map.now → m.shallow.now ≡ n.shallow.now → m.tags ≡ n.tags → (a : ArgumentsValue) (known : List Bool)
       → asked_for (basis_of m) a known ≡ asked_for (basis_of n) a known
   asked-still n m objects map shallow tags a known =
-      ap (λ t. wishes (is_ignored t m.ref_map.now.extra_refspecs.items) (contents m.context.objects.now)
+      ap (λ t. request_lines (is_ignored t m.ref_map.now.extra_refspecs.items) (contents m.context.objects.now)
       (can_use (codes "ref-in-want") a) (is_no_change m.shallow.now) m.ref_map.now.mappings.items known) tags
-      ∙ ap (λ (r : RefMap). wishes (is_ignored n.tags r.extra_refspecs.items) (contents m.context.objects.now)
+      ∙ ap (λ (r : RefMap). request_lines (is_ignored n.tags r.extra_refspecs.items) (contents m.context.objects.now)
       (can_use (codes "ref-in-want") a) (is_no_change m.shallow.now) r.mappings.items known) map
-      ∙ ap (λ o. wishes (is_ignored n.tags n.ref_map.now.extra_refspecs.items) (contents o) (can_use (codes "ref-in-want") a)
+      ∙ ap (λ o. request_lines (is_ignored n.tags n.ref_map.now.extra_refspecs.items) (contents o) (can_use (codes "ref-in-want") a)
       (is_no_change m.shallow.now) n.ref_map.now.mappings.items known) objects
-      ∙ ap (λ s. wishes (is_ignored n.tags n.ref_map.now.extra_refspecs.items) (contents n.context.objects.now)
+      ∙ ap (λ s. request_lines (is_ignored n.tags n.ref_map.now.extra_refspecs.items) (contents n.context.objects.now)
       (can_use (codes "ref-in-want") a) (is_no_change s) n.ref_map.now.mappings.items known) shallow
 
   -- where no tags are added none is ignored

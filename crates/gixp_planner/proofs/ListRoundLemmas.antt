@@ -28,8 +28,8 @@ pub acts-stay : (action : ActionValue) (n : List ObjectId) (g : GraphData) (ids 
     (h : GraphData) → Acts list_calls action n g ids tips m h → m ≡ n
 acts-stay no_change n g ids tips m h a = a.0
 acts-stay skip n g ids tips m h a = a.0
-acts-stay (negotiate known) n g ids tips m h a = run-stays (tips_in g.objects tips) a.told a.told_graph m h a.added
-    ∙ run-stays _ n a.walked a.told a.told_graph a.known
+acts-stay (negotiate known) n g ids tips m h a = run-stays (tips_in g.objects tips) a.reported a.reported_graph m h a.added
+    ∙ run-stays _ n a.walked a.reported a.reported_graph a.known
 
 -- the haves of a round are the first ids up to the window
 offered-first : (w : ℕ) (xs n : List ObjectId) (g : GraphData) (m : List ObjectId) (h : GraphData) → Offered offers_first n g w xs m h
@@ -63,11 +63,11 @@ pub by-list : (n : List ObjectId) (g : GraphData) (s : Window) (a : ArgumentsVal
     (m : List ObjectId) (h : GraphData) (t : Window) (b : ArgumentsValue)
     → OneRound list_calls n g s a p r done m h t b → ListRound n s a p done m t b
 by-list n g s a p r done m h t b o =
-    let told : o.told ≡ n = run-stays (commons_of p) n g o.told o.told_graph o.hears in
-    let parts = offered-first s.haves_to_send o.haves o.told o.told_graph m h o.offered in
-    let haves : o.haves ≡ take s.haves_to_send n = parts.0 ∙ ap (take s.haves_to_send) told in
+    let reported : o.reported ≡ n = run-stays (commons_of p) n g o.reported o.reported_graph o.receives in
+    let parts = offered-first s.haves_to_send o.haves o.reported o.reported_graph m h o.offered in
+    let haves : o.haves ≡ take s.haves_to_send n = parts.0 ∙ ap (take s.haves_to_send) reported in
     record {
-      left = parts.1 ∙ ap (drop s.haves_to_send) told;
+      left = parts.1 ∙ ap (drop s.haves_to_send) reported;
       state = o.state ∙ ap (λ (xs : List ObjectId). advanced (is_any (commons_of p)) (length xs) (with_kept (commons_of p) s)) haves;
       asked = o.asked ∙ ap (λ (xs : List ObjectId). asks_haves (kept_ids t.kept ++ xs) a) haves;
       last = o.last ∙ ap (λ (xs : List ObjectId). is_last t s.haves_to_send (length xs)) haves;

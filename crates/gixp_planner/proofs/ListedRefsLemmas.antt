@@ -57,14 +57,14 @@ ends_alike-more old mid new h k = at old.to_come mid.to_come h k
         (b.0, b.1, a.2 ∙ ap (λ x. (lines_ahead mid x).ending) same ∙ b.2)
 
 -- a line that is taken leaves the end of those to come
-ending_behind : (r : Reading) (list : List Piece) (end : Refusal) (text : List ℕ) (q : Pieces)
+ending_after_line : (r : Reading) (list : List Piece) (end : Refusal) (text : List ℕ) (q : Pieces)
     → next_from r.version list end ≡ gives text q → (lines_from r.version list end).ending ≡ (lines_of r.version q).ending
-ending_behind r [] end text q h = cc
-ending_behind r (line t ∷ ps) end text q h =
+ending_after_line r [] end text q h = cc
+ending_after_line r (line t ∷ ps) end text q h =
     let p : Pieces = record { list = ps; end = end } in
     let same : p ≡ q = cc in
     ap (λ x. (lines_of r.version x).ending) same
-ending_behind r (mark kind ∷ ps) end text q h = absurd (at (is_stop r.version kind) h)
+ending_after_line r (mark kind ∷ ps) end text q h = absurd (at (is_stop r.version kind) h)
   where
     at : (b : Bool) → cond b (stops kind (record { list = ps; end = end })) (refuses unexpected_frame) ≡ gives text q → ⊥
     at true k = cc
@@ -79,7 +79,7 @@ ends_alike-taken old new h = at old.to_come h.next
     at (Some p) k = (
       k.0,
       k.1,
-      ap (λ s. (lines_from_stop s old.version p).ending) h.running ∙ ending_behind old p.list p.end new.line k.0 k.2
+      ap (λ s. (lines_from_stop s old.version p).ending) h.running ∙ ending_after_line old p.list p.end new.line k.0 k.2
           ∙ sym (ap (λ s. (lines_from_stop s new.version k.0).ending) h.stopped ∙ ap (λ v. (lines_of v k.0).ending) h.version),
     )
 
@@ -154,8 +154,8 @@ printed_rest old mid text rest h k = at old.to_come mid.to_come h.ahead k
         a.2 ∙ ap (λ x. in_front h.values (v2_refs (lines_ahead mid x))) same ∙ ap (in_front h.values) b
 
 -- where the lines to come end at a stop, so did those before
-stops_behind : (old mid new : Reading) → EndsAlike old mid → mid.failures ≡ old.failures → ReadsRefs mid new [] → StopsAfter old new
-stops_behind old mid new h f k =
+stops_after_refs : (old mid new : Reading) → EndsAlike old mid → mid.failures ≡ old.failures → ReadsRefs mid new [] → StopsAfter old new
+stops_after_refs old mid new h f k =
     record { stopped = rw k.stopped refl; rest = at old.to_come mid.to_come h k.lines; failures = k.failures ∙ f }
   where
     at : (o m : Option Pieces) → IfSome o (λ p. (q : Pieces) × (m ≡ Some q) × ((lines_ahead old p).ending ≡ (lines_ahead mid q).ending))
@@ -171,7 +171,7 @@ stops_behind old mid new h f k =
 printed-all : (old mid new : Reading) (text : List ℕ) → Printed old mid text → ReadsRefs mid new [] → PrintsAhead old new text
 printed-all old mid new text h k = record {
   printed = at old.to_come (printed_rest old mid text (Ok []) h k.value);
-  behind = stops_behind old mid new h.ending h.failures k;
+  following = stops_after_refs old mid new h.ending h.failures k;
 }
   where
     at : (o : Option Pieces) → IfSome o (λ p. v2_refs (lines_ahead old p) ≡ Ok (h.values ++ []))

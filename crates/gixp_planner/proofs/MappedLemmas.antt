@@ -6,23 +6,23 @@ use Rattle.std.specs.Io.KnownBytes.{Appends}
 use Rattle.std.specs.declared.alloc.Global.{Global}
 use Rattle.gixp_packetline.specs.declared.protocol.Protocol.{Protocol}
 use Rattle.gixp_packetline.specs.declared.protocol.MessageKind.{MessageKind}
-use Rattle.gixp_wire.specs.declared.service.Service.{Service}
-use Rattle.gixp_wire.specs.declared.service.Service.TheVariants.{UploadPack}
-use Rattle.gixp_wire.specs.declared.service.SetServiceResponse.{SetServiceResponse}
+use Rattle.gixp_transport.specs.declared.service.Service.{Service}
+use Rattle.gixp_transport.specs.declared.service.Service.TheVariants.{UploadPack}
+use Rattle.gixp_transport.specs.declared.service.SetServiceResponse.{SetServiceResponse}
 use Rattle.gixp_capabilities.specs.declared.client.Error.{Error as client_error}
 use Rattle.gixp_capabilities.specs.declared.client.Error.TheVariants as client
-use Rattle.gixp_wire.specs.declared.bodies.Body.{Body}
-use Rattle.gixp_wire.specs.declared.bodies.Bodies.{Bodies}
-use Rattle.gixp_wire.specs.Bodies.{answer_of, bodies_held, bodies_reading, IsNewBodies}
+use Rattle.gixp_transport.specs.declared.bodies.Body.{Body}
+use Rattle.gixp_transport.specs.declared.bodies.Bodies.{Bodies}
+use Rattle.gixp_transport.specs.Bodies.{answer_of, bodies_held, bodies_reading, IsNewBodies}
 use Rattle.gixp_packetline.specs.Pieces.{Pieces}
 use Rattle.gixp_packetline.specs.Lines.{Lines, stop, lines_to}
 use Rattle.gixp_packetline.specs.TransportState.{TransportState, Answer}
 use Rattle.gixp_packetline.specs.Reading.{Reading, lines_from_stop, lines_ahead}
-use Rattle.gixp_wire.specs.Greeting.{Parameter}
-use Rattle.gixp_wire.specs.Handshake.{Handshakes, HandshakesBy}
+use Rattle.gixp_transport.specs.Greeting.{Parameter}
+use Rattle.gixp_transport.specs.Handshake.{Handshakes, HandshakesBy}
 use Rattle.gixp_capabilities.specs.Capabilities.{CapabilityValue}
-use Rattle.gixp_wire.specs.CapabilityAdvertisement.{Advertised, advertisement, ReadsAdvertisement}
-use Rattle.gixp_wire.specs.Transport.{TakesAnswer, SentBy, FailsBy, Sends, entered, with_written, first_answer, later_answers, answer_pieces}
+use Rattle.gixp_transport.specs.CapabilityAdvertisement.{Advertised, advertisement, ReadsAdvertisement}
+use Rattle.gixp_transport.specs.Transport.{TakesAnswer, SentBy, FailsBy, Sends, entered, with_written, first_answer, later_answers, answer_pieces}
 use Rattle.gixp_refs.specs.declared.handshake.Ref.{Ref}
 use Rattle.gixp_shallow.specs.declared.update.ShallowUpdate.{ShallowUpdate}
 use Rattle.gixp_refs.specs.Ref.{ref_value}
@@ -52,15 +52,16 @@ use Rattle.gixp_planner.specs.Specs.{specs_of, IsContext}
 use Rattle.gixp_fetch.specs.declared.error.Error.{Error as FetchError}
 use Rattle.gixp_fetch.specs.declared.options.Outcome.{Outcome}
 use Rattle.gixp_fetch.specs.Sent.{WroteRequests}
-use Rattle.gixp_fetch.specs.FetchRounds.{SendsRound, At, Turn as FetchTurn, Manner, TurnFails, Breaks, before_request, at_request, behind_request, at_answer, behind_answer}
-use Rattle.gixp_fetch.specs.Sessions.{Untouched, RoundsBreakOff, unnamed, by_caller, exhausted, at_round, behind_pack, answered_at, SessionFails, at_depth, at_wants, in_session, Releases, HoldsSession}
+use Rattle.gixp_fetch.specs.FetchRounds.{SendsRound, At, Turn as FetchTurn, Manner, TurnFails, Breaks, before_request, at_request, after_request, at_answer, after_answer}
+use Rattle.gixp_fetch.specs.Sessions.{Untouched, RoundsBreakOff, unnamed, by_caller, exhausted, at_round, after_pack, answered_at, SessionFails, at_depth, at_wants, in_session, Releases, HoldsSession}
 use Rattle.gixp_fetch.specs.Fetch.{World, Parties}
 use Rattle.gixp_fetch.specs.Fetched.{FetchCall, Fetches, unprepared, unlocked}
 use Rattle.gixp_handshake.specs.Taken.{without_refs}
 use Rattle.gixp_planner.specs.declared.error.PlanError.{PlanError}
 use Rattle.gixp_planner.specs.Refusal.{PlanRefusal, refusal, refusal_of}
 use Rattle.gixp_planner.specs.Text.{map_shown, mapped_shown, requests_shown, end_shown, Course}
-use Rattle.gixp_planner.specs.Session.{planner_agent, planner_call, AreUnanswered, GreetsWithoutAccount, MapsRefs, FetchesMapped, Runs, ungreeted, unmapped, fetched, end_counted}
+use Rattle.gixp_handshake.specs.WithoutAccount.{AreUnanswered, GreetsWithoutAccount}
+use Rattle.gixp_planner.specs.Session.{planner_agent, planner_call, MapsRefs, FetchesMapped, Runs, ungreeted, unmapped, fetched, end_counted}
 use Rattle.gixp_planner.specs.Discovered.{values_of}
 use Rattle.gixp_planner.specs.PlannedText.{IsCourse, Shows}
 use Rattle.gixp_planner.specs.Mapped.{IsMapped, MappingsFollow, ShowsMapped, ShowsFetch}
@@ -158,13 +159,13 @@ record SameAnswer (x y : SetServiceResponse) : Type 0 where
   capabilities : x.capabilities ≡ y.capabilities
   follow : x.has_refs ≡ y.has_refs
 
-record Said (c d : Reading) (x y : SetServiceResponse) : Type 0 where
+record AdvertisedSo (c d : Reading) (x y : SetServiceResponse) : Type 0 where
   alike : AreAlike c d
   same : SameAnswer x y
 
-said-alike : (a b c d : Reading) (x y : SetServiceResponse) → AreAlike a b → ReadsAdvertisement advertisement a c x
-    → ReadsAdvertisement advertisement b d y → Said c d x y
-said-alike a b c d x y s l r =
+advertised-alike : (a b c d : Reading) (x y : SetServiceResponse) → AreAlike a b → ReadsAdvertisement advertisement a c x
+    → ReadsAdvertisement advertisement b d y → AdvertisedSo c d x y
+advertised-alike a b c d x y s l r =
     let u = if-known _ a.to_come s.pieces s.first l.value in
     let w = if-known _ b.to_come s.pieces s.second r.value in
     let same : u.0 ≡ w.0 = same-ok (advertisement s.pieces) u.0 w.0 u.1 w.1 in
@@ -186,23 +187,24 @@ said-alike a b c d x y s l r =
     }
 
 -- the next answer was taken, and read
-pub record Hears (old new : Reading) (x : SetServiceResponse) : Type 0 where
+pub record ReceivesAdvertisement (old new : Reading) (x : SetServiceResponse) : Type 0 where
   pub mid : Reading
   pub takes : TakesAnswer old mid
   pub reads : ReadsAdvertisement advertisement mid new x
 
-pub hears-by : (service : Service) (ps : List Parameter) (persists : Bool) (old new : Reading) (x : SetServiceResponse)
-    → persists ≡ false → HandshakesBy persists service ps old new (Ok x) → Hears old new x
-hears-by service ps true old new x e h = cc e
-hears-by service ps false old new x e (inl h) = cc h.1
-hears-by service ps false old new x e (inr h) = record { mid = h.0; takes = h.1; reads = h.3 }
+pub receives-by : (service : Service) (ps : List Parameter) (persists : Bool) (old new : Reading) (x : SetServiceResponse)
+    → persists ≡ false → HandshakesBy persists service ps old new (Ok x) → ReceivesAdvertisement old new x
+receives-by service ps true old new x e h = cc e
+receives-by service ps false old new x e (inl h) = cc h.1
+receives-by service ps false old new x e (inr h) = record { mid = h.0; takes = h.1; reads = h.3 }
 
 abbrev opened_ok : SetServiceResponse → OpeningResult
 opened_ok x = Ok x
 
 module _ (old mid new : Reading) (turns : List CredentialCall) (x : SetServiceResponse) where
   -- who wants an account gets none
-  undenied : (denied : Bool) (e : client_error) → AreUnanswered turns → Denied denied e UploadPack [] mid new turns (Ok x) → Hears old new x
+  undenied : (denied : Bool) (e : client_error) → AreUnanswered turns → Denied denied e UploadPack [] mid new turns (Ok x)
+      → ReceivesAdvertisement old new x
   undenied false e u d = cc d.2
   undenied true e u (inr n) = cc n.error
   undenied true e u (inl l) =
@@ -211,33 +213,33 @@ module _ (old mid new : Reading) (turns : List CredentialCall) (x : SetServiceRe
       subst (λ a. Got UploadPack [] a mid.held.url mid new l.later (Ok x)) answered.0 l.got in
       cc got.2
 
-  first-heard : (first : Result SetServiceResponse client_error) → old.held.persists ≡ false → AreUnanswered turns
-      → Handshakes UploadPack [] old mid first → First first UploadPack [] mid new turns (Ok x) → Hears old new x
-  first-heard (Ok found) p u h f =
-      hears-by UploadPack [] old.held.persists old new x p
+  first-received : (first : Result SetServiceResponse client_error) → old.held.persists ≡ false → AreUnanswered turns
+      → Handshakes UploadPack [] old mid first → First first UploadPack [] mid new turns (Ok x) → ReceivesAdvertisement old new x
+  first-received (Ok found) p u h f =
+      receives-by UploadPack [] old.held.persists old new x p
       (subst (λ (n : Reading). Handshakes UploadPack [] old n (Ok x)) (sym f.1)
       (subst (λ (y : SetServiceResponse). Handshakes UploadPack [] old mid (Ok y)) (sym (by_ok f.2)) h))
     where
       by_ok : {y z : SetServiceResponse} → opened_ok y ≡ opened_ok z → y ≡ z
       by_ok e = cc
-  first-heard (Err e) p u h f = undenied _ e u f
+  first-received (Err e) p u h f = undenied _ e u f
 
 -- a handshake that came to its refs
 pub record Greeted (plain : Bool) (old new : Reading) (h : Handshake) : Type 0 where
   pub mid : Reading
   pub found : SetServiceResponse
   pub accepted : is_accepted old.held.accepted found.actual_protocol ≡ true
-  pub hears : Hears old mid found
+  pub receives : ReceivesAdvertisement old mid found
   pub first : ReadsFirst found.has_refs found plain mid new (Ok h)
   pub version : h.server_protocol_version ≡ found.actual_protocol
   pub capabilities : h.capabilities ≡ found.capabilities
 
 module _ (plain : Bool) (old new : Reading) (h : Handshake) (turns : List CredentialCall) where
   kept-accepted : (accepted : Bool) (mid : Reading) (found : SetServiceResponse) → is_accepted old.held.accepted found.actual_protocol
-      ≡ accepted → Hears old mid found → KeepsVersion accepted found plain mid new (Ok h)
+      ≡ accepted → ReceivesAdvertisement old mid found → KeepsVersion accepted found plain mid new (Ok h)
       → Greeted plain old new h
   kept-accepted true mid found a o k =
-      record { mid = mid; found = found; accepted = a; hears = o; first = k.0; version = k.1.0; capabilities = k.1.1 }
+      record { mid = mid; found = found; accepted = a; receives = o; first = k.0; version = k.1.0; capabilities = k.1.1 }
   kept-accepted false mid found a o k = cc k.1
 
   greeted-by : (opened : OpeningResult) (mid : Reading) → old.held.persists ≡ false → AreUnanswered turns
@@ -246,7 +248,7 @@ module _ (plain : Bool) (old new : Reading) (h : Handshake) (turns : List Creden
   greeted-by (Err e) mid p u o g = cc g.1
   greeted-by (Ok found) mid p u (inr n) g = cc n.error
   greeted-by (Ok found) mid p u (inl o) g = kept-accepted (is_accepted old.held.accepted found.actual_protocol) mid found refl
-      (first-heard old o.1 mid turns found o.0 p u o.2 o.3) g
+      (first-received old o.1 mid turns found o.0 p u o.2 o.3) g
 
 pub greeted : (plain : Bool) (old new : Reading) (h : Handshake) → old.held.persists ≡ false → GreetsWithoutAccount plain old new (Ok h)
     → Greeted plain old new h
@@ -289,14 +291,14 @@ pub greetings-alike : (plain : Bool) (a b c d : Reading) (h k : Handshake) → H
 greetings-alike plain a b c d h k s l r =
     let x = greeted plain a c h s.alone l in
     let y = greeted plain b d k (ap (λ (z : TransportState). z.persists) (sym s.held) ∙ s.alone) r in
-    let said = said-alike x.hears.mid y.hears.mid x.mid y.mid x.found y.found
-    (answers-alike a b x.hears.mid y.hears.mid s x.hears.takes y.hears.takes) x.hears.reads y.hears.reads in
-    let refs = first-refs-alike y.found.has_refs plain x.mid y.mid c d x.found y.found h k said.alike said.same.capabilities
-    (subst (λ f. ReadsFirst f x.found plain x.mid c (Ok h)) said.same.follow x.first) y.first in
+    let advertised = advertised-alike x.receives.mid y.receives.mid x.mid y.mid x.found y.found
+    (answers-alike a b x.receives.mid y.receives.mid s x.receives.takes y.receives.takes) x.receives.reads y.receives.reads in
+    let refs = first-refs-alike y.found.has_refs plain x.mid y.mid c d x.found y.found h k advertised.alike advertised.same.capabilities
+    (subst (λ f. ReadsFirst f x.found plain x.mid c (Ok h)) advertised.same.follow x.first) y.first in
     record {
       alike = refs.alike;
-      version = x.version ∙ said.same.version ∙ sym y.version;
-      capabilities = x.capabilities ∙ said.same.capabilities ∙ sym y.capabilities;
+      version = x.version ∙ advertised.same.version ∙ sym y.version;
+      capabilities = x.capabilities ∙ advertised.same.capabilities ∙ sym y.capabilities;
       refs = refs.refs;
     }
 
@@ -465,16 +467,16 @@ both-greet bodies specs sent others m n l r =
     }) l.greets r.greets
 
 pub both-alike : (bodies : List Body) (specs : List (List ℕ)) (sent others : List (List ℕ)) (m n : RefMap)
-    (l : IsMapped bodies specs sent m) (r : IsMapped bodies specs others n) → SameMap l.behind r.behind m n
+    (l : IsMapped bodies specs sent m) (r : IsMapped bodies specs others n) → SameMap l.following r.following m n
 both-alike bodies specs sent others m n l r =
     let greeting = both-greet bodies specs sent others m n l r in
     let one = l.maps in
     let other = r.maps in
     let made =
     maps-alike l.handshake.refs r.handshake.refs l.handshake.capabilities r.handshake.capabilities l.context r.context l.mid r.mid
-    l.behind r.behind one.0 other.0 greeting.refs greeting.capabilities
-    (same-specs specs l.context r.context l.read r.read) greeting.alike (obtained l.context l.handshake true l.mid l.behind one.0 one.1)
-    (obtained r.context r.handshake true r.mid r.behind other.0 other.1) in
+    l.following r.following one.0 other.0 greeting.refs greeting.capabilities
+    (same-specs specs l.context r.context l.read r.read) greeting.alike (obtained l.context l.handshake true l.mid l.following one.0 one.1)
+    (obtained r.context r.handshake true r.mid r.following other.0 other.1) in
     record {
       alike = made.alike;
       shown = ap map_shown one.2.0 ∙ made.shown ∙ sym (ap map_shown other.2.0);
@@ -533,15 +535,15 @@ module _ {N I A E : Type 0} (m : Manner N I A) where
       → before.reading.held.persists ≡ false → Breaks m before asked done e new → Extends before.reading new
   breaks-extend before asked done e new p (before_request w r) = extends-none before.reading new (ap (λ (z : Reading). z.held.sent) r)
   breaks-extend before asked done e new p (at_request error s g) = round-extends before.reading new asked done (Err error) p s
-  breaks-extend before asked done e new p (behind_request s w) = round-extends before.reading new asked done (Ok tt) p s
+  breaks-extend before asked done e new p (after_request s w) = round-extends before.reading new asked done (Ok tt) p s
   breaks-extend before asked done e new p (at_answer sent s error a h g) =
       sent-extends before.reading sent new h (round-extends before.reading sent asked done (Ok tt) p s)
-  breaks-extend before asked done e new p (behind_answer sent s reply a h w) =
+  breaks-extend before asked done e new p (after_answer sent s reply a h w) =
       sent-extends before.reading sent new h (round-extends before.reading sent asked done (Ok tt) p s)
 
   refused-extends : (before : At N I) (e : FetchError A E) (n : N) (new : Reading) (left : I) → before.reading.held.persists ≡ false
       → TurnFails m before e n new left → Extends before.reading new
-  refused-extends before e n new left p (inl u) = extends-none before.reading new (ap (λ (z : Reading). z.held.sent) u.stands)
+  refused-extends before e n new left p (inl u) = extends-none before.reading new (ap (λ (z : Reading). z.held.sent) u.position)
   refused-extends before e n new left p (inr b) = breaks-extend before b.asked b.done e new p b.breaks
 
 module _ {N I A S C P X : Type 0} (parties : Parties N I A S C P X) where
@@ -563,7 +565,7 @@ module _ {N I A S C P X : Type 0} (parties : Parties N I A S C P X) where
   ends-extend call banded ids c read locked turns before e last progress old requests p (at_round i s f u) w =
       extends-more old before.reading last.reading (wrote-extends old before.reading requests p w)
       (refused-extends _ (record before { interrupt = i }) e last.negotiate last.reading last.interrupt (w.persists ∙ p) f)
-  ends-extend call banded ids c read locked turns before e last progress old requests p (behind_pack t r k n h u) w =
+  ends-extend call banded ids c read locked turns before e last progress old requests p (after_pack t r k n h u) w =
       sent-extends old t.after.reading last.reading h (wrote-extends old t.after.reading requests p w)
 
   refuses-extend : (call : FetchCall) (old : World N I S C) (e : FetchError A X) (last : World N I S C) (progress : P)
@@ -575,7 +577,7 @@ module _ {N I A S C P X : Type 0} (parties : Parties N I A S C P X) where
 
   released-extends : (old : Reading) (last new : World N I S C) → Releases parties last new → Extends old last.reading
       → Extends old new.reading
-  released-extends old last new r x = subst (λ (z : Reading). Extends old z) (sym (ap (λ (w : World N I S C). w.reading) r.stands)) x
+  released-extends old last new r x = subst (λ (z : Reading). Extends old z) (sym (ap (λ (w : World N I S C). w.reading) r.position)) x
 
   session-extends : (call : FetchCall) (old : World N I S C) (r : Result (Option Outcome) (FetchError A X)) (new : World N I S C)
       (progress : P) → old.reading.held.persists ≡ false → HoldsSession parties call old r new progress
@@ -649,34 +651,34 @@ step-before failures ran ended e {why} h k f =
 module _ {A X : Type 0} (Receives : RefMap → Handshake → Reading → Reading → Result (Option Outcome) (FetchError A X) → Type 0)
     (bodies : List Body) (specs : List (List ℕ)) (old new : Option (List ℕ)) where
   -- a fetch writes after what was sent
-  abbrev pub ReceivesBehind : Type 0
-  ReceivesBehind = (m : RefMap) (h : Handshake) (from to : Reading) (r : Result (Option Outcome) (FetchError A X))
+  abbrev pub FetchExtends : Type 0
+  FetchExtends = (m : RefMap) (h : Handshake) (from to : Reading) (r : Result (Option Outcome) (FetchError A X))
       → from.held.persists ≡ false → Receives m h from to r → Extends from to
 
-  shown-fetched : ReceivesBehind → (context : Context) (transport : Bodies) (mid behind last : Reading) (h : Handshake) (m : RefMap)
+  shown-fetched : FetchExtends → (context : Context) (transport : Bodies) (mid following last : Reading) (h : Handshake) (m : RefMap)
       (r : Result (Option Outcome) (FetchError A X)) (sent : List (List ℕ)) (made : Option RefMap)
       (ended : Result Bool PlanRefusal) → IsContext specs context → IsNewBodies bodies [] [] transport
-      → GreetsWithoutAccount true (bodies_reading transport) mid (Ok h) → MapsRefs context h true mid behind (Ok m)
-      → Receives m (without_refs h) behind last r → made ≡ Some m → last.held.sent ≡ sent
+      → GreetsWithoutAccount true (bodies_reading transport) mid (Ok h) → MapsRefs context h true mid following (Ok m)
+      → Receives m (without_refs h) following last r → made ≡ Some m → last.held.sent ≡ sent
       → Appends old new (requests_shown sent ++ mapped_shown made ++ end_shown ended) → ShowsMapped bodies specs old new ended
-  shown-fetched behind-it context transport mid behind last h m r sent made ended c n g l t e s w =
-      let mapped : IsMapped bodies specs behind.held.sent m =
+  shown-fetched following-it context transport mid following last h m r sent made ended c n g l t e s w =
+      let mapped : IsMapped bodies specs following.held.sent m =
       record {
         context = context;
         transport = transport;
         handshake = h;
         mid = mid;
-        behind = behind;
+        following = following;
         read = c;
         over = n;
         greets = g;
         maps = l;
         by_then = refl;
       } in
-      let alone = both-alike bodies specs behind.held.sent behind.held.sent m m mapped mapped in
-      let x = behind-it m (without_refs h) behind last r alone.alike.alone t in
+      let alone = both-alike bodies specs following.held.sent following.held.sent m m mapped mapped in
+      let x = following-it m (without_refs h) following last r alone.alike.alone t in
       record {
-        sent = behind.held.sent;
+        sent = following.held.sent;
         made = m;
         mapped = mapped;
         later = x.later;
@@ -684,51 +686,51 @@ module _ {A X : Type 0} (Receives : RefMap → Handshake → Reading → Reading
             (subst (λ o. Appends old new (requests_shown sent ++ mapped_shown o ++ end_shown ended)) e w);
       }
 
-  shown-run : ReceivesBehind → (context : Context) (transport : Bodies) (last : Reading) (sent : List (List ℕ)) (made : Option RefMap)
+  shown-run : FetchExtends → (context : Context) (transport : Bodies) (last : Reading) (sent : List (List ℕ)) (made : Option RefMap)
       (ended : Result Bool PlanRefusal) (pack : Bool) → ended ≡ Ok pack → IsContext specs context
       → IsNewBodies bodies [] [] transport → Runs Receives context true (bodies_reading transport) last made ended → last.held.sent ≡ sent
       → Appends old new (requests_shown sent ++ mapped_shown made ++ end_shown (Ok pack)) → ShowsMapped bodies specs old new (Ok pack)
-  shown-run behind-it context transport last sent made ended pack k c n (ungreeted e g m f) s w = absurd (not-refused pack _ (sym k ∙ f))
-  shown-run behind-it context transport last sent made ended pack k c n (unmapped h mid e g l m f) s w =
+  shown-run following-it context transport last sent made ended pack k c n (ungreeted e g m f) s w = absurd (not-refused pack _ (sym k ∙ f))
+  shown-run following-it context transport last sent made ended pack k c n (unmapped h mid e g l m f) s w =
       absurd (not-refused pack _ (sym k ∙ f))
-  shown-run behind-it context transport last sent made ended pack k c n (fetched h mid behind m r g l t e f) s w =
-      shown-fetched behind-it context transport mid behind last h m r sent made (Ok pack) c n g l t e s w
+  shown-run following-it context transport last sent made ended pack k c n (fetched h mid following m r g l t e f) s w =
+      shown-fetched following-it context transport mid following last h m r sent made (Ok pack) c n g l t e s w
 
-  shown-ended : ReceivesBehind → (course : Course) (ended : Result Bool PlanRefusal) → course.ended ≡ ended → IsOk ended
+  shown-ended : FetchExtends → (course : Course) (ended : Result Bool PlanRefusal) → course.ended ≡ ended → IsOk ended
       → IsCourse Receives bodies specs course
       → Appends old new (requests_shown course.sent ++ mapped_shown course.mapped ++ end_shown ended) → (pack : Bool)
       × ShowsMapped bodies specs old new (Ok pack)
-  shown-ended behind-it course (Err e) q k c w = absurd (not-ok e k)
-  shown-ended behind-it course (Ok pack) q k c w =
+  shown-ended following-it course (Err e) q k c w = absurd (not-ok e k)
+  shown-ended following-it course (Ok pack) q k c w =
       let h = ended-whole c.last.failures c.ran course.ended c.ended (subst (λ (r : Result Bool PlanRefusal). IsOk r) (sym q) k) in (
         pack,
-        shown-run behind-it c.context c.transport c.last course.sent course.mapped c.ran pack
+        shown-run following-it c.context c.transport c.last course.sent course.mapped c.ran pack
             (sym h.same ∙ q) c.read c.over c.runs c.sent w,
       )
 
   -- a session whose fetch was refused came to its ref map
-  shown-stopped : ReceivesBehind → (e : PlanRefusal) → e.step ≡ codes "fetch" → (context : Context) (transport : Bodies)
+  shown-stopped : FetchExtends → (e : PlanRefusal) → e.step ≡ codes "fetch" → (context : Context) (transport : Bodies)
       (last : Reading) (sent : List (List ℕ)) (made : Option RefMap) (ran ended : Result Bool PlanRefusal)
       → ended ≡ end_counted last.failures ran → ended ≡ Err e → IsContext specs context → IsNewBodies bodies [] [] transport
       → Runs Receives context true (bodies_reading transport) last made ran → last.held.sent ≡ sent
       → Appends old new (requests_shown sent ++ mapped_shown made ++ end_shown ended) → ShowsMapped bodies specs old new ended
-  shown-stopped behind-it e q context transport last sent made ran ended h k c n (ungreeted x g m f) s w =
+  shown-stopped following-it e q context transport last sent made ran ended h k c n (ungreeted x g m f) s w =
       absurd (other-step (codes "fetch") (codes "handshake") e q (step-before last.failures ran ended e h k f) n-not-t)
-  shown-stopped behind-it e q context transport last sent made ran ended h k c n (unmapped o mid x g l m f) s w =
+  shown-stopped following-it e q context transport last sent made ran ended h k c n (unmapped o mid x g l m f) s w =
       absurd (other-step (codes "fetch") (codes "refs") e q (step-before last.failures ran ended e h k f) f-not-t)
-  shown-stopped behind-it e q context transport last sent made ran ended h k c n (fetched o mid behind m r g l t p f) s w =
-      shown-fetched behind-it context transport mid behind last o m r sent made ended c n g l t p s w
+  shown-stopped following-it e q context transport last sent made ran ended h k c n (fetched o mid following m r g l t p f) s w =
+      shown-fetched following-it context transport mid following last o m r sent made ended c n g l t p s w
 
-  shown-unfetched : ReceivesBehind → (course : Course) (e : PlanError) → e.step.now ≡ codes "fetch"
+  shown-unfetched : FetchExtends → (course : Course) (e : PlanError) → e.step.now ≡ codes "fetch"
       → IsCourse Receives bodies specs course → Shows old new course (Err e) → ShowsMapped bodies specs old new (Err (refusal_of e))
-  shown-unfetched behind-it course e q c (inr u) = absurd (not-unwritten (codes "fetch") e q l-not-t u.1)
-  shown-unfetched behind-it course e q c (inl s) =
+  shown-unfetched following-it course e q c (inr u) = absurd (not-unwritten (codes "fetch") e q l-not-t u.1)
+  shown-unfetched following-it course e q c (inl s) =
       subst (λ o. ShowsMapped bodies specs old new o) s.1
-      (shown-stopped behind-it
+      (shown-stopped following-it
       (refusal_of e) q c.context c.transport c.last course.sent course.mapped c.ran course.ended c.ended s.1 c.read c.over c.runs
       c.sent s.0)
 
-  pub shows-mapped : ReceivesBehind → (course : Course) (r : Result (Unit {0}) PlanError) → IsCourse Receives bodies specs course
+  pub shows-mapped : FetchExtends → (course : Course) (r : Result (Unit {0}) PlanError) → IsCourse Receives bodies specs course
       → Shows old new course r → ShowsFetch bodies specs old new r
-  shows-mapped behind-it course (Ok x) c s = shown-ended behind-it course course.ended refl s.1 c s.0
-  shows-mapped behind-it course (Err e) c s = λ q. shown-unfetched behind-it course e q c s
+  shows-mapped following-it course (Ok x) c s = shown-ended following-it course course.ended refl s.1 c s.0
+  shows-mapped following-it course (Err e) c s = λ q. shown-unfetched following-it course e q c s

@@ -12,7 +12,7 @@ use Rattle.gixp_packetline.specs.Lines as lines
 use Rattle.gixp_packetline.specs.Pieces.{Refusal, io, decode, server, unexpected_frame, not_utf8, bad_band, interrupted, memory, Pieces, no_pieces}
 use Rattle.gixp_packetline.specs.Lines.{next_of, refuses}
 use Rattle.gixp_packetline.specs.Reading.{Reading, Refuses, Fails, IsFault, refusal_of, lines_ahead, lines_from_stop}
-use Rattle.gixp_sidebands.specs.Bands.{Side, side_reading, banded_reading, unband, unband_behind, is_begun, end_left, KeepsEnd}
+use Rattle.gixp_sidebands.specs.Bands.{Side, side_reading, banded_reading, unband, unband_after, is_begun, end_left, KeepsEnd}
 use Rattle.gixp_sidebands.proofs.EndLemmas.{ends_refused}
 use Rattle.gixp_response.specs.Answer.{AnswerValue, Found, whole}
 use Rattle.gixp_response.specs.AnswerReading.{Answered}
@@ -269,8 +269,8 @@ module _ {C P : Type 0} (consumes : C → Side → P → Result Bool CopyError �
         known : (q : Pieces) → mid.reading.to_come ≡ Some q → Refuses f.now (side_reading end) (refusal_of x) → ⊥
         known q k r =
             none-refuses (side_reading mid) f.now (side_reading end) (refusal_of x) t.0 f.passed r
-            ((if is_begun mid.place then unband_behind else unband) q)
-            (ap (option_map (if is_begun mid.place then unband_behind else unband)) k)
+            ((if is_begun mid.place then unband_after else unband) q)
+            (ap (option_map (if is_begun mid.place then unband_after else unband)) k)
 
         never : (o : Option Pieces) → IfSome o (λ p. (q : Pieces) × (mid.reading.to_come ≡ Some q)
             × (end_left mid.reading q ≡ end_left from p)) → Refuses f.now (side_reading end) (refusal_of x)

@@ -18,7 +18,7 @@ use Rattle.gixp_planner.specs.declared.error.PlanError.{PlanError}
 use Rattle.gixp_planner.specs.Refusal.{refusal_of, IsUnwritten, amount_value, failed_amount, written_amount, device_refusal, AnswersWrite}
 use Rattle.gixp_planner.specs.Written.{WritesPart, WritesBeginning, WritesPlan, WritesSome, HoldsRest, EndsInFlush, flushed, unwritten}
 use Rattle.gixp_planner.proofs.ListLemmas.{left-at}
-use Rattle.gixp_text.specs.Pieces.{joined}
+use Rattle.gixp_utils.specs.Pieces.{joined}
 use Rattle.gixp_refmap.specs.MappingNames.{name_or_dash}
 use Rattle.gixp_planner.specs.Text.{frame_content, frame_shown, request_shown, requests_after, id_shown, mapping_shown, fix_shown}
 
@@ -39,9 +39,9 @@ part-more a b c left rest text h k = record {
 }
 
 -- more is to come behind it
-pub part-behind : (a b : Option (List ℕ)) (left text more : List ℕ) → WritesPart a b left text
+pub part-following : (a b : Option (List ℕ)) (left text more : List ℕ) → WritesPart a b left text
     → WritesPart a b (left ++ more) (text ++ more)
-part-behind a b left text more h = record {
+part-following a b left text more h = record {
   done = h.done;
   written = h.written;
   whole = ap (λ l. l ++ more) h.whole ∙ append_assoc h.done left more;
@@ -126,7 +126,7 @@ part-end a b c left text (Err e) h k = ((k.0.0, part-more a b c left k.0.0 text 
 pub then-part : (a b : Option (List ℕ)) (held next x y : List ℕ) → WritesPart a b next (held ++ x)
     → WritesPart a b (next ++ y) (held ++ (x ++ y))
 then-part a b held next x y h =
-    subst (λ text. WritesPart a b (next ++ y) text) (append_assoc held x y) (part-behind a b next (held ++ x) y h)
+    subst (λ text. WritesPart a b (next ++ y) text) (append_assoc held x y) (part-following a b next (held ++ x) y h)
 
 pub then-more : (a b c : Option (List ℕ)) (held next last x y : List ℕ) → WritesPart a b next (held ++ x)
     → WritesPart b c last (next ++ y) → WritesPart a c last (held ++ (x ++ y))
@@ -183,11 +183,11 @@ pub requests-next : (k : ℕ) (left rest : List (List ℕ)) (r s : List ℕ) →
 requests-next k left rest r s e f = ap (requests_after k) e
     ∙ ap (λ t. request_shown (k + 1) (frames_of t).list ++ requests_after (k + 1) rest) (sym f)
 
-pub lines-next : (rest behind text : List ℕ) (f : Frame) → frames_of rest ≡ with_frame f (frames_of behind) → text ≡ frame_content f
+pub lines-next : (rest following text : List ℕ) (f : Frame) → frames_of rest ≡ with_frame f (frames_of following) → text ≡ frame_content f
     → flat_map frame_shown (frames_of rest).list
-    ≡ joined (codes "> " ∷ text ∷ codes "\n" ∷ []) ++ flat_map frame_shown (frames_of behind).list
-lines-next rest behind text f e k = ap (λ fs. flat_map frame_shown fs.list) e
-    ∙ ap (λ t. joined (codes "> " ∷ t ∷ codes "\n" ∷ []) ++ flat_map frame_shown (frames_of behind).list) (sym k)
+    ≡ joined (codes "> " ∷ text ∷ codes "\n" ∷ []) ++ flat_map frame_shown (frames_of following).list
+lines-next rest following text f e k = ap (λ fs. flat_map frame_shown fs.list) e
+    ∙ ap (λ t. joined (codes "> " ∷ t ∷ codes "\n" ∷ []) ++ flat_map frame_shown (frames_of following).list) (sym k)
 
 -- a mapping by its pieces
 pub mapping-pieces : (m : Mapping) (id name local : List ℕ) → id ≡ id_shown (source_id m.remote)

@@ -31,8 +31,8 @@ use Rattle.gixp_fetch.specs.FetchShallow.{no_change, shallow_asks, IsMissing}
 use Rattle.gixp_fetch.specs.Prepare.{features_of, no_room, unneeded, untagged}
 use Rattle.gixp_fetch.specs.Receive.{Consumed, DrainFails}
 use Rattle.gixp_fetch.specs.Received.{PackRefused, ReceiveFails}
-use Rattle.gixp_fetch.specs.Session.{OpensFetch, OpenFails, ReadyFails, UnheldBy, SettleFails, is_any, at_lock, at_pack, at_boundary, DeliverFails}
-use Rattle.gixp_fetch.specs.Fetch.{World, Parties, Wishes, Begun, Negotiated, FetchFails, unopened, unready, unpacked, untold, undelivered, SessionEnds}
+use Rattle.gixp_fetch.specs.Session.{OpensFetch, OpenFails, ReadyFails, UnheldBy, BoundaryWriteFails, is_any, at_lock, at_pack, at_boundary, DeliverFails}
+use Rattle.gixp_fetch.specs.Fetch.{World, Parties, FetchOptions, Begun, Negotiated, FetchFails, unopened, unready, unpacked, untold, undelivered, SessionEnds}
 use Rattle.gixp_fetch.specs.Fetched.{CarriesOut, StartFails, unprepared, unlocked}
 use Rattle.gixp_fetch.proofs.SessionLemmas.{received_held, undelivered_held}
 use Rattle.gixp_fetch.proofs.SentLemmas.{rounds_written}
@@ -145,9 +145,9 @@ module _ {N I A S C P : Type 0} (parties : Parties N I A S C P CopyError) (basis
     (list : OffersList parties.negotiation_calls basis haves) (IsEmpty : S → Type 0)
     (reads : (s : S) (ids : List ObjectId) (t : S) → IsEmpty s → parties.store_calls.reads s ids t → ids ≡ [])
     (none : CountsNone parties.consumes) (follows : FollowsPack parties.consumes)
-    (never : ((i j : I) → parties.says i true j → ⊥) × (parties.plain ≡ true)) where
+    (never : ((i j : I) → parties.polls i true j → ⊥) × (parties.plain ≡ true)) where
   abbrev how : Protocol → Bool → Manner N I A
-  how v banded = manner_of parties.negotiation_calls parties.says v banded parties.plain
+  how v banded = manner_of parties.negotiation_calls parties.polls v banded parties.plain
 
   -- how a fetch went that nothing disturbed
   pub data Way (v : Protocol) (caps : List CapabilityValue) (banded : Bool) (n : N) (old new : Reading)
@@ -160,11 +160,11 @@ module _ {N I A S C P : Type 0} (parties : Parties N I A S C P CopyError) (basis
         → Began parties.negotiation_calls basis haves list v caps n ready wanted
         → Ran (how v banded) (start_of ready wanted old interrupt) new ended → Way v caps banded n old new ended
 
-  module _ (v : Protocol) (caps : List CapabilityValue) (banded : Bool) (told : List ShallowUpdate) (given : ArgumentsValue)
+  module _ (v : Protocol) (caps : List CapabilityValue) (banded : Bool) (reported : List ShallowUpdate) (given : ArgumentsValue)
       (given_is : given ≡ first_asks v caps) (has_all : lacking v caps ≡ None) (old : World N I S C) (empty : IsEmpty old.store)
       (alone : old.reading.held.persists ≡ false) where
-    abbrev wishes : Wishes
-    wishes = record { shallow = no_change; told = told; reject = false }
+    abbrev fetch_options : FetchOptions
+    fetch_options = record { shallow = no_change; reported = reported; reject = false }
 
     -- what is asked for of a boundary that is empty
     opened-so : (ids : List ObjectId) (t : S) (asked : ArgumentsValue)
@@ -174,7 +174,7 @@ module _ {N I A S C P : Type 0} (parties : Parties N I A S C P CopyError) (basis
         ∙ ap (λ a. shallow_asks no_change ids a) (sym given_is) ∙ o.asks
 
     began-so : (ids : List ObjectId) (read : S) (action : ActionValue) (ready : N) (wanted : ArgumentsValue)
-        → Begun parties v banded wishes given old ids read action ready wanted
+        → Begun parties v banded fetch_options given old ids read action ready wanted
         → Began parties.negotiation_calls basis haves list v caps old.negotiate ready wanted
     began-so ids read action ready wanted b =
         let a = readied-asks parties.negotiation_calls basis haves list old.negotiate b.asked action ready wanted b.readied in
@@ -183,12 +183,12 @@ module _ {N I A S C P : Type 0} (parties : Parties N I A S C P CopyError) (basis
     -- rounds that came to a pack
     packed-way : (ids : List ObjectId) (read : S) (action : ActionValue) (rounds : List Round) (updates : List ShallowUpdate)
         (reply : AnswerValue) (end : At N I) (new : Reading) (ended : Result Bool PlanRefusal)
-        → Negotiated parties v banded wishes given old ids read action rounds updates reply end → end.reading.failures ≡ 0
+        → Negotiated parties v banded fetch_options given old ids read action rounds updates reply end → end.reading.failures ≡ 0
         → new.held ≡ end.reading.held → EndsWithPack end.reading ended → Way v caps banded old.negotiate old.reading new ended
     packed-way ids read action rounds updates reply end new ended g z h k =
         let p = g.packed in
         let m = how v banded in
-        let here : end.reading ≡ p.last.after.reading = ap (λ (a : At N I). a.reading) p.stands in
+        let here : end.reading ≡ p.last.after.reading = ap (λ (a : At N I). a.reading) p.position in
         let there : p.before.reading.held.persists ≡ false =
         (rounds_written m (start_of g.ready g.wanted old.reading old.interrupt) p.before p.turns p.run).persists ∙ alone in
         runs has_all g.ready g.wanted old.interrupt (began-so ids read action g.ready g.wanted g.begun)
@@ -228,19 +228,19 @@ module _ {N I A S C P : Type 0} (parties : Parties N I A S C P CopyError) (basis
       by-hold false s t locked had h = absurd h
       by-hold true s t locked had h = by-chance (of_lock h.0) h.2 (locks-disturb h.0)
 
-      by-settling : (us : List ShallowUpdate) (s t : S) → SettleFails parties.store_calls us s e t → WayOr
+      by-settling : (us : List ShallowUpdate) (s t : S) → BoundaryWriteFails parties.store_calls us s e t → WayOr
       by-settling us s t (_, inl m) = inl m.0
       by-settling us s t (_, inr w) = by-chance (of_write w.0) w.2 (writes-disturb w.0)
 
       delivered-way : (ids : List ObjectId) (read : S) (action : ActionValue) (rounds : List Round) (updates : List ShallowUpdate)
           (reply : AnswerValue) (end : At N I) (progress : P)
-          → Negotiated parties v banded wishes given old ids read action rounds updates reply end
+          → Negotiated parties v banded fetch_options given old ids read action rounds updates reply end
           → DeliverFails parties.store_calls parties.consumes ids (updates
-          ++ told) false old.consumer read old.locked end.reading e new.consumer new.store new.locked new.reading progress → WayOr
+          ++ reported) false old.consumer read old.locked end.reading e new.consumer new.store new.locked new.reading progress → WayOr
       delivered-way ids read action rounds updates reply end progress g (at_lock h c r) =
-          by-hold (is_any (updates ++ told) && not old.locked) read new.store old.locked new.locked h
+          by-hold (is_any (updates ++ reported) && not old.locked) read new.store old.locked new.locked h
       delivered-way ids read action rounds updates reply end progress g (at_boundary held h r s) =
-          by-settling (updates ++ told) held new.store s
+          by-settling (updates ++ reported) held new.store s
       delivered-way ids read action rounds updates reply end progress g (at_pack h r) = by-pack r
         where
           stood : end.reading.failures ≡ 0
@@ -248,7 +248,7 @@ module _ {N I A S C P : Type 0} (parties : Parties N I A S C P CopyError) (basis
 
           kept : new.reading.held ≡ end.reading.held
           kept = undelivered_held parties.consumes old.consumer parties.store_calls ids
-              (updates ++ told) false read old.locked end.reading e new.consumer new.store new.locked new.reading progress (at_pack h r)
+              (updates ++ reported) false read old.locked end.reading e new.consumer new.store new.locked new.reading progress (at_pack h r)
 
           named : EndsWithPack end.reading (end_of {A = A} {X = CopyError} (Err e)) ⊎ (e ≡ fetch.Memory) → WayOr
           named (inr m) = inl m
@@ -260,7 +260,7 @@ module _ {N I A S C P : Type 0} (parties : Parties N I A S C P CopyError) (basis
           by-pack (inl p) =
               named (refused-ends parties.consumes follows old.consumer end.reading new.consumer new.reading progress e z undisturbed p)
 
-      fails-way : (progress : P) → FetchFails parties v banded wishes given old e new progress → WayOr
+      fails-way : (progress : P) → FetchFails parties v banded fetch_options given old e new progress → WayOr
       fails-way progress (unopened o n r) = unopened-way o
       fails-way progress (unready ids asked o f r) = unready-way asked f
       fails-way progress (untold ids action rounds updates reply end g m n r i l c) = inl m
@@ -278,7 +278,7 @@ module _ {N I A S C P : Type 0} (parties : Parties N I A S C P CopyError) (basis
 
     -- by its result
     ends-way : (new : World N I S C) (progress : P) (r : Result (Option Outcome) (FetchError A CopyError)) → new.reading.failures ≡ 0
-        → IsUndisturbed r → SessionEnds parties v banded wishes given old r new progress
+        → IsUndisturbed r → SessionEnds parties v banded fetch_options given old r new progress
         → (r ≡ Err fetch.Memory) ⊎ Way v caps banded old.negotiate old.reading new.reading (end_of r)
     ends-way new progress (Err e) z u s = at (fails-way new e z u progress s)
       where
@@ -320,7 +320,7 @@ module _ {N I A S C P : Type 0} (parties : Parties N I A S C P CopyError) (basis
         → CarriesOut parties (planner_call h) f.first r f.last f.progress → AnyWay r
     carried r u f c =
         at
-        (ends-way version caps c.banded (planner_call h).wishes.told c.asked
+        (ends-way version caps c.banded (planner_call h).fetch_options.reported c.asked
         (sym (same-ok _ (first_asks version caps) c.asked refl c.prepared.asks))
         (sym (lacking-so version caps c.prepared.raw c.prepared.values) ∙ c.prepared.needed)
         (record f.first { store = c.held; locked = c.first }) (subst IsEmpty (sym c.locks.0) f.empty)
@@ -328,7 +328,7 @@ module _ {N I A S C P : Type 0} (parties : Parties N I A S C P CopyError) (basis
         ∙ z) u c.meets)
       where
         here : c.last.reading ≡ new
-        here = ap (λ (w : World N I S C). w.reading) (sym c.stands) ∙ f.ends
+        here = ap (λ (w : World N I S C). w.reading) (sym c.position) ∙ f.ends
 
         at : (r ≡ Err fetch.Memory) ⊎ Way version caps c.banded f.first.negotiate f.first.reading c.last.reading (end_of r) → AnyWay r
         at (inl m) = inl m

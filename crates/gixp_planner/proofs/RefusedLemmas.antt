@@ -2,16 +2,16 @@
 use Rattle.std.proofs.Common.{◌≡◌, ◌⊎◌, ℕ, Bool, true, false, List, [], ◌++◌, codes, Option, Some, None, Result, Ok, Err, inl, inr, refl, sym, ap, ◌∙◌, subst}
 use Rattle.std.specs.Prelude.{◌==◌, if◌then◌else◌}
 use Rattle.std.specs.Io.KnownBytes.{Appends}
-use Rattle.gixp_wire.specs.declared.service.Service.TheVariants.{UploadPack}
-use Rattle.gixp_wire.specs.declared.service.SetServiceResponse.{SetServiceResponse}
+use Rattle.gixp_transport.specs.declared.service.Service.TheVariants.{UploadPack}
+use Rattle.gixp_transport.specs.declared.service.SetServiceResponse.{SetServiceResponse}
 use Rattle.gixp_capabilities.specs.declared.client.Error.{Error as client_error}
-use Rattle.gixp_wire.specs.declared.bodies.Body.{Body}
-use Rattle.gixp_wire.specs.Bodies.{bodies_reading}
+use Rattle.gixp_transport.specs.declared.bodies.Body.{Body}
+use Rattle.gixp_transport.specs.Bodies.{bodies_reading}
 use Rattle.gixp_packetline.specs.TransportState.{TransportState}
 use Rattle.gixp_packetline.specs.Reading.{Reading}
-use Rattle.gixp_wire.specs.Handshake.{HandshakesBy}
-use Rattle.gixp_wire.specs.CapabilityAdvertisement.{advertisement, TakesFirst, Advertises}
-use Rattle.gixp_wire.specs.Transport.{TakesAnswer}
+use Rattle.gixp_transport.specs.Handshake.{HandshakesBy}
+use Rattle.gixp_transport.specs.CapabilityAdvertisement.{advertisement, TakesFirst, Advertises}
+use Rattle.gixp_transport.specs.Transport.{TakesAnswer}
 use Rattle.gixp_handshake.specs.declared.handshake.error.Error.{Error as HandshakeError}
 use Rattle.gixp_handshake.specs.declared.handshake.read.Handshake.{Handshake}
 use Rattle.gixp_handshake.specs.Shake.{CredentialCall, OpeningResult, Got, StopsForMemory, Denied, First, Opens}
@@ -22,7 +22,8 @@ use Rattle.gixp_refmap.specs.declared.refmap.map.RefMap.{RefMap}
 use Rattle.gixp_planner.specs.declared.error.PlanError.{PlanError}
 use Rattle.gixp_planner.specs.Refusal.{PlanRefusal, refusal, refusal_of}
 use Rattle.gixp_planner.specs.Text.{Course, requests_shown, mapped_shown, end_shown}
-use Rattle.gixp_planner.specs.Session.{AreUnanswered, GreetsWithoutAccount, Runs, ungreeted, unmapped, fetched, end_of, end_counted}
+use Rattle.gixp_handshake.specs.WithoutAccount.{AreUnanswered, GreetsWithoutAccount}
+use Rattle.gixp_planner.specs.Session.{Runs, ungreeted, unmapped, fetched, end_of, end_counted}
 use Rattle.gixp_planner.specs.PlannedText.{IsCourse, Shows, PlannedText, shown, refused}
 use Rattle.gixp_planner.proofs.StepLemmas.{other-step, not-unwritten, not-begun, f-not-n, l-not-n, e-not-n, t-not-n}
 use Rattle.gixp_planner.proofs.MappedLemmas.{step-before}
@@ -41,16 +42,16 @@ stood-sent old new e = ap (λ (r : Reading). r.held.sent) e
 taken-sent : (old new : Reading) → TakesAnswer old new → SentAlike old new
 taken-sent old new t = ap (λ (x : TransportState). x.sent) t.held
 
-said-sent : (old new : Reading) (r : Result SetServiceResponse client_error) → Advertises advertisement TakesFirst old new r
+advertised-sent : (old new : Reading) (r : Result SetServiceResponse client_error) → Advertises advertisement TakesFirst old new r
     → SentAlike old new
-said-sent old new (Ok found) a = held-sent old new a.held
-said-sent old new (Err e) a = held-sent old new a.held
+advertised-sent old new (Ok found) a = held-sent old new a.held
+advertised-sent old new (Err e) a = held-sent old new a.held
 
 shaken-sent : (persists : Bool) (old new : Reading) (r : Result SetServiceResponse client_error) → persists ≡ false
     → HandshakesBy persists UploadPack [] old new r → SentAlike old new
 shaken-sent true old new r e h = cc e
 shaken-sent false old new r e (inl h) = taken-sent old new h.2
-shaken-sent false old new r e (inr h) = said-sent h.0 new r h.3 ∙ taken-sent old h.0 h.1
+shaken-sent false old new r e (inr h) = advertised-sent h.0 new r h.3 ∙ taken-sent old h.0 h.1
 
 denied-sent : (denied : Bool) (e : client_error) (mid new : Reading) (turns : List CredentialCall) (r : OpeningResult)
     → AreUnanswered turns → Denied denied e UploadPack [] mid new turns r → SentAlike mid new
@@ -123,7 +124,7 @@ module _ {A X : Type 0} (Receives : RefMap → Handshake → Reading → Reading
       (subst (λ s. Appends old new (requests_shown s ++ mapped_shown course.mapped ++ end_shown course.ended)) sent w))
   shown-ungreeted e q course c k (unmapped h mid x g l m f) w =
       absurd (other-step (codes "handshake") (codes "refs") e q (step-before c.last.failures c.ran course.ended e c.ended k f) f-not-n)
-  shown-ungreeted e q course c k (fetched h mid behind m r g l t p f) w =
+  shown-ungreeted e q course c k (fetched h mid following m r g l t p f) w =
       absurd (other-step (codes "handshake") (codes "fetch") e q (fetch-step c.last.failures r course.ended e c.ended k f) t-not-n)
 
   shows-ungreeted : (e : PlanError) → e.step.now ≡ codes "handshake" → (course : Course) → IsCourse Receives bodies specs course

@@ -41,10 +41,10 @@ record AsksAlike {N I : Type 0} (haves : N → List ObjectId) (t u : Turn N I) :
 
 module _ {N I A : Type 0} (m : Manner N I A) where
   -- at least one request comes after those before
-  pub asks-behind : (x : At N I) (rs : List Round) (us : List ShallowUpdate) (a : AnswerValue) (end : At N I)
+  pub asks-following : (x : At N I) (rs : List Round) (us : List ShallowUpdate) (a : AnswerValue) (end : At N I)
       → x.reading.held.persists ≡ false → Packed m x rs us a end
       → (first : List ℕ) × (later : List (List ℕ)) × (end.reading.held.sent ≡ x.reading.held.sent ++ first ∷ later)
-  asks-behind x rs us a end alone p = by_turns p.turns (ap (λ (z : At N I). z.reading.held.sent) p.stands
+  asks-following x rs us a end alone p = by_turns p.turns (ap (λ (z : At N I). z.reading.held.sent) p.position
       ∙ (last_written m x p.before p.turns p.last p.run p.lasts).enters alone)
     where
       by_turns : (ts : List (Turn N I)) → end.reading.held.sent ≡ x.reading.held.sent ++ (requests_of ts ++ request_of p.last ∷ [])
@@ -138,7 +138,7 @@ module _ {N I A : Type 0} (m : Manner N I A) (haves : N → List ObjectId)
       → AtAlike haves x y → Packed m x rs us a end → end.reading.failures ≡ 0 → Packed m y qs vs b other
       → other.reading.failures ≡ 0 → end.reading.held ≡ other.reading.held
   packed-alike x y rs qs us vs a b end other s p z q w =
-      let one : p.last.after.reading.failures ≡ 0 = ap (λ (a : At N I). a.reading.failures) (sym p.stands) ∙ z in
-      let two : q.last.after.reading.failures ≡ 0 = ap (λ (a : At N I). a.reading.failures) (sym q.stands) ∙ w in
+      let one : p.last.after.reading.failures ≡ 0 = ap (λ (a : At N I). a.reading.failures) (sym p.position) ∙ z in
+      let two : q.last.after.reading.failures ≡ 0 = ap (λ (a : At N I). a.reading.failures) (sym q.position) ∙ w in
       let e = rounds-alike p.turns q.turns x y p.before q.before p.last q.last s p.run p.lasts p.pack one q.run q.lasts q.pack two in
-      ap (λ (z : At N I). z.reading.held) p.stands ∙ e.reading.held ∙ sym (ap (λ (z : At N I). z.reading.held) q.stands)
+      ap (λ (z : At N I). z.reading.held) p.position ∙ e.reading.held ∙ sym (ap (λ (z : At N I). z.reading.held) q.position)

@@ -18,7 +18,7 @@ use Rattle.gixp_refmap.specs.declared.refmap.mapping.Mapping.{Mapping}
 use Rattle.gixp_refmap.specs.declared.refmap.map.RefMap.{RefMap}
 use Rattle.gixp_refmap.specs.Mapping.{source_id, source_name, found_in, IsRemote, IsMapping, AnswersBy}
 use Rattle.gixp_negotiate.specs.NegotiationMapping.{is_unborn}
-use Rattle.gixp_text.specs.Pieces.{joined}
+use Rattle.gixp_utils.specs.Pieces.{joined}
 use Rattle.gixp_refmap.specs.MappingNames.{name_or_dash}
 use Rattle.gixp_planner.specs.Text.{id_shown, mapping_shown, removed_shown, fix_shown, map_shown}
 

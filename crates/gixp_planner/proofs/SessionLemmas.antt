@@ -2,9 +2,9 @@
 use Rattle.std.proofs.Common.{◌≡◌, ℕ, Bool, true, false, List, [], ◌∷◌, ◌++◌, map, Option, Some, None, Vec, vec_items, Result, Ok, Err, inl, inr, refl, sym, ap, ◌∙◌, subst}
 use Rattle.std.specs.declared.alloc.Global.{Global}
 use Rattle.gixp_packetline.specs.declared.protocol.Protocol.{Protocol}
-use Rattle.gixp_wire.specs.declared.bodies.Body.{Body}
-use Rattle.gixp_wire.specs.declared.bodies.Bodies.{Bodies}
-use Rattle.gixp_wire.specs.Bodies.{bodies_reading, IsNewBodies}
+use Rattle.gixp_transport.specs.declared.bodies.Body.{Body}
+use Rattle.gixp_transport.specs.declared.bodies.Bodies.{Bodies}
+use Rattle.gixp_transport.specs.Bodies.{bodies_reading, IsNewBodies}
 use Rattle.gixp_packetline.specs.Reading.{Reading}
 use Rattle.gixp_refmap.specs.declared.refmap.init.Context.{Context}
 use Rattle.gixp_refmap.specs.declared.refmap.init.Error.{Error as MapError}
@@ -28,7 +28,8 @@ use Rattle.gixp_planner.specs.Refusal.{PlanRefusal}
 use Rattle.gixp_planner.specs.Written.{WritesPlan}
 use Rattle.gixp_planner.specs.Specs.{IsContext}
 use Rattle.gixp_planner.specs.Text.{course_shown, course_of, ended_of, requests_shown, mapped_shown, end_shown}
-use Rattle.gixp_planner.specs.Session.{planner_agent, AreUnanswered, GreetsWithoutAccount, MapsRefs, Carries, FetchesOver, Runs, fetched, end_of, end_counted}
+use Rattle.gixp_handshake.specs.WithoutAccount.{AreUnanswered, GreetsWithoutAccount}
+use Rattle.gixp_planner.specs.Session.{planner_agent, MapsRefs, Carries, FetchesOver, Runs, fetched, end_of, end_counted}
 use Rattle.gixp_planner.specs.PlannedText.{IsCourse, Shows, IsOutcome}
 
 -- where each call answers that there is no account, all did
@@ -58,7 +59,7 @@ call_of table agent shallow h = record {
   agent = agent;
   more = [];
   tags = tags.None;
-  wishes = record { shallow = shallow; told = update_items h.v1_shallow_updates; reject = false };
+  fetch_options = record { shallow = shallow; reported = update_items h.v1_shallow_updates; reject = false };
 }
 
 module _ {N I A S C P X : Type 0} (parties : Parties N I A S C P X) (h : Handshake) (first : World N I S C)
@@ -92,12 +93,12 @@ module _ {N I A S C P X : Type 0} (parties : Parties N I A S C P X) (h : Handsha
 
 module _ {A X : Type 0} (Receives : RefMap → Handshake → Reading → Reading → Result (Option Outcome) (FetchError A X) → Type 0) where
   -- all three steps
-  pub ran : (context : Context) (plain : Bool) (old mid behind new : Reading) (h k : Handshake) (m : RefMap)
+  pub ran : (context : Context) (plain : Bool) (old mid following new : Reading) (h k : Handshake) (m : RefMap)
       (r : Result (Option Outcome) (FetchError A X)) (mapped : Option RefMap) (ended : Result Bool PlanRefusal)
-      → GreetsWithoutAccount plain old mid (Ok h) → MapsRefs context h plain mid behind (Ok m) → k ≡ without_refs h
-      → Receives m k behind new r → mapped ≡ Some m → ended ≡ end_of r → Runs Receives context plain old new mapped ended
-  ran context plain old mid behind new h k m r mapped ended g l e f p q =
-      fetched h mid behind m r g l (subst (λ x. Receives m x behind new r) e f) p q
+      → GreetsWithoutAccount plain old mid (Ok h) → MapsRefs context h plain mid following (Ok m) → k ≡ without_refs h
+      → Receives m k following new r → mapped ≡ Some m → ended ≡ end_of r → Runs Receives context plain old new mapped ended
+  ran context plain old mid following new h k m r mapped ended g l e f p q =
+      fetched h mid following m r g l (subst (λ x. Receives m x following new r) e f) p q
 
   -- a session over new bodies
   pub is-course : (bodies : List Body) (specs : List (List ℕ)) (context : Context) (transport : Bodies) (last : Reading) (url : List ℕ)

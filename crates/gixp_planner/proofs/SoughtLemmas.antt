@@ -9,10 +9,10 @@ use Rattle.gixp_packetline.specs.TransportState.{TransportState}
 use Rattle.gixp_capabilities.specs.declared.client.Error.{Error as client_error}
 use Rattle.gixp_capabilities.specs.declared.client.Error.TheVariants as client
 use Rattle.gixp_capabilities.specs.Capabilities.{CapabilityValue}
-use Rattle.gixp_wire.specs.declared.bodies.Body.{Body}
-use Rattle.gixp_wire.specs.declared.bodies.Bodies.{Bodies}
-use Rattle.gixp_wire.specs.Bodies.{answer_of, bodies_reading, IsNewBodies}
-use Rattle.gixp_wire.specs.Transport.{SentBy, FailsBy, first_answer, later_answers, answer_pieces}
+use Rattle.gixp_transport.specs.declared.bodies.Body.{Body}
+use Rattle.gixp_transport.specs.declared.bodies.Bodies.{Bodies}
+use Rattle.gixp_transport.specs.Bodies.{answer_of, bodies_reading, IsNewBodies}
+use Rattle.gixp_transport.specs.Transport.{SentBy, FailsBy, first_answer, later_answers, answer_pieces}
 use Rattle.gixp_refs.specs.declared.handshake.Ref.{Ref}
 use Rattle.gixp_refs.specs.declared.handshake.refs.parse.Error.{Error as parse_error}
 use Rattle.gixp_refs.specs.Ref.{RefValue, ref_value}
@@ -41,7 +41,8 @@ use Rattle.gixp_handshake.specs.declared.handshake.ref_map.ObtainRefMap.TheVaria
 use Rattle.gixp_handshake.specs.Obtain.{MakesMap, PreparesBy, ByList, ObtainsBy, Obtains}
 use Rattle.gixp_planner.specs.Refusal.{map_name}
 use Rattle.gixp_planner.specs.Specs.{specs_of, IsContext}
-use Rattle.gixp_planner.specs.Session.{planner_agent, GreetsWithoutAccount, MapsRefs}
+use Rattle.gixp_handshake.specs.WithoutAccount.{GreetsWithoutAccount}
+use Rattle.gixp_planner.specs.Session.{planner_agent, MapsRefs}
 use Rattle.gixp_planner.specs.Discovered.{Discovery, discovery, values_of, HasDiscovered, first_pieces}
 use Rattle.gixp_planner.specs.Sought.{Sought, at_hand, unasked, of_answer, by_size, by_offer, list_for, by_arrival, sought, by_conflicts, by_format, map_refusal, IsSought, second_pieces, Plans, RefMapsFollow}
 use Rattle.gixp_planner.proofs.MappedLemmas.{if-known, state, new-held, all_specs}
@@ -280,17 +281,17 @@ module _ (context : Context) (h : Handshake) (old new : Reading) (alone : old.he
 -- ---- over bodies
 
 -- what is said of the handshake is what was discovered
-by-discovery : (said : Discovery) (context : Context) (h : Handshake) (old : Reading) → HasDiscovered said h
-    → (said.refs ≡ None → old.version ≡ said.version) → (p : Pieces)
-    → by_arrival (values_of h.refs) (list_for h.capabilities (all_specs context)) old.version p ≡ sought said (all_specs context) p
-by-discovery said context h old has version p =
+by-discovery : (advertised : Discovery) (context : Context) (h : Handshake) (old : Reading) → HasDiscovered advertised h
+    → (advertised.refs ≡ None → old.version ≡ advertised.version) → (p : Pieces)
+    → by_arrival (values_of h.refs) (list_for h.capabilities (all_specs context)) old.version p ≡ sought advertised (all_specs context) p
+by-discovery advertised context h old has version p =
     ap (λ c. by_arrival (values_of h.refs) (list_for c (all_specs context)) old.version p) has.capabilities
-    ∙ ap (λ r. by_arrival r (list_for said.capabilities (all_specs context)) old.version p) has.refs ∙ at said.refs version
+    ∙ ap (λ r. by_arrival r (list_for advertised.capabilities (all_specs context)) old.version p) has.refs ∙ at advertised.refs version
   where
-    at : (refs : Option (List RefValue)) → (refs ≡ None → old.version ≡ said.version)
-        → by_arrival refs (list_for said.capabilities (all_specs context)) old.version p
-        ≡ by_arrival refs (list_for said.capabilities (all_specs context)) said.version p
-    at None v = ap (λ x. by_arrival None (list_for said.capabilities (all_specs context)) x p) (v refl)
+    at : (refs : Option (List RefValue)) → (refs ≡ None → old.version ≡ advertised.version)
+        → by_arrival refs (list_for advertised.capabilities (all_specs context)) old.version p
+        ≡ by_arrival refs (list_for advertised.capabilities (all_specs context)) advertised.version p
+    at None v = ap (λ x. by_arrival None (list_for advertised.capabilities (all_specs context)) x p) (v refl)
     at (Some refs) v = refl
 
 -- the refspecs of a context that was read are those of the words
@@ -312,26 +313,26 @@ planning bodies words r context transport h mid last read over greets maps z =
     let old = bodies_reading transport in
     let are = new-held bodies transport over in
     let d = discovers true old mid h refl greets in
-    let said : discovery [] (first_pieces bodies) ≡ Ok d.said =
-    subst (λ (s : TransportState). discovery s.accepted (answer_pieces (first_answer s.answers)) ≡ Ok d.said) are d.so in
+    let advertised : discovery [] (first_pieces bodies) ≡ Ok d.advertised =
+    subst (λ (s : TransportState). discovery s.accepted (answer_pieces (first_answer s.answers)) ≡ Ok d.advertised) are d.so in
     let held : mid.held ≡ state (Some []) [] (later_answers (map answer_of bodies)) [] [] None = d.held
     ∙ ap (λ (s : TransportState). record s { answers = later_answers s.answers }) are in
     let alone : mid.held.persists ≡ false = ap (λ (s : TransportState). s.persists) held in
     let ends = ends-sought context h mid last alone r z maps in
-    let found : sought_by context h mid ≡ sought d.said (all_specs context) (second_pieces bodies) =
-    by-discovery d.said context h mid d.has d.version (next_pieces mid)
-    ∙ ap (λ (s : TransportState). sought d.said (all_specs context) (answer_pieces (first_answer s.answers))) held in
-    let so = sought d.said (all_specs context) (second_pieces bodies) in
+    let found : sought_by context h mid ≡ sought d.advertised (all_specs context) (second_pieces bodies) =
+    by-discovery d.advertised context h mid d.has d.version (next_pieces mid)
+    ∙ ap (λ (s : TransportState). sought d.advertised (all_specs context) (answer_pieces (first_answer s.answers))) held in
+    let so = sought d.advertised (all_specs context) (second_pieces bodies) in
     record {
       plans = record {
-        said = d.said;
+        advertised = d.advertised;
         specs = all_specs context;
-        discovered = said;
+        discovered = advertised;
         read = words-read words context read;
         ends =
-            subst (λ (s : TransportState). IsSought (map_refusal d.said.capabilities (all_specs context) so.refs)
+            subst (λ (s : TransportState). IsSought (map_refusal d.advertised.capabilities (all_specs context) so.refs)
             (s.sent ++ so.requests) last.held.sent r) held
-            (subst (λ (f : Sought). IsSought (map_refusal d.said.capabilities (all_specs context) f.refs)
+            (subst (λ (f : Sought). IsSought (map_refusal d.advertised.capabilities (all_specs context) f.refs)
             (mid.held.sent ++ f.requests) last.held.sent r) found
             (subst (λ c. Ended c context mid last r (sought_by context h mid)) d.has.capabilities ends));
       };

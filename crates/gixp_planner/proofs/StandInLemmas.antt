@@ -15,13 +15,13 @@ use Rattle.gixp_fetch.specs.declared.options.Outcome.{Outcome}
 use Rattle.gixp_shallow.specs.Store.{StoreCalls}
 use Rattle.gixp_fetch.specs.Bound.{Bounded, but_last}
 use Rattle.gixp_fetch.specs.Session.{MakesReady, Idle, ReadyFails}
-use Rattle.gixp_fetch.specs.FetchRounds.{At, Turn, Manner, manner_of, Turns, Rounds, updates_of, Packed, DoneWithout, Interrupts, TurnFails, Breaks, AsksBroken, told_of, RoundsFail, before_request, at_request, behind_request, at_answer, behind_answer, haves_of, windows_of}
-use Rattle.gixp_fetch.specs.Fetch.{World, Parties, parties_of, Wishes, start, Begun, Negotiated, Rests, FetchFails, unopened, unready, unpacked, untold, undelivered, SessionEnds}
+use Rattle.gixp_fetch.specs.FetchRounds.{At, Turn, Manner, manner_of, Turns, Rounds, updates_of, Packed, DoneWithout, Interrupts, TurnFails, Breaks, AsksBroken, reported_of, RoundsFail, before_request, at_request, after_request, at_answer, after_answer, haves_of, windows_of}
+use Rattle.gixp_fetch.specs.Fetch.{World, Parties, parties_of, FetchOptions, start, Begun, Negotiated, Rests, FetchFails, unopened, unready, unpacked, untold, undelivered, SessionEnds}
 use Rattle.gixp_fetch.specs.Fetched.{FetchCall, CarriesOut, StartFails, unprepared, unlocked, Fetches}
 
 module _ {N M A : Type 0} (calls : NegotiationCalls N A) (others : NegotiationCalls M A) (f : N → M) (Begins Stays : N → Type 0) where
   -- each call does what the other does, of what it stands for: the first two of what begins, and rounds of all
-  pub record StandsFor : Type 0 where
+  pub record ErrorIs : Type 0 where
     pub begun : (n : N) → Begins n → Stays n
     pub count : (n : N) → calls.count n ≡ others.count (f n)
     pub marks : (n : N) (action : ActionValue) (m : N) → Begins n → calls.marks n action m → others.marks (f n) action (f m) × Begins m
@@ -37,7 +37,7 @@ module _ {N M A : Type 0} (calls : NegotiationCalls N A) (others : NegotiationCa
         (b : ArgumentsValue) → calls.round_fails n s a p e m t b → others.round_fails (f n) s a p e (f m) t b × (Stays n → Stays m)
 
   -- so the rounds of the one pay for their haves where those of the other do
-  lawful : StandsFor → Lawful others.goes others.count → Lawful calls.goes calls.count
+  lawful : ErrorIs → Lawful others.goes others.count → Lawful calls.goes calls.count
   lawful k l = record {
     lowers = λ n s a p r d m t b g.
         subst (λ c. c + r.haves_sent ≤ calls.count n) (sym (k.count m)) (subst (λ c. others.count (f m) + r.haves_sent ≤ c)
@@ -45,10 +45,10 @@ module _ {N M A : Type 0} (calls : NegotiationCalls N A) (others : NegotiationCa
     fills = λ n s a p r m t b g. l.fills (f n) s a p r (f m) t b (k.goes n s a p r false m t b g).0;
   }
 
-  wide : StandsFor → IsWide others.goes → IsWide calls.goes
+  wide : ErrorIs → IsWide others.goes → IsWide calls.goes
   wide k w = record { wide = λ n s a p r m t b h g. w.wide (f n) s a p r (f m) t b h (k.goes n s a p r false m t b g).0 }
 
-  bounded : StandsFor → (first : N) (rounds : List Round) → Bounded calls.goes calls.count first rounds
+  bounded : ErrorIs → (first : N) (rounds : List Round) → Bounded calls.goes calls.count first rounds
       → Bounded others.goes others.count (f first) rounds
   bounded k first rounds b = record {
     haves = λ l. subst (λ c. haves_of rounds ≤ c) (k.count first) (b.haves (lawful k l));
@@ -85,12 +85,12 @@ rounds_told f [] = refl
 rounds_told f (t ∷ ts) = ap (λ rs. t.round ∷ rs) (rounds_told f ts)
 
 module _ {N M I A : Type 0} (calls : NegotiationCalls N A) (others : NegotiationCalls M A) (f : N → M) (Begins Stays : N → Type 0)
-    (k : StandsFor calls others f Begins Stays) (says : I → Bool → I → Type 0) (version : Protocol) (banded plain : Bool) where
+    (k : ErrorIs calls others f Begins Stays) (polls : I → Bool → I → Type 0) (version : Protocol) (banded plain : Bool) where
   abbrev own : Manner N I A
-  own = manner_of calls says version banded plain
+  own = manner_of calls polls version banded plain
 
   abbrev other : Manner M I A
-  other = manner_of others says version banded plain
+  other = manner_of others polls version banded plain
 
   updates_told : (ts : List (Turn N I)) → updates_of other (map (turn_of f) ts) ≡ updates_of own ts
   updates_told [] = refl
@@ -123,9 +123,9 @@ module _ {N M I A : Type 0} (calls : NegotiationCalls N A) (others : Negotiation
   rounds_stay old (t ∷ ts) new h s = rounds_stay t.after ts new h.3 (turn_stays old t h.0 s)
 
   module _ (start : At N I) where
-    packed : (told : List Round) (updates : List ShallowUpdate) (reply : AnswerValue) (end : At N I)
-        → Packed own start told updates reply end → Packed other (at_of f start) told updates reply (at_of f end)
-    packed told updates reply end p = record {
+    packed : (reported : List Round) (updates : List ShallowUpdate) (reply : AnswerValue) (end : At N I)
+        → Packed own start reported updates reply end → Packed other (at_of f start) reported updates reply (at_of f end)
+    packed reported updates reply end p = record {
       turns = map (turn_of f) p.turns;
       before = at_of f p.before;
       last = turn_of f p.last;
@@ -133,32 +133,32 @@ module _ {N M I A : Type 0} (calls : NegotiationCalls N A) (others : Negotiation
       lasts = turns p.before p.last p.lasts;
       pack = p.pack;
       answer = p.answer;
-      told = p.told ∙ ap (λ rs. rs ++ p.last.round ∷ []) (sym (rounds_told f p.turns));
+      reported = p.reported ∙ ap (λ rs. rs ++ p.last.round ∷ []) (sym (rounds_told f p.turns));
       gathered = p.gathered ∙ ap (λ us. us ++ p.last.reply.shallow_updates) (sym (updates_told p.turns));
-      stands = ap (at_of f) p.stands;
+      position = ap (at_of f) p.position;
     }
 
-    packed_stays : (told : List Round) (updates : List ShallowUpdate) (reply : AnswerValue) (end : At N I)
-        → Packed own start told updates reply end → Stays start.negotiate → Stays end.negotiate
-    packed_stays told updates reply end p s = subst (λ (a : At N I). Stays a.negotiate) (sym p.stands)
+    packed_stays : (reported : List Round) (updates : List ShallowUpdate) (reply : AnswerValue) (end : At N I)
+        → Packed own start reported updates reply end → Stays start.negotiate → Stays end.negotiate
+    packed_stays reported updates reply end p s = subst (λ (a : At N I). Stays a.negotiate) (sym p.position)
         (turn_stays p.before p.last p.lasts (rounds_stay start p.turns p.before p.run s))
 
-    stopped : (told : List Round) (end : At N I) → Interrupts own start told end → Interrupts other (at_of f start) told (at_of f end)
-    stopped told end p = record {
+    stopped : (reported : List Round) (end : At N I) → Interrupts own start reported end → Interrupts other (at_of f start) reported (at_of f end)
+    stopped reported end p = record {
       turns = map (turn_of f) p.turns;
       before = at_of f p.before;
       run = rounds start p.turns p.before p.run;
-      said = p.said;
-      told = p.told ∙ sym (rounds_told f p.turns);
-      stands = ap (at_of f) p.stands;
+      polled = p.polled;
+      reported = p.reported ∙ sym (rounds_told f p.turns);
+      position = ap (at_of f) p.position;
     }
 
-    stopped_stays : (told : List Round) (end : At N I) → Interrupts own start told end → Stays start.negotiate → Stays end.negotiate
-    stopped_stays told end p s =
-        subst (λ (a : At N I). Stays a.negotiate) (sym p.stands) (rounds_stay start p.turns p.before p.run s)
+    stopped_stays : (reported : List Round) (end : At N I) → Interrupts own start reported end → Stays start.negotiate → Stays end.negotiate
+    stopped_stays reported end p s =
+        subst (λ (a : At N I). Stays a.negotiate) (sym p.position) (rounds_stay start p.turns p.before p.run s)
 
-    without : (told : List Round) (end : At N I) → DoneWithout own start told end → DoneWithout other (at_of f start) told (at_of f end)
-    without told end p = record {
+    without : (reported : List Round) (end : At N I) → DoneWithout own start reported end → DoneWithout other (at_of f start) reported (at_of f end)
+    without reported end p = record {
       turns = map (turn_of f) p.turns;
       before = at_of f p.before;
       last = turn_of f p.last;
@@ -166,43 +166,43 @@ module _ {N M I A : Type 0} (calls : NegotiationCalls N A) (others : Negotiation
       lasts = turns p.before p.last p.lasts;
       done = p.done;
       no_pack = p.no_pack;
-      told = p.told ∙ ap (λ rs. rs ++ p.last.round ∷ []) (sym (rounds_told f p.turns));
-      stands = ap (at_of f) p.stands;
+      reported = p.reported ∙ ap (λ rs. rs ++ p.last.round ∷ []) (sym (rounds_told f p.turns));
+      position = ap (at_of f) p.position;
     }
 
-    without_stays : (told : List Round) (end : At N I) → DoneWithout own start told end → Stays start.negotiate → Stays end.negotiate
-    without_stays told end p s = subst (λ (a : At N I). Stays a.negotiate) (sym p.stands)
+    without_stays : (reported : List Round) (end : At N I) → DoneWithout own start reported end → Stays start.negotiate → Stays end.negotiate
+    without_stays reported end p s = subst (λ (a : At N I). Stays a.negotiate) (sym p.position)
         (turn_stays p.before p.last p.lasts (rounds_stay start p.turns p.before p.run s))
 
-    ended : (told : List Round) (end : At N I) → Interrupts own start told end ⊎ DoneWithout own start told end
-        → (Interrupts other (at_of f start) told (at_of f end) ⊎ DoneWithout other (at_of f start) told (at_of f end))
+    ended : (reported : List Round) (end : At N I) → Interrupts own start reported end ⊎ DoneWithout own start reported end
+        → (Interrupts other (at_of f start) reported (at_of f end) ⊎ DoneWithout other (at_of f start) reported (at_of f end))
         × (Stays start.negotiate → Stays end.negotiate)
-    ended told end (inl s) = (inl (stopped told end s), stopped_stays told end s)
-    ended told end (inr s) = (inr (without told end s), without_stays told end s)
+    ended reported end (inl s) = (inl (stopped reported end s), stopped_stays reported end s)
+    ended reported end (inr s) = (inr (without reported end s), without_stays reported end s)
 
   module _ {E : Type 0} where
     breaks : (old : At N I) (asked : ArgumentsValue) (done : Bool) (e : FetchError A E) (reading : Reading)
         → Breaks own old asked done e reading → Breaks other (at_of f old) asked done e reading
     breaks old asked done e reading (before_request w r) = before_request w r
     breaks old asked done e reading (at_request error s g) = at_request error s g
-    breaks old asked done e reading (behind_request s w) = behind_request s w
+    breaks old asked done e reading (after_request s w) = after_request s w
     breaks old asked done e reading (at_answer sent s error a h g) = at_answer sent s error a h g
-    breaks old asked done e reading (behind_answer sent s reply a h w) = behind_answer sent s reply a h w
+    breaks old asked done e reading (after_answer sent s reply a h w) = after_answer sent s reply a h w
 
     asks_broken : (old : At N I) (asked : ArgumentsValue) (done : Bool) (e : FetchError A E) (reading : Reading)
         (i : I) (b : Breaks own old asked done e reading) → AsksBroken own b i → AsksBroken other (breaks old asked done e reading b) i
     unfolding breaks
     asks_broken old asked done e reading i (before_request w r) k = k
     asks_broken old asked done e reading i (at_request error s g) k = k
-    asks_broken old asked done e reading i (behind_request s w) k = k
+    asks_broken old asked done e reading i (after_request s w) k = k
     asks_broken old asked done e reading i (at_answer sent s error a h g) k = k
-    asks_broken old asked done e reading i (behind_answer sent s reply a h w) k = k
+    asks_broken old asked done e reading i (after_answer sent s reply a h w) k = k
 
     -- a round that is refused, what it told by then, and what stays
     record Refused (old : At N I) (e : FetchError A E) (n : N) (reading : Reading) (i : I) (refused : TurnFails own old e n reading i)
         : Type 0 where
       pub fails : TurnFails other (at_of f old) e (f n) reading i
-      pub told : told_of own refused ≡ told_of other fails
+      pub reported : reported_of own refused ≡ reported_of other fails
       pub stays : Stays old.negotiate → Stays n
 
     refused : (old : At N I) (e : FetchError A E) (n : N) (reading : Reading) (i : I) (h : TurnFails own old e n reading i)
@@ -217,10 +217,10 @@ module _ {N M I A : Type 0} (calls : NegotiationCalls N A) (others : Negotiation
             asked = u.asked;
             refused = r.0;
             gives = u.gives;
-            stands = u.stands;
+            position = u.position;
             unasked = u.unasked;
           });
-          told = refl;
+          reported = refl;
           stays = r.1;
         }
     refused old e n reading i (inr b) =
@@ -235,15 +235,15 @@ module _ {N M I A : Type 0} (calls : NegotiationCalls N A) (others : Negotiation
             breaks = breaks old b.asked b.done e reading b.breaks;
             asks = asks_broken old b.asked b.done e reading i b.breaks b.asks;
           });
-          told = refl;
+          reported = refl;
           stays = r.1;
         }
 
-    rounds_fail : (start : At N I) (e : FetchError A E) (told : List Round) (n : N) (reading : Reading) (i : I)
-        → RoundsFail own start e told n reading i
-        → RoundsFail other (at_of f start) e told (f n) reading i × (Stays start.negotiate → Stays n)
-    rounds_fail start e told n reading i (inl h) =
-        let x = ended start told h.end h.ends in (
+    rounds_fail : (start : At N I) (e : FetchError A E) (reported : List Round) (n : N) (reading : Reading) (i : I)
+        → RoundsFail own start e reported n reading i
+        → RoundsFail other (at_of f start) e reported (f n) reading i × (Stays start.negotiate → Stays n)
+    rounds_fail start e reported n reading i (inl h) =
+        let x = ended start reported h.end h.ends in (
           inl (record {
             count = h.count;
             end = at_of f h.end;
@@ -256,42 +256,42 @@ module _ {N M I A : Type 0} (calls : NegotiationCalls N A) (others : Negotiation
           }),
           λ s. subst Stays (sym h.negotiates) (x.1 s),
         )
-    rounds_fail start e told n reading i (inr (inr u)) = (
+    rounds_fail start e reported n reading i (inr (inr u)) = (
       inr (inr (record {
         turns = map (turn_of f) u.turns;
         before = at_of f u.before;
         run = rounds start u.turns u.before u.run;
         gives = u.gives;
-        told = u.told ∙ sym (rounds_told f u.turns);
+        reported = u.reported ∙ sym (rounds_told f u.turns);
         negotiates = ap f u.negotiates;
         reads = u.reads;
         asks = u.asks;
       })),
       λ s. subst Stays (sym u.negotiates) (rounds_stay start u.turns u.before u.run s),
     )
-    rounds_fail start e told n reading i (inr (inl l)) =
+    rounds_fail start e reported n reading i (inr (inl l)) =
         let r = refused (record l.before { interrupt = l.asked }) e n reading i l.refused in (
           inr (inl (record {
             turns = map (turn_of f) l.turns;
             before = at_of f l.before;
             run = rounds start l.turns l.before l.run;
             asked = l.asked;
-            said = l.said;
+            polled = l.polled;
             refused = r.fails;
-            told = l.told ∙ ap (λ rs. rs ++ told_of own l.refused) (sym (rounds_told f l.turns))
-                ∙ ap (λ rs. map (λ t. t.round) (map (turn_of f) l.turns) ++ rs) r.told;
+            reported = l.reported ∙ ap (λ rs. rs ++ reported_of own l.refused) (sym (rounds_told f l.turns))
+                ∙ ap (λ rs. map (λ t. t.round) (map (turn_of f) l.turns) ++ rs) r.reported;
           })),
           λ h. r.stays (rounds_stay start l.turns l.before l.run h),
         )
 
 module _ {N M I A S C P X : Type 0} (calls : NegotiationCalls N A) (others : NegotiationCalls M A) (f : N → M)
-    (Begins Stays : N → Type 0) (k : StandsFor calls others f Begins Stays) (store_calls : StoreCalls S)
-    (says : I → Bool → I → Type 0) (consumes : C → Side → P → Result Bool X → C → Side → P → Type 0) (plain : Bool) where
+    (Begins Stays : N → Type 0) (k : ErrorIs calls others f Begins Stays) (store_calls : StoreCalls S)
+    (polls : I → Bool → I → Type 0) (consumes : C → Side → P → Result Bool X → C → Side → P → Type 0) (plain : Bool) where
   abbrev ours : Parties N I A S C P X
-  ours = parties_of calls store_calls says consumes plain
+  ours = parties_of calls store_calls polls consumes plain
 
   abbrev theirs : Parties M I A S C P X
-  theirs = parties_of others store_calls says consumes plain
+  theirs = parties_of others store_calls polls consumes plain
 
   made_ready : (first : N) (given : ArgumentsValue) (action : ActionValue) (ready : N) (wanted : ArgumentsValue) → Begins first
       → MakesReady calls first given action ready wanted
@@ -334,69 +334,69 @@ module _ {N M I A S C P X : Type 0} (calls : NegotiationCalls N A) (others : Neg
         r.1,
       )
 
-  module _ (version : Protocol) (banded : Bool) (wishes : Wishes) (given : ArgumentsValue) (old : World N I S C)
+  module _ (version : Protocol) (banded : Bool) (fetch_options : FetchOptions) (given : ArgumentsValue) (old : World N I S C)
       (begins : Begins old.negotiate) where
     begun : (ids : List ObjectId) (read : S) (action : ActionValue) (ready : N) (wanted : ArgumentsValue)
-        → Begun ours version banded wishes given old ids read action ready wanted
-        → Begun theirs version banded wishes given (world_of f old) ids read action (f ready) wanted × Stays ready
+        → Begun ours version banded fetch_options given old ids read action ready wanted
+        → Begun theirs version banded fetch_options given (world_of f old) ids read action (f ready) wanted × Stays ready
     begun ids read action ready wanted h =
         let r = made_ready old.negotiate h.asked action ready wanted begins h.readied in
         (record { asked = h.asked; opened = h.opened; readied = r.0 }, r.1)
 
-    negotiated : (ids : List ObjectId) (read : S) (action : ActionValue) (told : List Round) (updates : List ShallowUpdate)
+    negotiated : (ids : List ObjectId) (read : S) (action : ActionValue) (reported : List Round) (updates : List ShallowUpdate)
         (reply : AnswerValue) (end : At N I)
-        → Negotiated ours version banded wishes given old ids read action told updates reply end
-        → Negotiated theirs version banded wishes given (world_of f old) ids read action told updates reply (at_of f end)
+        → Negotiated ours version banded fetch_options given old ids read action reported updates reply end
+        → Negotiated theirs version banded fetch_options given (world_of f old) ids read action reported updates reply (at_of f end)
         × Stays end.negotiate
-    negotiated ids read action told updates reply end h =
+    negotiated ids read action reported updates reply end h =
         let b = begun ids read action h.ready h.wanted h.begun in
-        let from = start ours version banded wishes given old h.ready h.wanted in (
+        let from = start ours version banded fetch_options given old h.ready h.wanted in (
           record {
             ready = f h.ready;
             wanted = h.wanted;
             begun = b.0;
-            packed = packed calls others f Begins Stays k says version banded plain from told updates reply end h.packed;
-            bounded = bounded calls others f Begins Stays k h.ready told h.bounded;
+            packed = packed calls others f Begins Stays k polls version banded plain from reported updates reply end h.packed;
+            bounded = bounded calls others f Begins Stays k h.ready reported h.bounded;
           },
-          packed_stays calls others f Begins Stays k says version banded plain from told updates reply end h.packed b.1,
+          packed_stays calls others f Begins Stays k polls version banded plain from reported updates reply end h.packed b.1,
         )
 
-    rests : (new : World N I S C) → Rests ours version banded wishes given old new
-        → Rests theirs version banded wishes given (world_of f old) (world_of f new)
+    rests : (new : World N I S C) → Rests ours version banded fetch_options given old new
+        → Rests theirs version banded fetch_options given (world_of f old) (world_of f new)
     rests new h = record { reading = h.reading; interrupt = h.interrupt; locked = h.locked; consumer = h.consumer }
 
     fails : (e : FetchError A X) (new : World N I S C) (progress : P)
-        → FetchFails ours version banded wishes given old e new progress
-        → FetchFails theirs version banded wishes given (world_of f old) e (world_of f new) progress × Stays new.negotiate
+        → FetchFails ours version banded fetch_options given old e new progress
+        → FetchFails theirs version banded fetch_options given (world_of f old) e (world_of f new) progress × Stays new.negotiate
     fails e new progress (unopened o n r) =
         (unopened o (ap f n) (rests new r), subst Stays (sym n) (k.begun old.negotiate begins))
     fails e new progress (unready ids asked o h r) = let x = ready_fails old.negotiate asked e new.negotiate begins h in
         (unready ids asked o x.0 (rests new r), x.1)
-    fails e new progress (unpacked told u l c) =
+    fails e new progress (unpacked reported u l c) =
         let b = begun u.ids new.store u.action u.ready u.wanted u.begun in
-        let x = rounds_fail calls others f Begins Stays k says version banded plain
-        (start ours version banded wishes given old u.ready u.wanted) e told new.negotiate new.reading new.interrupt u.fails in (
-          unpacked told (record {
+        let x = rounds_fail calls others f Begins Stays k polls version banded plain
+        (start ours version banded fetch_options given old u.ready u.wanted) e reported new.negotiate new.reading new.interrupt u.fails in (
+          unpacked reported (record {
             ids = u.ids;
             action = u.action;
             ready = f u.ready;
             wanted = u.wanted;
             begun = b.0;
             fails = x.0;
-            bounded = bounded calls others f Begins Stays k u.ready told u.bounded;
+            bounded = bounded calls others f Begins Stays k u.ready reported u.bounded;
           }) l c,
           x.1 b.1,
         )
-    fails e new progress (untold ids action told updates reply end g m n r i l c) =
-        let x = negotiated ids new.store action told updates reply end g in
-        (untold ids action told updates reply (at_of f end) x.0 m (ap f n) r i l c, subst Stays (sym n) x.1)
-    fails e new progress (undelivered ids read action told updates reply end g n d) =
-        let x = negotiated ids read action told updates reply end g in
-        (undelivered ids read action told updates reply (at_of f end) x.0 (ap f n) d, subst Stays (sym n) x.1)
+    fails e new progress (untold ids action reported updates reply end g m n r i l c) =
+        let x = negotiated ids new.store action reported updates reply end g in
+        (untold ids action reported updates reply (at_of f end) x.0 m (ap f n) r i l c, subst Stays (sym n) x.1)
+    fails e new progress (undelivered ids read action reported updates reply end g n d) =
+        let x = negotiated ids read action reported updates reply end g in
+        (undelivered ids read action reported updates reply (at_of f end) x.0 (ap f n) d, subst Stays (sym n) x.1)
 
     session_ends : (r : Result (Option Outcome) (FetchError A X)) (new : World N I S C) (progress : P)
-        → SessionEnds ours version banded wishes given old r new progress
-        → SessionEnds theirs version banded wishes given (world_of f old) r (world_of f new) progress × Stays new.negotiate
+        → SessionEnds ours version banded fetch_options given old r new progress
+        → SessionEnds theirs version banded fetch_options given (world_of f old) r (world_of f new) progress × Stays new.negotiate
     session_ends (Ok (Some out)) new progress h =
         let x = negotiated h.ids h.read (action_value out.negotiate.action) out.negotiate.rounds.items h.updates h.reply h.end
         h.negotiated in (
@@ -407,11 +407,11 @@ module _ {N M I A S C P X : Type 0} (calls : NegotiationCalls N A) (others : Neg
             reply = h.reply;
             end = at_of f h.end;
             negotiated = x.0;
-            stands = ap f h.stands;
+            position = ap f h.position;
             answers = h.answers;
             delivered = h.delivered;
           },
-          subst Stays (sym h.stands) x.1,
+          subst Stays (sym h.position) x.1,
         )
     session_ends (Ok None) new progress h = let x = idled old.negotiate h.asked new.negotiate begins h.idle in
         (record { ids = h.ids; asked = h.asked; opened = h.opened; idle = x.0; rests = rests new h.rests }, x.1)
@@ -422,7 +422,7 @@ module _ {N M I A S C P X : Type 0} (calls : NegotiationCalls N A) (others : Neg
         → CarriesOut ours call old r new progress → CarriesOut theirs call (world_of f old) r (world_of f new) progress
         × Stays new.negotiate
     carries_out r new progress h =
-        let x = session_ends call.version h.banded call.wishes h.asked (record old { store = h.held; locked = h.first }) begins r h.last
+        let x = session_ends call.version h.banded call.fetch_options h.asked (record old { store = h.held; locked = h.first }) begins r h.last
         progress h.meets in (
           record {
             asked = h.asked;
@@ -434,9 +434,9 @@ module _ {N M I A S C P X : Type 0} (calls : NegotiationCalls N A) (others : Neg
             locks = h.locks;
             meets = x.0;
             releases = h.releases;
-            stands = ap (world_of f) h.stands;
+            position = ap (world_of f) h.position;
           },
-          subst (λ (w : World N I S C). Stays w.negotiate) (sym h.stands) x.1,
+          subst (λ (w : World N I S C). Stays w.negotiate) (sym h.position) x.1,
         )
 
     start_fails : (e : FetchError A X) (new : World N I S C) → StartFails ours call old e new

@@ -10,7 +10,7 @@ use Rattle.gixp_packetline.specs.Reading.{Reading, IsOutside, IsPlain}
 use Rattle.gixp_packetline.specs.TransportState.{TransportState}
 use Rattle.gixp_capabilities.specs.declared.client.Error.{Error as client_error}
 use Rattle.gixp_capabilities.specs.declared.client.Error.TheVariants as client
-use Rattle.gixp_wire.specs.Transport.{SentBy, FailsBy, first_answer, later_answers, answer_pieces}
+use Rattle.gixp_transport.specs.Transport.{SentBy, FailsBy, first_answer, later_answers, answer_pieces}
 use Rattle.gixp_response.specs.declared.fetch.response.error.Error.{Error as response_error}
 use Rattle.gixp_response.specs.declared.fetch.response.error.Error.TheVariants as response
 use Rattle.gixp_response.specs.Answer.{AnswerValue, Found, whole, refused}
@@ -27,9 +27,9 @@ use Rattle.gixp_fetch.specs.declared.consume.copy.CopyError.{CopyError}
 use Rattle.gixp_fetch.specs.declared.error.Error.{Error as FetchError}
 use Rattle.gixp_fetch.specs.declared.error.Error.TheVariants as fetch
 use Rattle.gixp_fetch.specs.FetchError.{of_response, of_client, of_negotiate}
-use Rattle.gixp_fetch.specs.FetchRounds.{At, Turn, Manner, Turns, Rounds, DoneWithout, Interrupts, RoundsFail, TurnFails, SendsRound, Breaks, AsksBroken, before_request, at_request, behind_request, at_answer, behind_answer}
+use Rattle.gixp_fetch.specs.FetchRounds.{At, Turn, Manner, Turns, Rounds, DoneWithout, Interrupts, RoundsFail, TurnFails, SendsRound, Breaks, AsksBroken, before_request, at_request, after_request, at_answer, after_answer}
 use Rattle.gixp_fetch.specs.View.{view, view_plain, AsksThrough}
-use Rattle.gixp_sidebands.specs.Questions.{SaysEach}
+use Rattle.gixp_sidebands.specs.Questions.{PollsEach}
 use Rattle.gixp_fetch.proofs.SentLemmas.{rounds_written}
 use Rattle.gixp_planner.specs.Refusal.{PlanRefusal, refusal}
 use Rattle.gixp_planner.specs.Session.{end_of}
@@ -134,17 +134,17 @@ memory-response (response.Reader r) h = cc
 memory-response response.Memory h = refl
 
 -- an interrupt that never says to stop told no reader so
-said-stop : {I : Type 0} (says : I → Bool → I → Type 0) (never : (i j : I) → says i true j → ⊥) (after : List I) (a b : I)
-    → SaysEach says after true a b → ⊥
-said-stop says never [] a b h = never a b h
-said-stop says never (x ∷ xs) a b h = said-stop says never xs x b h.1
+advertised-stop : {I : Type 0} (polls : I → Bool → I → Type 0) (never : (i j : I) → polls i true j → ⊥) (after : List I) (a b : I)
+    → PollsEach polls after true a b → ⊥
+advertised-stop polls never [] a b h = never a b h
+advertised-stop polls never (x ∷ xs) a b h = advertised-stop polls never xs x b h.1
 
-not-told : {I : Type 0} (says : I → Bool → I → Type 0) (never : (i j : I) → says i true j → ⊥) (banded plain stops : Bool)
-    (old new : Reading) (a b : I) → plain ≡ true → stops ≡ true → (banded ≡ false → ⊥) → AsksThrough says banded plain stops old new a b → ⊥
-not-told says never false plain stops old new a b p s f h = f refl
-not-told says never true plain stops old new a b p s f (inl h) =
-    said-stop says never h.after a b (subst (λ x. SaysEach says h.after x a b) s h.said)
-not-told says never true plain stops old new a b p s f (inr h) = true≢false (sym p ∙ h.0)
+not-reported : {I : Type 0} (polls : I → Bool → I → Type 0) (never : (i j : I) → polls i true j → ⊥) (banded plain stops : Bool)
+    (old new : Reading) (a b : I) → plain ≡ true → stops ≡ true → (banded ≡ false → ⊥) → AsksThrough polls banded plain stops old new a b → ⊥
+not-reported polls never false plain stops old new a b p s f h = f refl
+not-reported polls never true plain stops old new a b p s f (inl h) =
+    advertised-stop polls never h.after a b (subst (λ x. PollsEach polls h.after x a b) s h.polled)
+not-reported polls never true plain stops old new a b p s f (inr h) = true≢false (sym p ∙ h.0)
 
 bands-or-plain : (banded plain : Bool) (P : Type 0) → plain ≡ true → (view_plain banded plain ≡ true → P) → (P → ⊥) → banded ≡ false → ⊥
 bands-or-plain false plain P p f n e = n (f p)
@@ -246,7 +246,7 @@ module _ {N I A : Type 0} (m : Manner N I A) where
 
   -- a round that came to no answer
   module _ (x : At N I) (alone : x.reading.held.persists ≡ false) (new : Reading) (z : new.failures ≡ 0)
-      (e : FetchError A CopyError) (undisturbed : IsDisturbed e → ⊥) (never : ((i j : I) → m.says i true j → ⊥) × (m.plain ≡ true))
+      (e : FetchError A CopyError) (undisturbed : IsDisturbed e → ⊥) (never : ((i j : I) → m.polls i true j → ⊥) × (m.plain ≡ true))
       (round : Round) (done : Bool) (next : N) (window : Window) (asked : ArgumentsValue)
       (negotiated : m.goes x.negotiate x.window x.asked x.previous round done next window asked) where
     abbrev Stops : Type 0
@@ -304,31 +304,31 @@ module _ {N I A : Type 0} (m : Manner N I A) where
           (sym (view-failures m.banded sent) ∙ sym q ∙ view-failures m.banded new ∙ z) (named-response error)
 
       at-response : AnswerFails (answer_of m.version (flags done (not done))) (view_plain m.banded m.plain) (view m.banded sent)
-          (view m.banded new) error → (said now : I)
-          → AsksThrough m.says m.banded m.plain (is_interruption (answer_refusal error)) sent new said now → Stops
-      at-response (inl l) said now k = refused-so l.refusal l.first l.read.failures
-      at-response (inr (inl l)) said now k = refused-so (from_reader l.refusal) l.first (l.refused.failures ∙ l.read.failures)
-      at-response (inr (inr (inl l))) said now k =
+          (view m.banded new) error → (advertised now : I)
+          → AsksThrough m.polls m.banded m.plain (is_interruption (answer_refusal error)) sent new advertised now → Stops
+      at-response (inl l) advertised now k = refused-so l.refusal l.first l.read.failures
+      at-response (inr (inl l)) advertised now k = refused-so (from_reader l.refusal) l.first (l.refused.failures ∙ l.read.failures)
+      at-response (inr (inr (inl l))) advertised now k =
           at (outside-response l.now (view m.banded new) l.refusal error (view-failures m.banded new ∙ z) l.failed l.error)
         where
           at : (l.refusal ≡ interrupted) ⊎ (◌≡◌ {A = FetchError A CopyError} (of_response error) fetch.Memory) → Stops
           at (inr n) = inl (g ∙ n)
           at (inl i) =
-              absurd (not-told m.says never.0 m.banded m.plain (is_interruption (answer_refusal error)) sent new said now never.1
+              absurd (not-reported m.polls never.0 m.banded m.plain (is_interruption (answer_refusal error)) sent new advertised now never.1
               (ap is_interruption (l.error ∙ ap from_reader i))
               (bands-or-plain m.banded m.plain (IsPlain (view m.banded new) l.refusal) never.1 l.is_plain
               (λ q. subst (λ r. IsPlain (view m.banded new) r) i q)) k)
-      at-response (inr (inr (inr l))) said now k = inl (g ∙ ap of_response l.error)
+      at-response (inr (inr (inr l))) advertised now k = inl (g ∙ ap of_response l.error)
 
     stops : (left : I) (b : Breaks m x asked done e new) → AsksBroken m b left → Stops
     stops left (before_request w r) k = inl w
     stops left (at_request c s g) k = at-client c s g
-    stops left (behind_request s w) k = inl w.1
+    stops left (after_request s w) k = inl w.1
     stops left (at_answer sent s error a h g) k = at-response sent s error h g a x.interrupt left k
-    stops left (behind_answer sent s reply a h w) k = inl w
+    stops left (after_answer sent s reply a h w) k = inl w
 
   -- how rounds fail
-  module _ (never : ((i j : I) → m.says i true j → ⊥) × (m.plain ≡ true)) (x : At N I) (alone : x.reading.held.persists ≡ false)
+  module _ (never : ((i j : I) → m.polls i true j → ⊥) × (m.plain ≡ true)) (x : At N I) (alone : x.reading.held.persists ≡ false)
       (new : Reading) (z : new.failures ≡ 0) (e : FetchError A CopyError) (undisturbed : IsDisturbed e → ⊥) where
     abbrev pub RunStops : Type 0
     RunStops = (e ≡ fetch.Memory) ⊎ Ran x new (end_of {A = A} {X = CopyError} (Err e))
@@ -379,9 +379,9 @@ module _ {N I A : Type 0} (m : Manner N I A) where
     rounds-fail rounds next interrupt (inl f) = by-end f.ends
       where
         by-end : Interrupts m x rounds f.end ⊎ DoneWithout m x rounds f.end → RunStops
-        by-end (inl i) = absurd (never.0 i.before.interrupt f.end.interrupt i.said)
+        by-end (inl i) = absurd (never.0 i.before.interrupt f.end.interrupt i.polled)
         by-end (inr d) =
-            let stands : new ≡ d.last.after.reading = f.reads ∙ ap (λ (a : At N I). a.reading) d.stands in
+            let here : new ≡ d.last.after.reading = f.reads ∙ ap (λ (a : At N I). a.reading) d.position in
             let at : (end : Ending) → by_pack d.last.reply.pack d.last.done end ≡ lacks_pack =
             λ end. ap (λ p. by_pack p d.last.done end) d.no_pack ∙ ap (λ b. by_pack false b end) d.done in
             inr (record {
@@ -390,7 +390,7 @@ module _ {N I A : Type 0} (m : Manner N I A) where
               run = d.run;
               last =
                   last-turn d.before d.last new (end_of {A = A} {X = CopyError} (Err e)) (alone-then d.before d.turns d.run) d.lasts
-                  (ap (λ (r : Reading). r.failures) (sym stands) ∙ z) (ap (λ (r : Reading). r.held) stands)
+                  (ap (λ (r : Reading). r.failures) (sym here) ∙ z) (ap (λ (r : Reading). r.held) here)
                   (λ end had. subst (λ w. EndsBy w (end_of {A = A} {X = CopyError} (Err e))) (sym (at end))
                   (ap (λ (w : FetchError A CopyError). end_of {A = A} {X = CopyError} (Err w)) f.gives));
             })

@@ -14,8 +14,8 @@ use Rattle.gixp_shallow.specs.declared.shallow.Shallow.{Shallow}
 use Rattle.gixp_shallow.specs.Shallow.{is_no_change, is_deepen_zero}
 use Rattle.gixp_negotiate.specs.Negotiate.{ActionValue, no_change, skip}
 use Rattle.gixp_negotiate.specs.NegotiationMapping.{mapping_id}
-use Rattle.gixp_negotiate.specs.Marking.{LocalRefs, time_at, is_here, is_known, is_same, local_id, is_changed, any_changed, any_unknown, is_lone_unborn, has_none, early, settle, decide, decision}
-use Rattle.gixp_negotiate.specs.Wants.{Wish, wanted, tag_have, wishes_of, wishes}
+use Rattle.gixp_negotiate.specs.Marking.{LocalRefs, time_at, is_here, is_known, is_same, local_id, is_changed, any_changed, any_unknown, is_lone_unborn, has_none, early, chosen_action, decide, decision}
+use Rattle.gixp_negotiate.specs.Wants.{RequestLine, wanted, tag_have, request_lines_of, request_lines}
 use Rattle.gixp_planner.proofs.SeenLemmas.{Seen, seen, LookAlike}
 
 -- what a negotiation goes by in its first two steps
@@ -30,8 +30,8 @@ pub record Basis : Type 0 where
 abbrev pub decided : Basis → ActionValue
 decided b = decision b.ignores b.found b.existing b.refs b.shallow b.mappings
 
-abbrev pub asked_for : Basis → ArgumentsValue → List Bool → List Wish
-asked_for b a known = wishes b.ignores b.existing (can_use (codes "ref-in-want") a) (is_no_change b.shallow) b.mappings known
+abbrev pub asked_for : Basis → ArgumentsValue → List Bool → List RequestLine
+asked_for b a known = request_lines b.ignores b.existing (can_use (codes "ref-in-want") a) (is_no_change b.shallow) b.mappings known
 
 -- the same objects and refs, and mappings that look alike, none of them ignored
 pub record SameBasis (p q : Basis) : Type 0 where
@@ -123,13 +123,13 @@ module _ (ignores others : Mapping → Bool) (counts : (x : Mapping) → ignores
       ≡ decision others found existing refs shallow ys
   decision-alike found existing refs shallow =
       let stays = is_no_change shallow in
-      ap (λ e. decide e (settle stays (any_changed ignores refs xs) (any_unknown ignores found existing xs)
+      ap (λ e. decide e (chosen_action stays (any_changed ignores refs xs) (any_unknown ignores found existing xs)
       (map (is_known found existing) xs))) (early-alike shallow xs ys s)
-      ∙ ap (λ c. decide (early shallow ys) (settle stays c (any_unknown ignores found existing xs) (map (is_known found existing) xs)))
+      ∙ ap (λ c. decide (early shallow ys) (chosen_action stays c (any_unknown ignores found existing xs) (map (is_known found existing) xs)))
       (changes-alike refs)
-      ∙ ap (λ u. decide (early shallow ys) (settle stays (any_changed others refs ys) u (map (is_known found existing) xs)))
+      ∙ ap (λ u. decide (early shallow ys) (chosen_action stays (any_changed others refs ys) u (map (is_known found existing) xs)))
       (unknown-alike found existing)
-      ∙ ap (λ k. decide (early shallow ys) (settle stays (any_changed others refs ys) (any_unknown others found existing ys) k))
+      ∙ ap (λ k. decide (early shallow ys) (chosen_action stays (any_changed others refs ys) (any_unknown others found existing ys) k))
       (map-alike (is_known found existing) (known-alike found existing) xs ys s)
 
 pub decided-alike : (p q : Basis) → SameBasis p q → decided p ≡ decided q
@@ -144,26 +144,26 @@ decided-alike p q s =
 
 wish-alike : (ignores others : Mapping → Bool) (existing : Objects) (by_name new_only : Bool) (x y : Mapping) (k : Bool)
     → ignores x ≡ false → others y ≡ false → seen x ≡ seen y
-    → wishes_of ignores existing by_name new_only x k ≡ wishes_of others existing by_name new_only y k
+    → request_lines_of ignores existing by_name new_only x k ≡ request_lines_of others existing by_name new_only y k
 wish-alike ignores others existing by_name new_only x y k c d e =
     ap (λ b. if b || (new_only && k) then [] else (wanted by_name (seen x).id (seen x).name ++ tag_have existing (seen x).id)) (c ∙ sym d)
     ∙ ap (λ (s : Seen). if others y || (new_only && k) then [] else (wanted by_name s.id s.name ++ tag_have existing s.id)) e
 
-wishes-alike : (ignores others : Mapping → Bool) → ((x : Mapping) → ignores x ≡ false) → ((x : Mapping) → others x ≡ false)
+request_lines-alike : (ignores others : Mapping → Bool) → ((x : Mapping) → ignores x ≡ false) → ((x : Mapping) → others x ≡ false)
     → (existing : Objects) (by_name new_only : Bool) (xs ys : List Mapping) (known : List Bool)
-    → LookAlike xs ys → wishes ignores existing by_name new_only xs known ≡ wishes others existing by_name new_only ys known
-wishes-alike ignores others c d existing by_name new_only [] [] known s = refl
-wishes-alike ignores others c d existing by_name new_only [] (y ∷ ys) known s = absurd s
-wishes-alike ignores others c d existing by_name new_only (x ∷ xs) [] known s = absurd s
-wishes-alike ignores others c d existing by_name new_only (x ∷ xs) (y ∷ ys) [] s = refl
-wishes-alike ignores others c d existing by_name new_only (x ∷ xs) (y ∷ ys) (k ∷ ks) s =
-    ap (λ w. w ++ wishes ignores existing by_name new_only xs ks)
+    → LookAlike xs ys → request_lines ignores existing by_name new_only xs known ≡ request_lines others existing by_name new_only ys known
+request_lines-alike ignores others c d existing by_name new_only [] [] known s = refl
+request_lines-alike ignores others c d existing by_name new_only [] (y ∷ ys) known s = absurd s
+request_lines-alike ignores others c d existing by_name new_only (x ∷ xs) [] known s = absurd s
+request_lines-alike ignores others c d existing by_name new_only (x ∷ xs) (y ∷ ys) [] s = refl
+request_lines-alike ignores others c d existing by_name new_only (x ∷ xs) (y ∷ ys) (k ∷ ks) s =
+    ap (λ w. w ++ request_lines ignores existing by_name new_only xs ks)
     (wish-alike ignores others existing by_name new_only x y k (c x) (d y) s.0)
-    ∙ ap (λ w. wishes_of others existing by_name new_only y k ++ w) (wishes-alike ignores others c d existing by_name new_only xs ys ks s.1)
+    ∙ ap (λ w. request_lines_of others existing by_name new_only y k ++ w) (request_lines-alike ignores others c d existing by_name new_only xs ys ks s.1)
 
 pub asked-alike : (p q : Basis) (a : ArgumentsValue) (known : List Bool) → SameBasis p q → asked_for p a known ≡ asked_for q a known
 asked-alike p q a known s =
-    wishes-alike p.ignores q.ignores s.counts s.counts_too p.existing (can_use (codes "ref-in-want") a)
+    request_lines-alike p.ignores q.ignores s.counts s.counts_too p.existing (can_use (codes "ref-in-want") a)
     (is_no_change p.shallow) p.mappings q.mappings known s.mappings
-    ∙ ap (λ o. wishes q.ignores o (can_use (codes "ref-in-want") a) (is_no_change p.shallow) q.mappings known) s.existing
-    ∙ ap (λ l. wishes q.ignores q.existing (can_use (codes "ref-in-want") a) (is_no_change l) q.mappings known) s.shallow
+    ∙ ap (λ o. request_lines q.ignores o (can_use (codes "ref-in-want") a) (is_no_change p.shallow) q.mappings known) s.existing
+    ∙ ap (λ l. request_lines q.ignores q.existing (can_use (codes "ref-in-want") a) (is_no_change l) q.mappings known) s.shallow

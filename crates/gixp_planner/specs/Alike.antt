@@ -3,7 +3,7 @@
 use Rattle.std.specs.Prelude.{ℕ, ◌≡◌, ◌⊎◌, ⊤, Bool, List, codes, Option, Result, Ok, Err}
 use Rattle.gixp_packetline.specs.declared.read.Error.{Error as ReadError}
 use Rattle.gixp_packetline.specs.declared.read.Error.TheVariants as read
-use Rattle.gixp_wire.specs.declared.bodies.Body.{Body}
+use Rattle.gixp_transport.specs.declared.bodies.Body.{Body}
 use Rattle.gixp_refmap.specs.declared.refmap.map.RefMap.{RefMap}
 use Rattle.gixp_negotiate.specs.Negotiate.{IsOwn}
 use Rattle.gixp_fetch.specs.declared.consume.copy.CopyError.{CopyError}

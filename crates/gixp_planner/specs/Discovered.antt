@@ -8,11 +8,11 @@ use Rattle.gixp_packetline.specs.Pieces.{Pieces}
 use Rattle.gixp_packetline.specs.Reading.{Reading, lines_from_stop}
 use Rattle.gixp_capabilities.specs.Capabilities.{CapabilityValue}
 use Rattle.gixp_capabilities.specs.Client.{ClientRefusal}
-use Rattle.gixp_wire.specs.declared.bodies.Body.{Body}
-use Rattle.gixp_wire.specs.declared.bodies.Bodies.{Bodies}
-use Rattle.gixp_wire.specs.Bodies.{answer_of, bodies_reading, IsNewBodies}
-use Rattle.gixp_wire.specs.CapabilityAdvertisement.{Advertised, advertisement}
-use Rattle.gixp_wire.specs.Transport.{first_answer, answer_pieces}
+use Rattle.gixp_transport.specs.declared.bodies.Body.{Body}
+use Rattle.gixp_transport.specs.declared.bodies.Bodies.{Bodies}
+use Rattle.gixp_transport.specs.Bodies.{answer_of, bodies_reading, IsNewBodies}
+use Rattle.gixp_transport.specs.CapabilityAdvertisement.{Advertised, advertisement}
+use Rattle.gixp_transport.specs.Transport.{first_answer, answer_pieces}
 use Rattle.gixp_refs.specs.declared.handshake.Ref.{Ref}
 use Rattle.gixp_refs.specs.Ref.{RefValue, ref_value}
 use Rattle.gixp_refs.specs.RefLine.{RefsRefusal}
@@ -22,7 +22,7 @@ use Rattle.gixp_handshake.specs.declared.handshake.error.Error.TheVariants as ha
 use Rattle.gixp_handshake.specs.declared.handshake.read.Handshake.{Handshake}
 use Rattle.gixp_handshake.specs.Shake.{is_accepted}
 use Rattle.gixp_planner.specs.Refusal.{handshake_name}
-use Rattle.gixp_planner.specs.Session.{GreetsWithoutAccount}
+use Rattle.gixp_handshake.specs.WithoutAccount.{GreetsWithoutAccount}
 
 -- the server's version and capabilities, and its refs where they come first
 pub record Discovery : Type 0 where
@@ -31,30 +31,30 @@ pub record Discovery : Type 0 where
   pub refs : Option (List RefValue)
 
 abbrev pub discovered : Advertised → Option (List RefValue) → Discovery
-discovered said refs = record { version = said.version; capabilities = said.capabilities; refs = refs }
+discovered advertised refs = record { version = advertised.version; capabilities = advertised.capabilities; refs = refs }
 
 -- the refs of the lines, or the name of their error
 abbrev pub with_refs : Advertised → Result (List RefValue) RefsRefusal → Result Discovery (List ℕ)
-with_refs said (Ok refs) = Ok (discovered said (Some refs))
-with_refs said (Err e) = Err (codes "ParseRefs")
+with_refs advertised (Ok refs) = Ok (discovered advertised (Some refs))
+with_refs advertised (Err e) = Err (codes "ParseRefs")
 
 -- the symbolic refs of the capabilities `symref`, or the name of their error
 abbrev pub by_symrefs : Advertised → Result (List Symref) RefsRefusal → Result Discovery (List ℕ)
-by_symrefs said (Ok symrefs) = with_refs said (v1_refs symrefs (lines_from_stop said.stopped said.version said.rest))
-by_symrefs said (Err e) = Err (codes "ParseRefs")
+by_symrefs advertised (Ok symrefs) = with_refs advertised (v1_refs symrefs (lines_from_stop advertised.stopped advertised.version advertised.rest))
+by_symrefs advertised (Err e) = Err (codes "ParseRefs")
 
 -- whether refs come first
 abbrev pub by_refs : Bool → Advertised → Result Discovery (List ℕ)
-by_refs false said = Ok (discovered said None)
-by_refs true said = by_symrefs said (symref_table said.capabilities)
+by_refs false advertised = Ok (discovered advertised None)
+by_refs true advertised = by_symrefs advertised (symref_table advertised.capabilities)
 
 -- whether the version is accepted
 abbrev pub by_acceptance : Bool → Advertised → Result Discovery (List ℕ)
-by_acceptance false said = Err (codes "TransportProtocolPolicyViolation")
-by_acceptance true said = by_refs said.has_refs said
+by_acceptance false advertised = Err (codes "TransportProtocolPolicyViolation")
+by_acceptance true advertised = by_refs advertised.has_refs advertised
 
 abbrev pub by_advertisement : List Protocol → Result Advertised ClientRefusal → Result Discovery (List ℕ)
-by_advertisement accepted (Ok said) = by_acceptance (is_accepted accepted said.version) said
+by_advertisement accepted (Ok advertised) = by_acceptance (is_accepted accepted advertised.version) advertised
 by_advertisement accepted (Err e) = Err (codes "Transport")
 
 -- what an answer has where these versions are accepted, or the name of the handshake's error
@@ -66,15 +66,15 @@ abbrev pub values_of : Option (Vec Ref Global) → Option (List RefValue)
 values_of refs = option_map (λ (v : Vec Ref Global). map ref_value v.items) refs
 
 -- a handshake has what was discovered
-pub record HasDiscovered (said : Discovery) (h : Handshake) : Type 0 where
-  pub version : h.server_protocol_version ≡ said.version
-  pub capabilities : h.capabilities ≡ said.capabilities
-  pub refs : values_of h.refs ≡ said.refs
+pub record HasDiscovered (advertised : Discovery) (h : Handshake) : Type 0 where
+  pub version : h.server_protocol_version ≡ advertised.version
+  pub capabilities : h.capabilities ≡ advertised.capabilities
+  pub refs : values_of h.refs ≡ advertised.refs
 
 -- a handshake had this outcome, or an allocation failed
 abbrev pub IsDiscovered : Result Discovery (List ℕ) → Result Handshake HandshakeError → Type 0
-IsDiscovered (Ok said) (Ok h) = HasDiscovered said h
-IsDiscovered (Ok said) (Err e) = e ≡ handshake.Memory
+IsDiscovered (Ok advertised) (Ok h) = HasDiscovered advertised h
+IsDiscovered (Ok advertised) (Err e) = e ≡ handshake.Memory
 IsDiscovered (Err name) (Ok h) = ⊥
 IsDiscovered (Err name) (Err e) = (handshake_name e ≡ name) ⊎ (e ≡ handshake.Memory)
 

@@ -2,7 +2,7 @@
 -- writes.
 use Rattle.std.specs.Prelude.{ℕ, ◌≡◌, ◌⊎◌, ◌++◌, ◌∷◌, Bool, true, false, List, [], codes, Option, Result, Ok, Err, IsOk}
 use Rattle.std.specs.Io.KnownBytes.{Appends, Keeps}
-use Rattle.gixp_wire.specs.declared.bodies.Body.{Body}
+use Rattle.gixp_transport.specs.declared.bodies.Body.{Body}
 use Rattle.gixp_refmap.specs.declared.refmap.map.RefMap.{RefMap}
 use Rattle.gixp_fetch.specs.Fetch.{Parties}
 use Rattle.gixp_refspec.specs.declared.parse.Error.{Error as SpecError}
@@ -15,10 +15,10 @@ use Rattle.gixp_planner.specs.PlannedText.{IsCourse, PlannedText}
 use Rattle.gixp_planner.specs.Mapped.{IsMapped}
 
 -- after the requests up to its ref map a session sent those of a fetch, or none where nothing was wanted
-abbrev pub AsksBehind : Result Bool PlanRefusal → List (List ℕ) → List (List ℕ) → Type 0
-AsksBehind (Ok true) mapping sent = (first : List ℕ) × (later : List (List ℕ)) × (sent ≡ mapping ++ first ∷ later)
-AsksBehind (Ok false) mapping sent = sent ≡ mapping
-AsksBehind (Err e) mapping sent = ⊥
+abbrev pub AsksAfterMap : Result Bool PlanRefusal → List (List ℕ) → List (List ℕ) → Type 0
+AsksAfterMap (Ok true) mapping sent = (first : List ℕ) × (later : List (List ℕ)) × (sent ≡ mapping ++ first ∷ later)
+AsksAfterMap (Ok false) mapping sent = sent ≡ mapping
+AsksAfterMap (Err e) mapping sent = ⊥
 
 -- two sessions over these bodies sent the same, have the same outcome, and print the same
 pub record AreSame (bodies : List Body) (specs : List (List ℕ)) (c d : Course) : Type 0 where
@@ -29,7 +29,7 @@ pub record AreSame (bodies : List Body) (specs : List (List ℕ)) (c d : Course)
   pub mapping : List (List ℕ)
   pub made : RefMap
   pub mapped : IsMapped bodies specs mapping made
-  pub asked : AsksBehind c.ended mapping c.sent
+  pub asked : AsksAfterMap c.ended mapping c.sent
 
 -- a plan fails with this refspec's error, or with an allocation failure
 abbrev pub RefusedForSpec : SpecError → Result (Unit {0}) PlanError → Type 0

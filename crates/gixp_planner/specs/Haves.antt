@@ -3,7 +3,7 @@ use Rattle.std.specs.Prelude.{ℕ, ◌≡◌, ◌⊎◌, List, [], ◌∷◌, ma
 use Rattle.std.specs.declared.alloc.Global.{Global}
 use Rattle.gixp_hash.specs.declared.object_id.ObjectId.{ObjectId}
 use Rattle.gixp_hash.specs.ObjectId.{id_of}
-use Rattle.gixp_text.specs.Lines.{text_lines}
+use Rattle.gixp_utils.specs.Lines.{text_lines}
 use Rattle.gixp_planner.specs.declared.error.PlanError.{PlanError}
 use Rattle.gixp_planner.specs.Refusal.{refusal, refusal_of, IsPlanMemory}
 

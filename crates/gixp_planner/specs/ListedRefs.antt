@@ -44,7 +44,7 @@ PrintsNext plain old new before after (Err e) = NextRef plain old new (Err e)
 -- this text has the lines of the remaining refs
 pub record PrintsAhead (old new : Reading) (text : List ℕ) : Type 0 where
   pub printed : IfSome old.to_come (λ p. Prints (Some []) (Some text) (v2_refs (lines_ahead old p)))
-  pub behind : StopsAfter old new
+  pub following : StopsAfter old new
 
 -- the first error of the lines to come: a line's, or the reader's, which is sticky
 pub record RefusedFirst (old new : Reading) (e : Error) : Type 0 where
@@ -69,7 +69,7 @@ RefusesAhead plain old new e = RefusedFirst old new e ⊎ CameFromOutside plain 
 -- the lines of the remaining refs were written
 pub record ListsAhead (old new : Reading) (before after : Option (List ℕ)) : Type 0 where
   pub written : IfSome old.to_come (λ p. Prints before after (v2_refs (lines_ahead old p)))
-  pub behind : StopsAfter old new
+  pub following : StopsAfter old new
 
 -- a remaining ref has an error, or a write failed for refs without one
 abbrev pub RefusesLines : Bool → Reading → Reading → ListError → Type 0

@@ -2,9 +2,9 @@
 -- refspecs.
 use Rattle.std.specs.Prelude.{ℕ, ◌≡◌, ◌++◌, Bool, true, List, [], codes, Option, Result, Ok, Err}
 use Rattle.std.specs.Io.KnownBytes.{Appends}
-use Rattle.gixp_wire.specs.declared.bodies.Body.{Body}
-use Rattle.gixp_wire.specs.declared.bodies.Bodies.{Bodies}
-use Rattle.gixp_wire.specs.Bodies.{bodies_reading, IsNewBodies}
+use Rattle.gixp_transport.specs.declared.bodies.Body.{Body}
+use Rattle.gixp_transport.specs.declared.bodies.Bodies.{Bodies}
+use Rattle.gixp_transport.specs.Bodies.{bodies_reading, IsNewBodies}
 use Rattle.gixp_packetline.specs.Reading.{Reading}
 use Rattle.gixp_refmap.specs.declared.refmap.init.Context.{Context}
 use Rattle.gixp_refmap.specs.declared.refmap.map.RefMap.{RefMap}
@@ -13,7 +13,8 @@ use Rattle.gixp_planner.specs.declared.error.PlanError.{PlanError}
 use Rattle.gixp_planner.specs.Refusal.{PlanRefusal, refusal_of}
 use Rattle.gixp_planner.specs.Specs.{IsContext}
 use Rattle.gixp_planner.specs.Text.{requests_shown, map_shown, end_shown}
-use Rattle.gixp_planner.specs.Session.{GreetsWithoutAccount, MapsRefs}
+use Rattle.gixp_handshake.specs.WithoutAccount.{GreetsWithoutAccount}
+use Rattle.gixp_planner.specs.Session.{MapsRefs}
 
 -- a session over these bodies has the ref map of these refspecs, after these requests
 pub record IsMapped (bodies : List Body) (specs : List (List ℕ)) (sent : List (List ℕ)) (m : RefMap) : Type 0 where
@@ -21,12 +22,12 @@ pub record IsMapped (bodies : List Body) (specs : List (List ℕ)) (sent : List 
   pub transport : Bodies
   pub handshake : Handshake
   pub mid : Reading
-  pub behind : Reading
+  pub following : Reading
   pub read : IsContext specs context
   pub over : IsNewBodies bodies [] [] transport
   pub greets : GreetsWithoutAccount true (bodies_reading transport) mid (Ok handshake)
-  pub maps : MapsRefs context handshake true mid behind (Ok m)
-  pub by_then : behind.held.sent ≡ sent
+  pub maps : MapsRefs context handshake true mid following (Ok m)
+  pub by_then : following.held.sent ≡ sent
 
 -- whatever objects, graph and negotiator two sessions have: up to the ref map they send the same, and their ref maps have the same text
 abbrev pub MappingsFollow : Type 0

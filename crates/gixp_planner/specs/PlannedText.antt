@@ -1,9 +1,9 @@
 -- The planned text: what is written of a session over recorded bodies, and which step failed.
 use Rattle.std.specs.Prelude.{ℕ, ◌≡◌, ◌⊎◌, Bool, true, List, [], codes, Option, Result, Ok, Err, IsOk}
 use Rattle.std.specs.Io.KnownBytes.{Appends, Keeps}
-use Rattle.gixp_wire.specs.declared.bodies.Body.{Body}
-use Rattle.gixp_wire.specs.declared.bodies.Bodies.{Bodies}
-use Rattle.gixp_wire.specs.Bodies.{bodies_reading, IsNewBodies}
+use Rattle.gixp_transport.specs.declared.bodies.Body.{Body}
+use Rattle.gixp_transport.specs.declared.bodies.Bodies.{Bodies}
+use Rattle.gixp_transport.specs.Bodies.{bodies_reading, IsNewBodies}
 use Rattle.gixp_packetline.specs.Reading.{Reading}
 use Rattle.gixp_refmap.specs.declared.refmap.init.Context.{Context}
 use Rattle.gixp_refmap.specs.declared.refmap.map.RefMap.{RefMap}

@@ -5,8 +5,8 @@ use Rattle.std.specs.declared.io.Error.{Error as IoError}
 use Rattle.std.specs.declared.io.ErrorKind.TheVariants.{NotFound, OutOfMemory}
 use Rattle.std.specs.declared.io.ErrorKind.{ErrorKind}
 use Rattle.std.specs.IoError.{error_kind}
-use Rattle.gixp_wire.specs.declared.bodies.Body.{Body}
-use Rattle.gixp_wire.specs.declared.bodies.Body.TheVariants.{Bytes, Fail}
+use Rattle.gixp_transport.specs.declared.bodies.Body.{Body}
+use Rattle.gixp_transport.specs.declared.bodies.Body.TheVariants.{Bytes, Fail}
 use Rattle.gixp_hash.specs.declared.object_id.ObjectId.{ObjectId}
 use Rattle.gixp_planner.specs.declared.error.PlanError.{PlanError}
 use Rattle.gixp_planner.specs.Haves.{ReadsHaves}

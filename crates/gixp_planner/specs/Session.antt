@@ -1,12 +1,11 @@
 -- A session of a planner: a handshake without an account, the ref map of the server's refs, and a fetch of the mapped refs.
-use Rattle.std.specs.Prelude.{ℕ, ◌≡◌, ◌==◌, ◌⊎◌, ⊤, Bool, true, false, if◌then◌else◌, List, [], ◌∷◌, codes, Option, Some, None, Result, Ok, Err, IfOk, IsOk}
+use Rattle.std.specs.Prelude.{ℕ, ◌≡◌, ◌==◌, ◌⊎◌, Bool, true, false, if◌then◌else◌, List, [], ◌∷◌, codes, Option, Some, None, Result, Ok, Err, IfOk, IsOk}
 use Rattle.std.specs.declared.alloc.AllocError.{AllocError}
 use Rattle.gixp_graph.specs.GraphData.{GraphValue}
 use Rattle.gixp_graph.specs.declared.empty.NoRefs.{NoRefs}
 use Rattle.gixp_shallow.specs.declared.shallow.Shallow.TheVariants.{NoChange}
 use Rattle.gixp_shallow.specs.declared.store.memory.ShallowMemory.{ShallowMemory}
 use Rattle.gixp_negotiate.specs.declared.negotiate.negotiation.Negotiation.{Negotiation}
-use Rattle.gixp_wire.specs.declared.service.Service.TheVariants.{UploadPack}
 use Rattle.gixp_packetline.specs.Reading.{Reading}
 use Rattle.gixp_requests.specs.Feature.{FeatureValue}
 use Rattle.gixp_requests.specs.Command.{git_table}
@@ -18,7 +17,7 @@ use Rattle.gixp_refmap.specs.declared.refmap.init.Error.TheVariants as map
 use Rattle.gixp_refmap.specs.declared.refmap.map.RefMap.{RefMap}
 use Rattle.gixp_handshake.specs.declared.handshake.error.Error.{Error as HandshakeError}
 use Rattle.gixp_handshake.specs.declared.handshake.read.Handshake.{Handshake}
-use Rattle.gixp_handshake.specs.Shake.{CredentialCall, CompletesHandshake}
+use Rattle.gixp_handshake.specs.WithoutAccount.{GreetsWithoutAccount}
 use Rattle.gixp_handshake.specs.Taken.{without_refs}
 use Rattle.gixp_handshake.specs.Obtain.{IsWithoutRefs, Obtains}
 use Rattle.gixp_fetch.specs.declared.error.Error.{Error as FetchError}
@@ -33,17 +32,6 @@ use Rattle.gixp_planner.specs.Text.{mapped_shown}
 -- the agent of the planner
 abbrev pub planner_agent : FeatureValue
 planner_agent = record { name = codes "agent"; value = Some (codes "git/gixp-plan") }
-
--- the credential helper had no account
-abbrev pub AreUnanswered : List CredentialCall → Type 0
-AreUnanswered [] = ⊤
-AreUnanswered (t ∷ ts) = (t.answer ≡ Ok None) × AreUnanswered ts
-
--- a handshake without an account
-pub record GreetsWithoutAccount (plain : Bool) (old new : Reading) (r : Result Handshake HandshakeError) : Type 0 where
-  pub turns : List CredentialCall
-  pub unanswered : AreUnanswered turns
-  pub shakes : CompletesHandshake UploadPack [] plain old new turns r
 
 -- the ref map, with a request for the refspecs' prefixes
 abbrev pub MapsRefs : Context → Handshake → Bool → Reading → Reading → Result RefMap MapError → Type 0
@@ -61,7 +49,7 @@ planner_call h = record {
   agent = planner_agent;
   more = [];
   tags = tags.None;
-  wishes = record { shallow = no_change; told = update_items h.v1_shallow_updates; reject = false };
+  fetch_options = record { shallow = no_change; reported = update_items h.v1_shallow_updates; reject = false };
 }
 
 -- a fetch of the planner
@@ -131,9 +119,9 @@ module _ {A X : Type 0} (Receives : RefMap → Handshake → Reading → Reading
     unmapped : (h : Handshake) (mid : Reading) (e : MapError) → GreetsWithoutAccount plain old mid (Ok h)
         → MapsRefs context h plain mid new (Err e) → mapped ≡ None
         → ended ≡ Err (refusal (codes "refs") (map_name e)) → Runs new mapped ended
-    fetched : (h : Handshake) (mid behind : Reading) (m : RefMap) (r : Result (Option Outcome) (FetchError A X))
-        → GreetsWithoutAccount plain old mid (Ok h) → MapsRefs context h plain mid behind (Ok m)
-        → Receives m (without_refs h) behind new r → mapped ≡ Some m → ended ≡ end_of r → Runs new mapped ended
+    fetched : (h : Handshake) (mid following : Reading) (m : RefMap) (r : Result (Option Outcome) (FetchError A X))
+        → GreetsWithoutAccount plain old mid (Ok h) → MapsRefs context h plain mid following (Ok m)
+        → Receives m (without_refs h) following new r → mapped ≡ Some m → ended ≡ end_of r → Runs new mapped ended
 
   -- a session whose ref map has this text
   pub record RunsPrinted (new : Reading) (text : List ℕ) (ended : Result Bool PlanRefusal) : Type 0 where

@@ -6,10 +6,10 @@ use Rattle.gixp_packetline.specs.Pieces.{Pieces}
 use Rattle.gixp_packetline.specs.Lines.{lines_of}
 use Rattle.gixp_packetline.specs.Reading.{Reading}
 use Rattle.gixp_capabilities.specs.Capabilities.{CapabilityValue}
-use Rattle.gixp_wire.specs.declared.bodies.Body.{Body}
-use Rattle.gixp_wire.specs.declared.bodies.Bodies.{Bodies}
-use Rattle.gixp_wire.specs.Bodies.{answer_of, bodies_reading, IsNewBodies}
-use Rattle.gixp_wire.specs.Transport.{first_answer, later_answers, answer_pieces}
+use Rattle.gixp_transport.specs.declared.bodies.Body.{Body}
+use Rattle.gixp_transport.specs.declared.bodies.Bodies.{Bodies}
+use Rattle.gixp_transport.specs.Bodies.{answer_of, bodies_reading, IsNewBodies}
+use Rattle.gixp_transport.specs.Transport.{first_answer, later_answers, answer_pieces}
 use Rattle.gixp_refs.specs.Ref.{RefValue}
 use Rattle.gixp_refs.specs.RefLine.{RefsRefusal}
 use Rattle.gixp_refs.specs.Refs.{v2_refs}
@@ -27,7 +27,8 @@ use Rattle.gixp_handshake.specs.declared.handshake.read.Handshake.{Handshake}
 use Rattle.gixp_handshake.specs.Obtain.{prefixes_if}
 use Rattle.gixp_planner.specs.Refusal.{map_name}
 use Rattle.gixp_planner.specs.Specs.{specs_of, IsContext}
-use Rattle.gixp_planner.specs.Session.{planner_agent, GreetsWithoutAccount, MapsRefs}
+use Rattle.gixp_handshake.specs.WithoutAccount.{GreetsWithoutAccount}
+use Rattle.gixp_planner.specs.Session.{planner_agent, MapsRefs}
 use Rattle.gixp_planner.specs.Discovered.{Discovery, discovery, first_pieces}
 
 -- the requests for refs, and the refs, or the name of the error
@@ -68,7 +69,7 @@ by_arrival None l version answer = by_offer (listing_refusal l) l version answer
 
 -- the refs of the handshake, or those of this answer
 abbrev pub sought : Discovery → List Spec → Pieces → Sought
-sought said specs answer = by_arrival said.refs (list_for said.capabilities specs) said.version answer
+sought advertised specs answer = by_arrival advertised.refs (list_for advertised.capabilities specs) advertised.version answer
 
 -- refspecs in conflict are an error
 abbrev pub by_conflicts : List Conflict → Option (List ℕ)
@@ -110,12 +111,12 @@ pub record MapsOver (bodies : List Body) (words : List (List ℕ)) (sent : List 
 
 -- the outcome of the ref map of these bodies and refspecs
 pub record Plans (bodies : List Body) (words : List (List ℕ)) (sent : List (List ℕ)) (r : Result RefMap MapError) : Type 0 where
-  pub said : Discovery
+  pub advertised : Discovery
   pub specs : List Spec
-  pub discovered : discovery [] (first_pieces bodies) ≡ Ok said
+  pub discovered : discovery [] (first_pieces bodies) ≡ Ok advertised
   pub read : specs_of words ≡ Ok specs
-  pub ends : IsSought (map_refusal said.capabilities specs (sought said specs (second_pieces bodies)).refs)
-      (sought said specs (second_pieces bodies)).requests sent r
+  pub ends : IsSought (map_refusal advertised.capabilities specs (sought advertised specs (second_pieces bodies)).refs)
+      (sought advertised specs (second_pieces bodies)).requests sent r
 
 -- whether there is a ref map, its error, and the requests for it follow from the bodies and the refspecs, except for allocation failures
 abbrev pub RefMapsFollow : Type 0

@@ -15,7 +15,7 @@ use Rattle.gixp_matching.specs.Validate.{removed_of}
 use Rattle.gixp_refmap.specs.declared.refmap.mapping.Mapping.{Mapping}
 use Rattle.gixp_refmap.specs.declared.refmap.map.RefMap.{RefMap}
 use Rattle.gixp_refmap.specs.Mapping.{source_id, source_name}
-use Rattle.gixp_text.specs.Pieces.{joined}
+use Rattle.gixp_utils.specs.Pieces.{joined}
 use Rattle.gixp_refmap.specs.MappingNames.{name_or_dash}
 use Rattle.gixp_planner.specs.declared.error.PlanError.{PlanError}
 use Rattle.gixp_planner.specs.Refusal.{PlanRefusal, refusal_of}

@@ -2,11 +2,11 @@
 //! a client would send to a server and what it would map.
 mod argv;
 mod failure;
-mod session;
+mod plan;
 
 use crate::command::argv::{plan_args, refs_file};
 use crate::command::failure::{Failure, status_of};
-use crate::command::session::{spec_texts, write_plan};
+use crate::command::plan::{spec_texts, write_plan};
 use crate::error::PlanError;
 use crate::listing::list_refs;
 use crate::recording::{read_bodies, read_haves};

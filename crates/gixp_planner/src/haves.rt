@@ -3,7 +3,7 @@ ghost use Rattle.gixp_planner.specs.Haves.{ReadsHaves};
 
 use crate::error::PlanError;
 use gix_protocol::transport::ObjectId;
-use gixp_text::text_lines;
+use gixp_utils::text_lines;
 use std::alloc::Global;
 
 /// The ids of a text, one on each line, in their order, repeats included. The last line may lack its LF.

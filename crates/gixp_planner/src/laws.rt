@@ -1,7 +1,7 @@
 //! Laws of the definitions that contracts cite. The functions do nothing. A caller that needs a law calls its function.
 ghost use Rattle.std.specs.Prelude.{◌≡◌, ℕ, true, List};
 ghost use Rattle.gixp_fetch.specs.Fetch.{parties_of};
-ghost use Rattle.gixp_wire.specs.declared.bodies.Body.{Body};
+ghost use Rattle.gixp_transport.specs.declared.bodies.Body.{Body};
 ghost use Rattle.gixp_hash.specs.declared.object_id.ObjectId.{ObjectId};
 ghost use Rattle.gixp_graph.specs.GraphData.{GraphValue};
 ghost use Rattle.gixp_planner.specs.Discovered.{GreetingsFollow};
@@ -48,7 +48,7 @@ pub fn texts_follow_bodies<'a, O: Objects + 'a, G: Objects + 'a>()
         → O.contents objects ≡ O.contents others → graph.graph.objects ≡ another.graph.objects
         → Follow
         (parties_of ⟦<Negotiation<'a, O, NoRefs, HaveList, G, AllocError> as Negotiate>⟧.calls ⟦<ShallowMemory as ShallowStore>⟧.calls
-        ⟦<NeverInterrupt as Interrupt>⟧.says ⟦<ReadToEnd as ConsumePack<Discard>>⟧.consumes true)
+        ⟦<NeverInterrupt as Interrupt>⟧.polls ⟦<ReadToEnd as ConsumePack<Discard>>⟧.consumes true)
         (NegotiatesOver objects graph haves)
         (NegotiatesOver others another haves)
         IsEmptyBoundary
@@ -66,7 +66,7 @@ pub fn courses_follow_bodies<'a, O: Objects + 'a, G: Objects + 'a>()
         → O.contents objects ≡ O.contents others → graph.graph.objects ≡ another.graph.objects
         → CoursesFollow
         (parties_of ⟦<Negotiation<'a, O, NoRefs, HaveList, G, AllocError> as Negotiate>⟧.calls ⟦<ShallowMemory as ShallowStore>⟧.calls
-        ⟦<NeverInterrupt as Interrupt>⟧.says ⟦<ReadToEnd as ConsumePack<Discard>>⟧.consumes true)
+        ⟦<NeverInterrupt as Interrupt>⟧.polls ⟦<ReadToEnd as ConsumePack<Discard>>⟧.consumes true)
         (NegotiatesOver objects graph haves)
         (NegotiatesOver others another haves)
         IsEmptyBoundary

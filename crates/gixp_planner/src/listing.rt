@@ -13,7 +13,7 @@ mod ref_lines;
 use crate::listing::ref_lines::print_ref;
 use gixp_packetline::{ExtendedBufRead, LineReader};
 use gixp_refs::handshake::refs::{parse, parse_v2, written_text};
-use gixp_text::append;
+use gixp_utils::append;
 use std::alloc::{AllocError, Global};
 use std::io;
 use std::io::{ErrorKind, Read, Write};

@@ -2,7 +2,7 @@
 ghost use Rattle.std.specs.Prelude.{◌≡◌, ◌||◌, [], false, true, codes, drop, length, IfErr, IfOk, IsOk, OnErr};
 ghost use Rattle.gixp_requests.specs.Arguments.{can_use};
 ghost use Rattle.gixp_negotiate.specs.declared.negotiate.Error.TheVariants.{Memory};
-ghost use Rattle.gixp_negotiate.specs.Wants.{wishes, AddsWants, AddsSomeWants};
+ghost use Rattle.gixp_negotiate.specs.Wants.{request_lines, AddsWants, AddsSomeWants};
 ghost use Rattle.gixp_planner.specs.Printed.{left_of, taken_text};
 
 use crate::printed::PrintedMap;
@@ -97,10 +97,10 @@ fn add_parts<O: Objects>(
     known: &[bool],
 ) -> Result<bool, Error<AllocError>>
     ensures added { IfOk result (λ any. AddsWants
-        (wishes (λ _. false) (O.contents objects.now) (can_use (codes "ref-in-want") arguments.old) true (left_of printed.old) known.now)
+        (request_lines (λ _. false) (O.contents objects.now) (can_use (codes "ref-in-want") arguments.old) true (left_of printed.old) known.now)
         any arguments.old arguments.new) }
     ensures refused { OnErr result (AddsSomeWants
-        (wishes (λ _. false) (O.contents objects.now) (can_use (codes "ref-in-want") arguments.old) true (left_of printed.old) known.now)
+        (request_lines (λ _. false) (O.contents objects.now) (can_use (codes "ref-in-want") arguments.old) true (left_of printed.old) known.now)
         arguments.old arguments.new) }
     ensures failed { IfErr result (λ e. e ≡ Memory) }
     ensures text { taken_text printed.new ≡ taken_text printed.old }

@@ -89,7 +89,7 @@ pub fn plan<'a, O: Objects, G: Objects, N: Negotiator, W: Write>(
     ensures text { PlannedText
         (λ m h old new r. FetchesMapped
         (parties_of ⟦<Negotiation<'a, O, NoRefs, N, G, AllocError> as Negotiate>⟧.calls ⟦<ShallowMemory as ShallowStore>⟧.calls
-        ⟦<NeverInterrupt as Interrupt>⟧.says ⟦<ReadToEnd as ConsumePack<Discard>>⟧.consumes true)
+        ⟦<NeverInterrupt as Interrupt>⟧.polls ⟦<ReadToEnd as ConsumePack<Discard>>⟧.consumes true)
         (NegotiatesOver objects.now graph.old negotiator.old m)
         IsEmptyBoundary h old new r)
         bodies.items (map bstring_bytes specs.now) (W.contents writer.old) (W.contents writer.new) result }

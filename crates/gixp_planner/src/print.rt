@@ -15,7 +15,7 @@ use gix_protocol::fetch::refmap::Mapping;
 use gix_protocol::refspec::match_group::validate::Fix;
 use gixp_packetline::{MessageKind, PacketLine, split_packet_line};
 use gixp_refmap::mapping_names::{local_name, remote_name};
-use gixp_text::{append, without_line_end};
+use gixp_utils::{append, without_line_end};
 use std::alloc::{AllocError, Global};
 use std::io;
 use std::io::Write;

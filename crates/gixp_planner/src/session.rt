@@ -3,7 +3,7 @@ ghost use Rattle.std.specs.Prelude.{◌≡◌, true, false, Some, None, Ok, IfOk
 ghost use Rattle.gixp_fetch.specs.Fetch.{parties_of};
 ghost use Rattle.gixp_requests.specs.Feature.{feature_value};
 ghost use Rattle.gixp_handshake.specs.Taken.{without_refs};
-ghost use Rattle.gixp_planner.specs.Session.{planner_agent, GreetsWithoutAccount, MapsRefs, CarriesOn, FetchesMapped, RunsPrinted, end_of, NegotiatesOver, IsEmptyBoundary};
+ghost use Rattle.gixp_planner.specs.Session.{planner_agent, MapsRefs, CarriesOn, FetchesMapped, RunsPrinted, end_of, NegotiatesOver, IsEmptyBoundary};
 ghost use Rattle.gixp_planner.specs.Printed.{printed_text, mapped_text};
 ghost use Rattle.gixp_planner.specs.Text.{ended_of, map_shown};
 
@@ -12,16 +12,16 @@ use crate::names::{fetch_variant, handshake_variant, refs_variant};
 use crate::negotiation::PrintingNegotiation;
 use crate::printed::PrintedMap;
 use gix_protocol::command::{CommandTable, Feature};
-use gix_protocol::credentials::{self, Action};
 use gix_protocol::fetch::negotiate::{Graph, Negotiate, Negotiation, Negotiator, NoRefs, Objects};
 use gix_protocol::fetch::refmap::init;
 use gix_protocol::fetch::{
     self, ConsumePack, CopyError, Outcome, ReadToEnd, RefMap, Shallow, ShallowMemory, ShallowStore,
     Tags,
 };
-use gix_protocol::handshake::{self, obtain_mappings};
-use gix_protocol::transport::{Discard, Interrupt, NeverInterrupt, Service, Transport};
+use gix_protocol::handshake::obtain_mappings;
+use gix_protocol::transport::{Discard, Interrupt, NeverInterrupt, Transport};
 use gix_protocol::{Handshake, agent_feature};
+use gixp_handshake::handshake::handshake_without_account;
 use std::alloc::{AllocError, Global};
 
 /// The outcome of a session.
@@ -37,23 +37,6 @@ fn planner_feature(alloc: Global) -> Result<Feature, AllocError>
     ensures { IfOk result (λ f. feature_value f ≡ planner_agent) }
 {
     agent_feature(alloc, "git/gixp-plan")
-}
-
-// Performs a handshake without an account.
-fn greet<T: Transport>(alloc: Global, transport: &mut T) -> Result<Handshake, handshake::Error>
-    ensures { GreetsWithoutAccount T.is_plain (T.reading transport.old) (T.reading transport.new) result }
-{
-    let mut quiet = Discard;
-    handshake::handshake(
-        alloc,
-        transport,
-        Service::UploadPack,
-        |_: Action| -> Result<Option<credentials::Outcome>, credentials::Error>
-            ensures { result ≡ Ok None }
-        { Ok(None) },
-        Vec::new(alloc),
-        &mut quiet,
-    )
 }
 
 // Requests the refs by the refspecs' prefixes, and makes the ref map. Its mappings have the refs, and no other ref is kept.
@@ -87,7 +70,7 @@ fn fetch_over<N: Negotiate, T: Transport>(
     requires agent { feature_value agent ≡ planner_agent }
     requires stays { shallow.now ≡ Shallow.NoChange }
     ensures { CarriesOn
-        (parties_of N.calls ⟦<ShallowMemory as ShallowStore>⟧.calls ⟦<NeverInterrupt as Interrupt>⟧.says
+        (parties_of N.calls ⟦<ShallowMemory as ShallowStore>⟧.calls ⟦<NeverInterrupt as Interrupt>⟧.polls
         ⟦<ReadToEnd as ConsumePack<Discard>>⟧.consumes T.is_plain)
         handshake.old negotiation.old (T.reading transport.old) boundary.old result negotiation.new (T.reading transport.new) boundary.new }
 {
@@ -132,7 +115,7 @@ fn fetch_mapped<'a, O: Objects, G: Objects, N: Negotiator, T: Transport>(
 )
     ensures { (printed_text result.0 ≡ map_shown map) × FetchesMapped
         (parties_of ⟦<Negotiation<'a, O, NoRefs, N, G, AllocError> as Negotiate>⟧.calls ⟦<ShallowMemory as ShallowStore>⟧.calls
-        ⟦<NeverInterrupt as Interrupt>⟧.says ⟦<ReadToEnd as ConsumePack<Discard>>⟧.consumes T.is_plain)
+        ⟦<NeverInterrupt as Interrupt>⟧.polls ⟦<ReadToEnd as ConsumePack<Discard>>⟧.consumes T.is_plain)
         (NegotiatesOver objects.now graph.old negotiator.old map)
         IsEmptyBoundary handshake.old (T.reading transport.old) (T.reading transport.new) result.1 }
 {
@@ -192,12 +175,12 @@ pub(crate) fn run<'a, O: Objects, G: Objects, N: Negotiator, T: Transport>(
     ensures { RunsPrinted
         (λ m h old new r. FetchesMapped
         (parties_of ⟦<Negotiation<'a, O, NoRefs, N, G, AllocError> as Negotiate>⟧.calls ⟦<ShallowMemory as ShallowStore>⟧.calls
-        ⟦<NeverInterrupt as Interrupt>⟧.says ⟦<ReadToEnd as ConsumePack<Discard>>⟧.consumes T.is_plain)
+        ⟦<NeverInterrupt as Interrupt>⟧.polls ⟦<ReadToEnd as ConsumePack<Discard>>⟧.consumes T.is_plain)
         (NegotiatesOver objects.now graph.old negotiator.old m)
         IsEmptyBoundary h old new r)
         context T.is_plain (T.reading transport.old) (T.reading transport.new) (mapped_text result.mapped) (ended_of result.ended) }
 {
-    let mut handshake = match greet(alloc, transport) {
+    let mut handshake = match handshake_without_account(alloc, transport) {
         Ok(handshake) => handshake,
         Err(e) => return unmapped(PlanError::new("handshake", handshake_variant(&e))),
     };

@@ -3,7 +3,7 @@ use Rattle.std.proofs.Common.{◌≡◌, ℕ, ◌+◌, Bool, true, false, cond, 
 use Rattle.std.specs.Prelude.{not, suc}
 use Rattle.std.specs.List.{list_all, prefix_len, position_or_len}
 use Rattle.std.proofs.lemmas.Bool.{and_parts, false≢true}
-use Rattle.gixp_progress.specs.Numbers.{is_digit, is_other, from_digit, first_run, behind_run}
+use Rattle.gixp_progress.specs.Numbers.{is_digit, is_other, from_digit, first_run, after_run}
 use Rattle.gixp_progress.specs.Laws.{begins_with, is_found, RunIsFirst, RunIsOnly}
 
 not_not : (b : Bool) → not (not b) ≡ b
@@ -68,23 +68,23 @@ found_at (d ∷ text) h =
 run_at : (rest : List ℕ) → take (position_or_len is_other rest) rest ≡ take (prefix_len is_digit rest) rest
 run_at rest = ap (λ test. take (prefix_len test rest) rest) same_test
 
-behind_at : (rest : List ℕ) → drop (position_or_len is_other rest) rest ≡ drop (prefix_len is_digit rest) rest
-behind_at rest = ap (λ test. drop (prefix_len test rest) rest) same_test
+following_at : (rest : List ℕ) → drop (position_or_len is_other rest) rest ≡ drop (prefix_len is_digit rest) rest
+following_at rest = ap (λ test. drop (prefix_len test rest) rest) same_test
 
 pub run_is_first : RunIsFirst
 run_is_first text =
     let rest = from_digit text in
     let n = position_or_len is_other rest in
     let run = run_at rest in
-    let behind = behind_at rest in (
+    let following = following_at rest in (
       take (position_or_len is_digit text) text,
       record {
         parts = sym (take-append-drop (position_or_len is_digit text) text)
             ∙ ap (λ l. take (position_or_len is_digit text) text ++ l) (sym (take-append-drop n rest));
         without = front_passes is_other text;
         digits = ap (list_all is_digit) run ∙ front_passes is_digit rest;
-        longest = ap (begins_with is_digit) behind ∙ back_fails is_digit rest;
-        found = ap (λ l. is_found l (drop n rest)) run ∙ ap (is_found (take (prefix_len is_digit rest) rest)) behind
+        longest = ap (begins_with is_digit) following ∙ back_fails is_digit rest;
+        found = ap (λ l. is_found l (drop n rest)) run ∙ ap (is_found (take (prefix_len is_digit rest) rest)) following
             ∙ found_at rest (back_fails is_other text);
       },
     )
@@ -106,6 +106,6 @@ run_is_only text before run rest h =
     ∙ front_is is_digit run rest h.digits h.longest in
     let here : first_run text ≡ run = ap (λ l. take (position_or_len is_other l) l) from ∙ ap (λ n. take n (run ++ rest)) count
     ∙ take_front run rest in
-    let there : behind_run text ≡ rest = ap (λ l. drop (position_or_len is_other l) l) from ∙ ap (λ n. drop n (run ++ rest)) count
+    let there : after_run text ≡ rest = ap (λ l. drop (position_or_len is_other l) l) from ∙ ap (λ n. drop n (run ++ rest)) count
     ∙ drop_front run rest in
     (sym here, sym there)

@@ -1,7 +1,7 @@
 -- Theorems about the numbers of a progress line.
 use Rattle.std.specs.Prelude.{ℕ, ◌≡◌, ◌+◌, ◌*◌, ◌^◌, Bool, true, false, List, [], ◌∷◌, ◌++◌, length}
 use Rattle.std.specs.List.{list_all}
-use Rattle.gixp_progress.specs.Numbers.{is_digit, is_other, first_run, behind_run, number_after}
+use Rattle.gixp_progress.specs.Numbers.{is_digit, is_other, first_run, after_run, number_after}
 
 -- whether the first byte of a text passes the test
 abbrev pub begins_with : (ℕ → Bool) → List ℕ → Bool
@@ -24,11 +24,11 @@ pub record IsFirstRun (text before run rest : List ℕ) : Type 0 where
 
 -- each text has a first run
 abbrev pub RunIsFirst : Type 0
-RunIsFirst = (text : List ℕ) → (before : List ℕ) × IsFirstRun text before (first_run text) (behind_run text)
+RunIsFirst = (text : List ℕ) → (before : List ℕ) × IsFirstRun text before (first_run text) (after_run text)
 
 -- each text has only one first run
 abbrev pub RunIsOnly : Type 0
-RunIsOnly = (text before run rest : List ℕ) → IsFirstRun text before run rest → (run ≡ first_run text) × (rest ≡ behind_run text)
+RunIsOnly = (text before run rest : List ℕ) → IsFirstRun text before run rest → (run ≡ first_run text) × (rest ≡ after_run text)
 
 -- digits write a decimal number
 abbrev pub NumberByPlaces : Type 0

@@ -17,8 +17,8 @@ from_digit text = drop (position_or_len is_digit text) text
 abbrev pub first_run : List ℕ → List ℕ
 first_run text = before_first is_other (from_digit text)
 
-abbrev pub behind_run : List ℕ → List ℕ
-behind_run text = drop (position_or_len is_other (from_digit text)) (from_digit text)
+abbrev pub after_run : List ℕ → List ℕ
+after_run text = drop (position_or_len is_other (from_digit text)) (from_digit text)
 
 -- the number that these digits write after those of n
 abbrev pub number_after : ℕ → List ℕ → ℕ
@@ -51,15 +51,15 @@ abbrev pub is_percentage : List ℕ → Bool
 is_percentage rest = starts_with nat_eq rest (codes "%")
 
 -- the first run of this text is the step, the next one the maximum
-abbrev pub dealt_behind : Option ℕ → List ℕ → Numbers
-dealt_behind percent text = record { percent = percent; step = number_in (first_run text); max = number_in (first_run (behind_run text)) }
+abbrev pub dealt_after : Option ℕ → List ℕ → Numbers
+dealt_after percent text = record { percent = percent; step = number_in (first_run text); max = number_in (first_run (after_run text)) }
 
 -- the first run is the percentage if a percent sign follows; a first run that exceeds 64 bits is skipped
 abbrev pub dealt_by : Option ℕ → List ℕ → Numbers
-dealt_by None text = dealt_behind None (behind_run text)
+dealt_by None text = dealt_after None (after_run text)
 dealt_by (Some n) text =
-    if is_percentage (behind_run text) then dealt_behind (small (number_in (first_run text))) (behind_run text)
-    else dealt_behind None text
+    if is_percentage (after_run text) then dealt_after (small (number_in (first_run text))) (after_run text)
+    else dealt_after None text
 
 -- the numbers of the text after the colon
 abbrev pub dealt : List ℕ → Numbers

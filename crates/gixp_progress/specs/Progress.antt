@@ -10,6 +10,6 @@ pub data ProgressCall : Type 0 where
   fail : List ℕ → ProgressCall
 
 -- exactly these calls were made, in this order
-abbrev pub ToldCalls : {P : Type 0} → (P → ProgressCall → P → Type 0) → P → List ProgressCall → P → Type 0
-ToldCalls told old [] new = new ≡ old
-ToldCalls {P} told old (c ∷ cs) new = (now : P) × told old c now × ToldCalls told now cs new
+abbrev pub ReportedCalls : {P : Type 0} → (P → ProgressCall → P → Type 0) → P → List ProgressCall → P → Type 0
+ReportedCalls reported old [] new = new ≡ old
+ReportedCalls {P} reported old (c ∷ cs) new = (now : P) × reported old c now × ReportedCalls reported now cs new

@@ -9,7 +9,7 @@ use std::alloc::AllocError;
 pub struct Discard;
 
 impl Progress for Discard {
-    ghost told = { λ _ _ _. ⊤ };
+    ghost reported = { λ _ _ _. ⊤ };
 
     ghost name_of = { λ _. None };
 

@@ -1,7 +1,7 @@
 //! The numbers of a progress line.
 ghost use Rattle.std.specs.Prelude.{◌≡◌, ◌≤◌, length};
 ghost use Rattle.std.specs.List.{position, position_or_len};
-ghost use Rattle.gixp_progress.specs.Numbers.{is_digit, is_other, from_digit, first_run, behind_run, with_digit, fit_number, number_in, small, is_percentage, dealt_behind, dealt};
+ghost use Rattle.gixp_progress.specs.Numbers.{is_digit, is_other, from_digit, first_run, after_run, with_digit, fit_number, number_in, small, is_percentage, dealt_after, dealt};
 
 /// The numbers of a progress line.
 #[derive(Clone, Copy)]
@@ -69,8 +69,8 @@ fn first_run(text: &[u8]) -> &[u8]
 }
 
 // The text after the first run of digits.
-fn behind_run(text: &[u8]) -> &[u8]
-    ensures { result.now ≡ behind_run text.now }
+fn after_run(text: &[u8]) -> &[u8]
+    ensures { result.now ≡ after_run text.now }
 {
     let rest = from_digit(text);
     &rest[other_at(rest)..]
@@ -134,13 +134,13 @@ fn is_percentage(rest: &[u8]) -> bool
 }
 
 // The first run of this text is the step, the next one the maximum.
-fn dealt_behind(percent: Option<u32>, text: &[u8]) -> Numbers
-    ensures { result ≡ dealt_behind percent text.now }
+fn dealt_after(percent: Option<u32>, text: &[u8]) -> Numbers
+    ensures { result ≡ dealt_after percent text.now }
 {
     Numbers {
         percent,
         step: number_in(first_run(text)),
-        max: number_in(first_run(behind_run(text))),
+        max: number_in(first_run(after_run(text))),
     }
 }
 
@@ -149,14 +149,14 @@ pub(crate) fn dealt(text: &[u8]) -> Numbers
     ensures { result ≡ dealt text.now }
 {
     let run = first_run(text);
-    let rest = behind_run(text);
+    let rest = after_run(text);
     match fit_number(run) {
-        None => dealt_behind(None, rest),
+        None => dealt_after(None, rest),
         Some(_) => {
             if is_percentage(rest) {
-                dealt_behind(small(number_in(run)), rest)
+                dealt_after(small(number_in(run)), rest)
             } else {
-                dealt_behind(None, text)
+                dealt_after(None, text)
             }
         }
     }

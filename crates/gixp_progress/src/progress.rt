@@ -10,26 +10,26 @@ use std::alloc::AllocError;
 /// A reporter may do anything with its calls. Its contract describes each call as one relation of the states before and after it.
 pub trait Progress {
     /// The effect of a call.
-    ghost told: { Self → ProgressCall → Self → Type 0 };
+    ghost reported: { Self → ProgressCall → Self → Type 0 };
 
     /// The current name.
     ghost name_of: { Self → Option (List ℕ) };
 
     /// Starts a new count. `max` is the number of steps to come, if it is known, in this unit.
     fn init(&mut self, max: Option<usize>, unit: &'static str)
-        ensures { told self.old (init max unit.now) self.new };
+        ensures { reported self.old (init max unit.now) self.new };
 
     /// Reports one more step.
     fn step(&mut self)
-        ensures { told self.old step self.new };
+        ensures { reported self.old step self.new };
 
     /// Reports that this many steps are done.
     fn set(&mut self, step: usize)
-        ensures { told self.old (set step) self.new };
+        ensures { reported self.old (set step) self.new };
 
     /// Sets the name: what is being done now.
     fn set_name(&mut self, name: String)
-        ensures { told self.old (set_name (string_bytes name)) self.new };
+        ensures { reported self.old (set_name (string_bytes name)) self.new };
 
     /// The current name, if there is one.
     fn name(&self) -> Option<&str>
@@ -37,7 +37,7 @@ pub trait Progress {
 
     /// Reports a failure with this message.
     fn fail(&mut self, message: String)
-        ensures { told self.old (fail (string_bytes message)) self.new };
+        ensures { reported self.old (fail (string_bytes message)) self.new };
 }
 
 /// A progress reporter with parts, each of which reports on its own.

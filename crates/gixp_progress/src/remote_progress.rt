@@ -43,7 +43,7 @@ fn action_in(line: &[u8]) -> &[u8]
 }
 
 // The text after the first colon.
-fn behind_colon(line: &[u8]) -> &[u8]
+fn after_colon(line: &[u8]) -> &[u8]
     ensures { result.now ≡ after_first is_colon line.now }
 {
     let at = colon_at(line);
@@ -91,6 +91,6 @@ impl<'a> RemoteProgress<'a> {
         if action.is_empty() {
             return None;
         }
-        with_numbers(action, dealt(behind_colon(line)))
+        with_numbers(action, dealt(after_colon(line)))
     }
 }

@@ -3,7 +3,7 @@ ghost use Rattle.std.specs.Prelude.{◌≡◌, [], ◌∷◌, ◌++◌, IfOk, On
 ghost use Rattle.std.specs.List.{before_first};
 ghost use Rattle.std.specs.Str.Lossy.{utf8_lossy};
 ghost use Rattle.bstr.specs.BStr.{bstr_bytes};
-ghost use Rattle.gixp_progress.specs.Progress.{ToldCalls, init, set_name};
+ghost use Rattle.gixp_progress.specs.Progress.{ReportedCalls, init, set_name};
 ghost use Rattle.gixp_progress.specs.Line.{is_colon};
 ghost use Rattle.gixp_progress.specs.Translation.{name_for, error_calls, set_calls, calls_for};
 
@@ -44,7 +44,7 @@ fn name_for<P: Progress>(alloc: Global, progress: &P, text: &[u8]) -> Result<Str
 
 // Reports an error text of the server, unless it is empty.
 fn report_error<P: Progress>(alloc: Global, text: &[u8], progress: &mut P) -> Result<(), AllocError>
-    ensures ok { OnOk result (ToldCalls P.told progress.old (error_calls text.now) progress.new) }
+    ensures ok { OnOk result (ReportedCalls P.reported progress.old (error_calls text.now) progress.new) }
     ensures err { OnErr result (progress.new ≡ progress.old) }
 {
     if text.is_empty() {
@@ -56,7 +56,7 @@ fn report_error<P: Progress>(alloc: Global, text: &[u8], progress: &mut P) -> Re
 }
 
 fn set_step<P: Progress>(progress: &mut P, step: Option<usize>)
-    ensures { ToldCalls P.told progress.old (set_calls step) progress.new }
+    ensures { ReportedCalls P.reported progress.old (set_calls step) progress.new }
 {
     if let Some(step) = step {
         progress.set(step);
@@ -68,7 +68,7 @@ fn show_line<P: Progress>(
     line: RemoteProgress<'_>,
     progress: &mut P,
 ) -> Result<(), AllocError>
-    ensures ok { OnOk result (ToldCalls P.told progress.old
+    ensures ok { OnOk result (ReportedCalls P.reported progress.old
         (set_name (name_for (P.name_of progress.old) (bstr_bytes line.entry.action)) ∷ init line.entry.max (codes "objects")
         ∷ set_calls line.entry.step) progress.new) }
     ensures err { OnErr result (progress.new ≡ progress.old) }
@@ -82,7 +82,7 @@ fn show_line<P: Progress>(
 
 // Shows any other text as a name.
 fn show_text<P: Progress>(alloc: Global, text: &[u8], progress: &mut P) -> Result<(), AllocError>
-    ensures ok { OnOk result (ToldCalls P.told progress.old (set_name (name_for (P.name_of progress.old) text.now) ∷ []) progress.new) }
+    ensures ok { OnOk result (ReportedCalls P.reported progress.old (set_name (name_for (P.name_of progress.old) text.now) ∷ []) progress.new) }
     ensures err { OnErr result (progress.new ≡ progress.old) }
 {
     let name = name_for(alloc, progress, text)?;
@@ -108,7 +108,7 @@ impl RemoteProgress<'_> {
         text: &[u8],
         progress: &mut P,
     ) -> Result<(), AllocError>
-        ensures ok { OnOk result (ToldCalls P.told progress.old (calls_for is_error text.now (P.name_of progress.old)) progress.new) }
+        ensures ok { OnOk result (ReportedCalls P.reported progress.old (calls_for is_error text.now (P.name_of progress.old)) progress.new) }
         ensures err { OnErr result (progress.new ≡ progress.old) }
     {
         if is_error {

@@ -23,14 +23,14 @@ pub among_keys : (eq : BString → BString → Bool) → ((a b : BString) → eq
 among_keys eq same [] key = refl
 among_keys eq same (k ∷ ks) key = rw (same key k, turned (bstring_bytes key) (bstring_bytes k), among_keys eq same ks key) refl
 
-kept_or_behind : (b : Bool) (keys : List BString) (key : BString)
+kept_or_after : (b : Bool) (keys : List BString) (key : BString)
     → map bstring_bytes (if b then keys else keys ++ key ∷ [])
     ≡ (if b then map bstring_bytes keys else map bstring_bytes keys ++ bstring_bytes key ∷ [])
-kept_or_behind true keys key = refl
-kept_or_behind false keys key = map-append bstring_bytes keys (key ∷ [])
+kept_or_after true keys key = refl
+kept_or_after false keys key = map-append bstring_bytes keys (key ∷ [])
 
 -- the texts after an insertion
 pub inserted_text : (eq : BString → BString → Bool) → ((a b : BString) → eq a b ≡ bytes_eq (bstring_bytes a) (bstring_bytes b))
     → (keys : List BString) (key : BString)
     → map bstring_bytes (insert_key eq keys key) ≡ with_text (map bstring_bytes keys) (bstring_bytes key)
-inserted_text eq same keys key = kept_or_behind (list_any (eq key) keys) keys key ∙ rw (among_keys eq same keys key) refl
+inserted_text eq same keys key = kept_or_after (list_any (eq key) keys) keys key ∙ rw (among_keys eq same keys key) refl

@@ -57,22 +57,22 @@ made_of_whole refs front back specs p x e h =
     }
 
 -- the refs that leave the list with the ref of a place
-pub refs_behind : Option ℕ → List Ref → List Ref
-refs_behind None refs = []
-refs_behind (Some i) refs = drop i refs
+pub refs_following : Option ℕ → List Ref → List Ref
+refs_following None refs = []
+refs_following (Some i) refs = drop i refs
 
 -- the refs that stay and those that leave
-stay_and_leave : (item : Option ℕ) (refs gone : List Ref) → refs ++ gone ≡ refs_before item refs ++ (refs_behind item refs ++ gone)
-unfolding refs_behind
+stay_and_leave : (item : Option ℕ) (refs gone : List Ref) → refs ++ gone ≡ refs_before item refs ++ (refs_following item refs ++ gone)
+unfolding refs_following
 stay_and_leave None refs gone = refl
 stay_and_leave (Some i) refs gone =
     ap (λ rs. rs ++ gone) (sym (take-append-drop i refs)) ∙ append_assoc (take i refs) (drop i refs) gone
 
 -- the refs that stay are the first of all refs
 pub stay_of_all : (item : Option ℕ) (all before after gone : List Ref) → all ≡ before ++ gone → after ≡ refs_before item before
-    → all ≡ after ++ (refs_behind item before ++ gone)
+    → all ≡ after ++ (refs_following item before ++ gone)
 stay_of_all item all before after gone e left =
-    e ∙ stay_and_leave item before gone ∙ ap (λ rs. rs ++ (refs_behind item before ++ gone)) (sym left)
+    e ∙ stay_and_leave item before gone ∙ ap (λ rs. rs ++ (refs_following item before ++ gone)) (sym left)
 
 -- a place that is valid for more refs, and may be taken next, is valid
 pub there_now : (more count : ℕ) (specs : List Spec) (item : Option ℕ) (s : ℕ) (items : List (Option ℕ))

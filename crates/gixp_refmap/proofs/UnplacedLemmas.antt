@@ -256,24 +256,24 @@ maps_of_conflicts specs count refs xs ys error e v h =
     (λ none. v.0 (same ∙ none), v.1 ∙ same)
 
 -- a result for all mappings is a result for the refs
-pub maps_of_unplaced : (specs known told : List Spec) (count : ℕ) (refs : List RefValue) (xs : List Mapping)
-    (r : Result (Vec Mapping Global × Vec Fix Global) Error) → known ≡ specs → told ≡ specs
+pub maps_of_unplaced : (specs known reported : List Spec) (count : ℕ) (refs : List RefValue) (xs : List Mapping)
+    (r : Result (Vec Mapping Global × Vec Fix Global) Error) → known ≡ specs → reported ≡ specs
     → AllZip (IsUnplaced refs) (repeated known (value_names refs)) xs
-    → ((rs : List RefValue) → AllZip (IsUnplaced rs) (repeated told (value_names rs)) xs → Maps told count rs r)
+    → ((rs : List RefValue) → AllZip (IsUnplaced rs) (repeated reported (value_names rs)) xs → Maps reported count rs r)
     → Maps specs count refs r
-maps_of_unplaced specs known told count refs xs r e d made answers =
+maps_of_unplaced specs known reported count refs xs r e d made answers =
     let P : List Spec → Type 0 = λ s. AllZip (IsUnplaced refs) (repeated s (value_names refs)) xs in
     let Q : List Spec → Type 0 = λ s. Maps s count refs r in
     subst Q d (answers refs (subst P (e ∙ sym d) made))
 
 -- a result for mappings from all places is a result for the refs
-pub maps_of_places : (specs known told : List Spec) (count : ℕ) (refs : List RefValue) (ps : List Place) (xs : List Mapping)
-    (r : Result (Vec Mapping Global × Vec Fix Global) Error) → known ≡ specs → told ≡ specs
+pub maps_of_places : (specs known reported : List Spec) (count : ℕ) (refs : List RefValue) (ps : List Place) (xs : List Mapping)
+    (r : Result (Vec Mapping Global × Vec Fix Global) Error) → known ≡ specs → reported ≡ specs
     → map place_value ps ≡ map place_of (repeated known (value_names refs))
     → AllByRecursion (FollowsFromPlace known (value_names refs)) (repeated known (value_names refs))
     → AllZip (IsMade refs known) ps xs
-    → ((rs : List RefValue) → AllZip (IsUnplaced rs) (repeated told (value_names rs)) xs → Maps told count rs r)
+    → ((rs : List RefValue) → AllZip (IsUnplaced rs) (repeated reported (value_names rs)) xs → Maps reported count rs r)
     → Maps specs count refs r
-maps_of_places specs known told count refs ps xs r e d places follows made answers =
-    maps_of_unplaced specs known told count refs xs r e d
+maps_of_places specs known reported count refs ps xs r e d places follows made answers =
+    maps_of_unplaced specs known reported count refs xs r e d
     (unplaced_of_places known refs ps (repeated known (value_names refs)) xs places follows made) answers

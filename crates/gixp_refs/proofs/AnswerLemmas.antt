@@ -72,38 +72,38 @@ line-then trimmed first rest object r c h k =
     let P : (List ℕ × Option (List ℕ)) → Type 0 = λ x. AnswersRefs ref_value (line_value trimmed x) r in
     subst P (sym c) (and_then_ok object_of ref_value (first_piece first) (λ o. named trimmed o (cut 32 rest)) object r h k)
 
-named_some : (line name : List ℕ) (object behind : Option (List ℕ)) → (length name ≡ 0 → ⊥)
-    → named line object (name, behind) ≡ and_then (attributes_of line behind) (value_of object name)
-named_some line [] object behind h = absurd (h refl)
-named_some line (x ∷ xs) object behind h = refl
+named_some : (line name : List ℕ) (object following : Option (List ℕ)) → (length name ≡ 0 → ⊥)
+    → named line object (name, following) ≡ and_then (attributes_of line following) (value_of object name)
+named_some line [] object following h = absurd (h refl)
+named_some line (x ∷ xs) object following h = refl
 
-named_none : (line name : List ℕ) (object behind : Option (List ℕ)) → length name ≡ 0
-    → named line object (name, behind) ≡ Err (malformed_v2 line)
-named_none line [] object behind h = refl
-named_none line (x ∷ xs) object behind h = absurd (omega arith)
+named_none : (line name : List ℕ) (object following : Option (List ℕ)) → length name ≡ 0
+    → named line object (name, following) ≡ Err (malformed_v2 line)
+named_none line [] object following h = refl
+named_none line (x ∷ xs) object following h = absurd (omega arith)
 
-pub named-empty : (line rest name : List ℕ) (object behind : Option (List ℕ)) (e : Error) → cut 32 rest ≡ (name, behind) → length name ≡ 0
+pub named-empty : (line rest name : List ℕ) (object following : Option (List ℕ)) (e : Error) → cut 32 rest ≡ (name, following) → length name ≡ 0
     → IsParseRefusal e (malformed_v2 line) → AnswersRefs ref_value (named line object (cut 32 rest)) (Err e)
-named-empty line rest name object behind e c z h =
+named-empty line rest name object following e c z h =
     refusal_answers ref_value (named line object (cut 32 rest)) (malformed_v2 line) e
-    (ap (λ (x : List ℕ × Option (List ℕ)). named line object x) c ∙ named_none line name object behind z) h
+    (ap (λ (x : List ℕ × Option (List ℕ)). named line object x) c ∙ named_none line name object following z) h
 
-pub named-err : (line rest name : List ℕ) (object behind : Option (List ℕ)) (e : Error) → cut 32 rest ≡ (name, behind)
+pub named-err : (line rest name : List ℕ) (object following : Option (List ℕ)) (e : Error) → cut 32 rest ≡ (name, following)
     → (length name ≡ 0 → ⊥)
-    → AnswersRefs attribute_values (attributes_of line behind) (Err e) → AnswersRefs ref_value (named line object (cut 32 rest)) (Err e)
-named-err line rest name object behind e c z h =
-    let same = ap (λ (x : List ℕ × Option (List ℕ)). named line object x) c ∙ named_some line name object behind z in
+    → AnswersRefs attribute_values (attributes_of line following) (Err e) → AnswersRefs ref_value (named line object (cut 32 rest)) (Err e)
+named-err line rest name object following e c z h =
+    let same = ap (λ (x : List ℕ × Option (List ℕ)). named line object x) c ∙ named_some line name object following z in
     subst (λ x. AnswersRefs ref_value x (Err e)) (sym same)
-    (and_then_err attribute_values ref_value (attributes_of line behind) (value_of object name) e h)
+    (and_then_err attribute_values ref_value (attributes_of line following) (value_of object name) e h)
 
-pub named-then : (line rest name : List ℕ) (object behind : Option (List ℕ)) (had : Attributes) (r : Result Ref Error)
-    → cut 32 rest ≡ (name, behind) → (length name ≡ 0 → ⊥)
-    → AnswersRefs attribute_values (attributes_of line behind) (Ok had) → AnswersRefs ref_value
+pub named-then : (line rest name : List ℕ) (object following : Option (List ℕ)) (had : Attributes) (r : Result Ref Error)
+    → cut 32 rest ≡ (name, following) → (length name ≡ 0 → ⊥)
+    → AnswersRefs attribute_values (attributes_of line following) (Ok had) → AnswersRefs ref_value
     (value_of object name (attribute_values had)) r → AnswersRefs ref_value (named line object (cut 32 rest)) r
-named-then line rest name object behind had r c z h k =
-    let same = ap (λ (x : List ℕ × Option (List ℕ)). named line object x) c ∙ named_some line name object behind z in
+named-then line rest name object following had r c z h k =
+    let same = ap (λ (x : List ℕ × Option (List ℕ)). named line object x) c ∙ named_some line name object following z in
     subst (λ x. AnswersRefs ref_value x r) (sym same)
-    (and_then_ok attribute_values ref_value (attributes_of line behind) (value_of object name) had r h k)
+    (and_then_ok attribute_values ref_value (attributes_of line following) (value_of object name) had r h k)
 
 pub not_empty : (n : ℕ) → false ≡ nat_eq n 0 → n ≡ 0 → ⊥
 not_empty n f z = let t = eq-eqb n 0 z in cc

@@ -14,28 +14,28 @@ use Rattle.gixp_refs.specs.Refs.{with_ref, refs_from, v2_refs, AreRefs, ReadsRef
 use Rattle.gixp_packetline.proofs.ReadingLemmas.{so_far-start, so_far-line, so_far-at_stop, so_far-refuses}
 
 -- these refs before the others
-abbrev behind : List RefValue → Result (List RefValue) RefsRefusal → Result (List RefValue) RefsRefusal
-behind vs (Ok ws) = Ok (vs ++ ws)
-behind vs (Err e) = Err e
+abbrev following : List RefValue → Result (List RefValue) RefsRefusal → Result (List RefValue) RefsRefusal
+following vs (Ok ws) = Ok (vs ++ ws)
+following vs (Err e) = Err e
 
-with_ref-behind : (v : RefValue) (vs : List RefValue) (r : Result (List RefValue) RefsRefusal)
-    → with_ref (Ok v) (behind vs r) ≡ behind (v ∷ vs) r
-with_ref-behind v vs (Ok ws) = refl
-with_ref-behind v vs (Err e) = refl
+with_ref-following : (v : RefValue) (vs : List RefValue) (r : Result (List RefValue) RefsRefusal)
+    → with_ref (Ok v) (following vs r) ≡ following (v ∷ vs) r
+with_ref-following v vs (Ok ws) = refl
+with_ref-following v vs (Err e) = refl
 
-none_behind : (r : Result (List RefValue) RefsRefusal) → r ≡ behind [] r
-none_behind (Ok ws) = refl
-none_behind (Err e) = refl
+none_after : (r : Result (List RefValue) RefsRefusal) → r ≡ following [] r
+none_after (Ok ws) = refl
+none_after (Err e) = refl
 
 -- lines that have refs, before other lines
-refs_behind : (ts rest : List (List ℕ)) (vs : List RefValue) (ending : Ending) → AreRefs ts vs
-    → refs_from (ts ++ rest) ending ≡ behind vs (refs_from rest ending)
-refs_behind [] rest [] ending h = none_behind (refs_from rest ending)
-refs_behind [] rest (v ∷ vs) ending h = absurd h
-refs_behind (t ∷ ts) rest [] ending h = absurd h
-refs_behind (t ∷ ts) rest (v ∷ vs) ending h =
+refs_following : (ts rest : List (List ℕ)) (vs : List RefValue) (ending : Ending) → AreRefs ts vs
+    → refs_from (ts ++ rest) ending ≡ following vs (refs_from rest ending)
+refs_following [] rest [] ending h = none_after (refs_from rest ending)
+refs_following [] rest (v ∷ vs) ending h = absurd h
+refs_following (t ∷ ts) rest [] ending h = absurd h
+refs_following (t ∷ ts) rest (v ∷ vs) ending h =
     let one : v2_line t ≡ Ok v = h.0 in
-    rw (one, refs_behind ts rest vs ending h.1) (with_ref-behind v vs (refs_from rest ending))
+    rw (one, refs_following ts rest vs ending h.1) (with_ref-following v vs (refs_from rest ending))
 
 AreRefs-push : (ts : List (List ℕ)) (vs : List RefValue) (t : List ℕ) (v : RefValue) → AreRefs ts vs → v2_line t ≡ Ok v
     → AreRefs (ts ++ t ∷ []) (vs ++ v ∷ [])
@@ -46,8 +46,8 @@ AreRefs-push (s ∷ ts) (w ∷ vs) t v h e = (h.0, AreRefs-push ts vs t v h.1 e)
 
 -- lines that have refs, and then an end
 refs_all : (texts : List (List ℕ)) (vs : List RefValue) (ending : Ending) → AreRefs texts vs
-    → v2_refs (lines_to texts ending) ≡ behind vs (refs_from [] ending)
-refs_all texts vs ending h = ap (λ l. refs_from l ending) (sym (append-nil texts)) ∙ refs_behind texts [] vs ending h
+    → v2_refs (lines_to texts ending) ≡ following vs (refs_from [] ending)
+refs_all texts vs ending h = ap (λ l. refs_from l ending) (sym (append-nil texts)) ∙ refs_following texts [] vs ending h
 
 all_known : (r : Reading) (o n : Option Pieces) (texts : List (List ℕ)) (vs : List RefValue) (kind : _) → AreRefs texts vs
     → IfSome o (λ p. (q : Pieces) × (n ≡ Some q) × (lines_ahead r p ≡ lines_to texts (stop kind q)))
@@ -83,7 +83,7 @@ line_refused r s None n texts t vs e h is a = tt
 line_refused r s (Some p) n texts t vs e h is a =
     let rest = lines_ahead s a.0 in
     ap v2_refs a.2 ∙ ap (λ l. refs_from l rest.ending) (append_assoc texts (t ∷ []) rest.lines)
-    ∙ refs_behind texts (t ∷ rest.lines) vs rest.ending h ∙ (rw is refl)
+    ∙ refs_following texts (t ∷ rest.lines) vs rest.ending h ∙ (rw is refl)
 
 -- an error of a line is the first error
 pub refs-refused : (plain : Bool) (old mid new : Reading) (vs : List RefValue) (e : Error) (o : Result RefValue RefsRefusal)

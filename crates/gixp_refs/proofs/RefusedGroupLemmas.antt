@@ -5,7 +5,7 @@ use Rattle.gixp_refs.specs.Ref.{RefValue}
 use Rattle.gixp_refs.specs.RefLine.{RefsRefusal}
 use Rattle.gixp_refs.specs.Refs.{with_ref}
 use Rattle.gixp_refs.specs.RefAdvertisement.{Symref, V1Line, nothing, peels, names, shallows, v1_line, NamedRef, single, pair, closed, in_front, group_with, group_end, groups}
-use Rattle.gixp_refs.specs.RefGroups.{Group, alone, with_peeled, lines_in, is_grouped, AreLines, AreGroupRefs, open_in, NextRefused, AreRefusedBehind}
+use Rattle.gixp_refs.specs.RefGroups.{Group, alone, with_peeled, lines_in, is_grouped, AreLines, AreGroupRefs, open_in, NextRefused, AreRefusedAfter}
 use Rattle.gixp_refs.proofs.GroupLemmas.{open_lines, open_groups, first_alone, no_peels_first, first_peeled, first_ref, open_at_end}
 
 -- the same, after a ref line that may be open
@@ -28,9 +28,9 @@ open_front g l ls [] h = cc
 open_front (alone n) l ls (k ∷ gs) h = refl
 open_front (with_peeled n left base) l ls (k ∷ gs) h = refl
 
-open_behind : (n : NamedRef) (left base : List ℕ) (gs : List Group) → open_in (with_peeled n left base ∷ gs) ≡ open_in gs
-open_behind n left base [] = refl
-open_behind n left base (g ∷ gs) = refl
+open_after : (n : NamedRef) (left base : List ℕ) (gs : List Group) → open_in (with_peeled n left base ∷ gs) ≡ open_in gs
+open_after n left base [] = refl
+open_after n left base (g ∷ gs) = refl
 
 refused_here : (t : List Symref) (last : Option NamedRef) (texts : List (List ℕ)) (end : Option RefsRefusal) (e : RefsRefusal)
     → NextRefused t last texts end e → Refused t last texts end e
@@ -112,7 +112,7 @@ refused_peels t (Some m) text texts end e left base v h p x = record {
   grouped = ap (λ ls. names m.object m.name ∷ peels left base ∷ ls) x.grouped;
   values = v ∷ x.values;
   refs = (p, x.refs);
-  next = subst (λ o. NextRefused t o x.more end e) (sym (open_behind m left base x.found)) x.next;
+  next = subst (λ o. NextRefused t o x.more end e) (sym (open_after m left base x.found)) x.next;
 }
 
 front_err : (xs : List RefValue) (r : Result (List RefValue) RefsRefusal) (e : RefsRefusal) → in_front xs r ≡ Err e → r ≡ Err e
@@ -125,11 +125,11 @@ refused_pair : (t : List Symref) (last : Option NamedRef) (text : List ℕ) (tex
     → v1_line text ≡ Ok (peels left base) → pair t last left base ≡ p → with_ref p (groups texts end t None) ≡ Err e
     → (groups texts end t None ≡ Err e → Refused t None texts end e) → Refused t last (text ∷ texts) end e
 refused_pair t last text texts end e left base (Ok v) h p k f =
-    refused_peels t last text texts end e left base v h p (f (behind (groups texts end t None) k))
+    refused_peels t last text texts end e left base v h p (f (following (groups texts end t None) k))
   where
-    behind : (r : Result (List RefValue) RefsRefusal) → with_ref (Ok v) r ≡ Err e → r ≡ Err e
-    behind (Ok vs) h = cc
-    behind (Err x) h = h
+    following : (r : Result (List RefValue) RefsRefusal) → with_ref (Ok v) r ≡ Err e → r ≡ Err e
+    following (Ok vs) h = cc
+    following (Err x) h = h
 refused_pair t last text texts end e left base (Err x) h p k f =
     refused_here t last (text ∷ texts) end e (inr (left, base, h, (let y : x ≡ e = cc in p ∙ ap Err y)))
 
@@ -160,7 +160,7 @@ refused_from t last (text ∷ texts) end e h =
 
 -- if reading fails, the advertisement has groups and then an error
 pub refusal_found : (t : List Symref) (texts : List (List ℕ)) (end : Option RefsRefusal) (e : RefsRefusal)
-    → groups texts end t None ≡ Err e → AreRefusedBehind t texts end e
+    → groups texts end t None ≡ Err e → AreRefusedAfter t texts end e
 refusal_found t texts end e h =
     let x = refused_from t None texts end e h in
     record {
@@ -209,7 +209,7 @@ line_read t None (peels left base) ls gs values more end e rest g r n f = absurd
 line_read t (Some m) (peels left base) ls gs values more end e rest g r n f =
     let x = first_peeled m left base (filter is_grouped ls) gs g in
     let y = first_ref t (with_peeled m left base) x.0 values (subst (λ k. AreGroupRefs t k values) x.1 r) in
-    let stays = ap open_in x.1 ∙ open_behind m left base x.0 in
+    let stays = ap open_in x.1 ∙ open_after m left base x.0 in
     let one : pair t (Some m) left base ≡ Ok y.0 = y.3 in
     rw one (rw (f None x.0 y.1 x.2 y.4 (subst (λ o. NextRefused t o more end e) stays n)) refl)
 
@@ -228,7 +228,7 @@ read_from t last (text ∷ texts) more (l ∷ ls) gs values end e h g r n =
 
 -- groups with an error after them fail with it
 pub refusal_read : (t : List Symref) (texts : List (List ℕ)) (end : Option RefsRefusal) (e : RefsRefusal)
-    → AreRefusedBehind t texts end e → groups texts end t None ≡ Err e
+    → AreRefusedAfter t texts end e → groups texts end t None ≡ Err e
 refusal_read t texts end e h =
     ap (λ x. groups x end t None) h.split
     ∙ read_from t None h.taken h.more h.are_groups.lines h.groups h.values end e h.are_groups.read h.are_groups.grouped h.refs

@@ -24,7 +24,7 @@ use Rattle.gixp_refs.specs.RefLine.{RefsRefusal}
 use Rattle.gixp_capabilities.specs.Capabilities.{is_text}
 use Rattle.gixp_refs.specs.ParseError.{AnswersRefs}
 use Rattle.gixp_capabilities.specs.Capabilities.{CapabilityValue}
-use Rattle.gixp_refs.specs.RefAdvertisement.{Symref, symref_named, tells, TellAlike, told_target, V1Line, nothing, peels, names, shallows, v1_line, NamedRef, pair_by, pair, closed, group_with, group_end, end_refusal, groups, v1_refs, symref_table}
+use Rattle.gixp_refs.specs.RefAdvertisement.{Symref, symref_named, target_named, TellAlike, reported_target, V1Line, nothing, peels, names, shallows, v1_line, NamedRef, pair_by, pair, closed, group_with, group_end, end_refusal, groups, v1_refs, symref_table}
 use Rattle.gixp_refs.specs.V1Refs.{symref_value, name_cmp, symref_values, ReadsV1, V1Fails, GivesAdvertisement, AdvertisementFails}
 
 -- ---- lookups in the map
@@ -38,7 +38,7 @@ tells_at true s o = refl
 tells_at false s o = refl
 
 -- the first symref of a name counts
-tells_cons : (s : Symref) (t : List Symref) (n : List ℕ) → tells (s ∷ t) n ≡ cond (is_text s.name n) (Some s.target) (tells t n)
+tells_cons : (s : Symref) (t : List Symref) (n : List ℕ) → target_named (s ∷ t) n ≡ cond (is_text s.name n) (Some s.target) (target_named t n)
 tells_cons s t n = tells_at (is_text s.name n) s (symref_named t n)
 
 tied : (o : Ordering) → is_eq o ≡ true → o ≡ Equal
@@ -68,29 +68,29 @@ apart k e n g h i =
 
 -- an inserted symref comes before the others
 pub insert_tells : (es : List Entry) (k : BString) (v : Option BString) (n : List ℕ)
-    → tells (symref_values (insert_entry name_cmp es k v)) n ≡ cond (is_text (bstring_bytes k) n) (Some (option_map bstring_bytes v))
-    (tells (symref_values es) n)
+    → target_named (symref_values (insert_entry name_cmp es k v)) n ≡ cond (is_text (bstring_bytes k) n) (Some (option_map bstring_bytes v))
+    (target_named (symref_values es) n)
 insert_tells [] k v n = tells_cons (symref_value (k, v)) [] n
 insert_tells (e ∷ es) k v n = at (name_cmp k e.0) (insert_tells es k v n) refl
   where
-    at : (o : Ordering) → tells (symref_values (insert_entry name_cmp es k v)) n
-        ≡ cond (is_text (bstring_bytes k) n) (Some (option_map bstring_bytes v)) (tells (symref_values es) n) → name_cmp k e.0 ≡ o
-        → tells (symref_values (match_ordering o ((k, v) ∷ e ∷ es) ((e.0, v) ∷ es) (e ∷ insert_entry name_cmp es k v))) n
-        ≡ cond (is_text (bstring_bytes k) n) (Some (option_map bstring_bytes v)) (tells (symref_values (e ∷ es)) n)
+    at : (o : Ordering) → target_named (symref_values (insert_entry name_cmp es k v)) n
+        ≡ cond (is_text (bstring_bytes k) n) (Some (option_map bstring_bytes v)) (target_named (symref_values es) n) → name_cmp k e.0 ≡ o
+        → target_named (symref_values (match_ordering o ((k, v) ∷ e ∷ es) ((e.0, v) ∷ es) (e ∷ insert_entry name_cmp es k v))) n
+        ≡ cond (is_text (bstring_bytes k) n) (Some (option_map bstring_bytes v)) (target_named (symref_values (e ∷ es)) n)
     at Less more h = tells_cons (symref_value (k, v)) (symref_values (e ∷ es)) n
     at Equal more h =
         let same : bstring_bytes k ≡ bstring_bytes e.0 = exact_bytes (bstring_bytes k) (bstring_bytes e.0) h in
         let value = Some (option_map bstring_bytes v) in
         tells_cons (symref_value (e.0, v)) (symref_values es) n
-        ∙ twice (is_text (bstring_bytes e.0) n) value (Some (option_map bstring_bytes e.1)) (tells (symref_values es) n)
+        ∙ twice (is_text (bstring_bytes e.0) n) value (Some (option_map bstring_bytes e.1)) (target_named (symref_values es) n)
         ∙ ap (λ x. cond (is_text (bstring_bytes e.0) n) value x) (sym (tells_cons (symref_value e) (symref_values es) n))
-        ∙ ap (λ x. cond (is_text x n) value (tells (symref_values (e ∷ es)) n)) (sym same)
+        ∙ ap (λ x. cond (is_text x n) value (target_named (symref_values (e ∷ es)) n)) (sym same)
     at Greater more h =
         let value = Some (option_map bstring_bytes v) in
         let had = Some (option_map bstring_bytes e.1) in
         tells_cons (symref_value e) (symref_values (insert_entry name_cmp es k v)) n
         ∙ ap (λ x. cond (is_text (bstring_bytes e.0) n) had x) more
-        ∙ not_both (is_text (bstring_bytes e.0) n) (is_text (bstring_bytes k) n) had value (tells (symref_values es) n)
+        ∙ not_both (is_text (bstring_bytes e.0) n) (is_text (bstring_bytes k) n) had value (target_named (symref_values es) n)
         (apart (bstring_bytes k) (bstring_bytes e.0) n h)
         ∙ ap (λ x. cond (is_text (bstring_bytes k) n) value x) (sym (tells_cons (symref_value e) (symref_values es) n))
 
@@ -102,13 +102,13 @@ lookup_at false c e o r h k = rw (← h) k
 
 -- a lookup in the map finds the first symref of the name
 pub lookup_tells : (es : List Entry) (q : BString) → option_map (λ (t : Option BString). option_map bstring_bytes t)
-    (lookup (is_at (name_cmp q)) es) ≡ tells (symref_values es) (bstring_bytes q)
+    (lookup (is_at (name_cmp q)) es) ≡ target_named (symref_values es) (bstring_bytes q)
 lookup_tells [] q = refl
 lookup_tells (e ∷ es) q =
     let same : is_eq (name_cmp q e.0) ≡ is_text (bstring_bytes e.0) (bstring_bytes q) =
     sym (texts_ties (bstring_bytes q) (bstring_bytes e.0)) ∙ nat_list_eq_equiv.symm (bstring_bytes q) (bstring_bytes e.0) in
     lookup_at (is_eq (name_cmp q e.0)) (is_text (bstring_bytes e.0) (bstring_bytes q)) e (lookup (is_at (name_cmp q)) es)
-    (tells (symref_values es) (bstring_bytes q)) same (lookup_tells es q)
+    (target_named (symref_values es) (bstring_bytes q)) same (lookup_tells es q)
     ∙ sym (tells_cons (symref_value e) (symref_values es) (bstring_bytes q))
 
 -- a lookup finds a symref exactly where there is one
@@ -122,11 +122,11 @@ found_some (Some r) (Some x) h = refl
 
 -- and its target
 pub found_target : (v : Option BString) (x : Option Symref)
-    → Some (option_map bstring_bytes v) ≡ option_map (λ (s : Symref). s.target) x → option_map bstring_bytes v ≡ told_target x
+    → Some (option_map bstring_bytes v) ≡ option_map (λ (s : Symref). s.target) x → option_map bstring_bytes v ≡ reported_target x
 found_target v None h = cc
 found_target v (Some x) h = cc
 
-pub found_none : (x : Option Symref) → None ≡ option_map (λ (s : Symref). s.target) x → None ≡ told_target x
+pub found_none : (x : Option Symref) → None ≡ option_map (λ (s : Symref). s.target) x → None ≡ reported_target x
 found_none None h = refl
 found_none (Some x) h = cc
 
@@ -138,7 +138,7 @@ copied_bytes (Some s) = refl
 -- ---- lists with the same first symref for each name
 
 told_by : (x y : Option Symref) → option_map (λ (s : Symref). s.target) x ≡ option_map (λ (s : Symref). s.target) y
-    → told_target x ≡ told_target y
+    → reported_target x ≡ reported_target y
 told_by None None h = refl
 told_by None (Some y) h = cc
 told_by (Some x) None h = cc
@@ -265,7 +265,7 @@ table-put all left now entries more name target h l m = (
   h.1 ∙ ap (λ x. x ++ h.0) l ∙ append_assoc now (symref_value (name, target) ∷ []) h.0,
   λ n. tells_cons (symref_value (name, target)) h.0 n
       ∙ ap (λ x. cond (is_text (bstring_bytes name) n) (Some (option_map bstring_bytes target)) x) (h.2 n)
-      ∙ sym (ap (λ es. tells (symref_values es) n) m ∙ insert_tells entries name target n),
+      ∙ sym (ap (λ es. target_named (symref_values es) n) m ∙ insert_tells entries name target n),
 )
 
 pub table-done : (all left : List Symref) (entries : List Entry) → MakesTable all left entries → left ≡ []

@@ -116,12 +116,12 @@ other_is : (b x : ℕ) → other b x ≡ true → (x == b) ≡ false
 other_is b x h = false_from_ne_true (x == b) (λ e. let k = rw e at h in cc)
 
 -- the offset of a byte after others
-place_behind : (b : ℕ) (front rest : List ℕ) → list_all (other b) front ≡ true
+place_after : (b : ℕ) (front rest : List ℕ) → list_all (other b) front ≡ true
     → position_or_len (λ x. x == b) (front ++ b ∷ rest) ≡ length front
-place_behind b [] rest h = rw (eq-eqb b b refl) refl
-place_behind b (x ∷ front) rest h =
+place_after b [] rest h = rw (eq-eqb b b refl) refl
+place_after b (x ∷ front) rest h =
     let parts = and_parts (other b x) (list_all (other b) front) h in
-    rw (other_is b x parts.0, place_behind b front rest parts.1) (omega arith)
+    rw (other_is b x parts.0, place_after b front rest parts.1) (omega arith)
 
 -- a byte that doesn't occur
 place_none : (b : ℕ) (text : List ℕ) → list_all (other b) text ≡ true → position_or_len (λ x. x == b) text ≡ length text
@@ -130,19 +130,19 @@ place_none b (x ∷ text) h =
     let parts = and_parts (other b x) (list_all (other b) text) h in
     rw (other_is b x parts.0, place_none b text parts.1) (omega arith)
 
-drop_behind : (front : List ℕ) (b : ℕ) (rest : List ℕ) → drop (length front + 1) (front ++ b ∷ rest) ≡ rest
-drop_behind front b rest =
+drop_after : (front : List ℕ) (b : ℕ) (rest : List ℕ) → drop (length front + 1) (front ++ b ∷ rest) ≡ rest
+drop_after front b rest =
     sym (drop-drop 1 (length front) (front ++ b ∷ rest)) ∙ ap (drop 1) (drop-append_seam front (b ∷ rest))
 
 -- a text is split at a byte after others
-cut_behind : (b : ℕ) (front rest : List ℕ) → list_all (other b) front ≡ true → cut b (front ++ b ∷ rest) ≡ (front, Some rest)
-cut_behind b front rest h =
+cut_after : (b : ℕ) (front rest : List ℕ) → list_all (other b) front ≡ true → cut b (front ++ b ∷ rest) ≡ (front, Some rest)
+cut_after b front rest h =
     let text = front ++ b ∷ rest in
-    let place = place_behind b front rest h in
+    let place = place_after b front rest h in
     let inside : nat_lt (length front) (length text) ≡ true =
     lt-ltb (length front) (length text) (let n = length-append front (b ∷ rest) in omega arith) in
     let at : position (λ x. x == b) text ≡ Some (length front) = rw (place, inside) refl in
-    ap (parts_at text) at ∙ (rw (take-append_seam front (b ∷ rest), drop_behind front b rest) refl)
+    ap (parts_at text) at ∙ (rw (take-append_seam front (b ∷ rest), drop_after front b rest) refl)
 
 -- a text without the byte isn't split
 cut_none : (b : ℕ) (text : List ℕ) → list_all (other b) text ≡ true → cut b text ≡ (text, None)
@@ -203,10 +203,10 @@ first_written : (id : List ℕ) (h : is_written_id id ≡ true) → first_piece 
 first_written id h = rw (id_is_no_word id h, (id_written id h).reads) refl
 
 -- a line after an id and a blank
-behind_id : (line text id rest : List ℕ) (h : is_written_id id ≡ true) → text ≡ trim_end_by is_whitespace line → text ≡ id ++ 32 ∷ rest
+following_id : (line text id rest : List ℕ) (h : is_written_id id ≡ true) → text ≡ trim_end_by is_whitespace line → text ≡ id ++ 32 ∷ rest
     → v2_line line ≡ named text (Some (id_written id h).id) (cut 32 rest)
-behind_id line text id rest h trim split =
-    let parts : cut 32 text ≡ (id, Some rest) = ap (cut 32) split ∙ cut_behind 32 id rest (id_other id h) in
+following_id line text id rest h trim split =
+    let parts : cut 32 text ≡ (id, Some rest) = ap (cut 32) split ∙ cut_after 32 id rest (id_other id h) in
     ap (λ t. line_value t (cut 32 t)) (sym trim) ∙ ap (line_value text) parts
     ∙ ap (λ o. and_then o (λ object. named text object (cut 32 rest))) (first_written id h)
 
@@ -233,7 +233,7 @@ peeled_attribute : (text attribute id : List ℕ) (h : is_written_id id ≡ true
     → attributes_of text (Some attribute) ≡ Ok (with_peeled no_attributes (id_written id h).id)
 peeled_attribute text attribute id h split =
     let whole : cut 32 attribute ≡ (attribute, None) = cut_none 32 attribute (ap (list_all (other 32)) split ∙ id_other id h) in
-    let parts : cut 58 attribute ≡ (codes "peeled", Some id) = ap (cut 58) split ∙ cut_behind 58 (codes "peeled") id refl in
+    let parts : cut 58 attribute ≡ (codes "peeled", Some id) = ap (cut 58) split ∙ cut_after 58 (codes "peeled") id refl in
     ap (attributes_in text) whole ∙ ap (λ (x : List ℕ × Option (List ℕ)). attribute_of text x no_attributes) parts
     ∙ peeled_value text id h
 
@@ -246,7 +246,7 @@ direct_written line text id rest name trim h split c some =
     let name_is : rest ≡ name = whole_from_none 32 rest name c in
     let all : text ≡ id ++ 32 ∷ name = split ∙ ap (λ t. id ++ 32 ∷ t) name_is in (
       direct name w.id,
-      behind_id line text id rest h trim split ∙ ap (named text (Some w.id)) c ∙ named_direct text name w.id some,
+      following_id line text id rest h trim split ∙ ap (named text (Some w.id)) c ∙ named_direct text name w.id some,
       ap (λ t. t ++ 32 ∷ (name ++ codes "\n")) w.writes ∙ sym (append_assoc id (32 ∷ name) (codes "\n"))
           ∙ ap (λ t. t ++ codes "\n") (sym all),
     )
@@ -255,15 +255,15 @@ direct_written line text id rest name trim h split c some =
 pub peeled_written : (line text id rest name attribute object : List ℕ) → text ≡ trim_end_by is_whitespace line → is_written_id id ≡ true
     → text ≡ id ++ 32 ∷ rest → cut 32 rest ≡ (name, Some attribute) → (length name ≡ 0 → ⊥) → is_written_id object ≡ true
     → attribute ≡ codes "peeled:" ++ object → IsWrittenLine line text
-peeled_written line text id rest name attribute object trim h split c some ho tells =
+peeled_written line text id rest name attribute object trim h split c some ho target_named =
     let w = id_written id h in
     let o = id_written object ho in
-    let behind : rest ≡ name ++ 32 ∷ (codes "peeled:" ++ object) =
-    whole_from_some 32 rest name attribute c ∙ ap (λ t. name ++ 32 ∷ t) tells in
-    let all : text ≡ id ++ 32 ∷ (name ++ 32 ∷ (codes "peeled:" ++ object)) = split ∙ ap (λ t. id ++ 32 ∷ t) behind in (
+    let following : rest ≡ name ++ 32 ∷ (codes "peeled:" ++ object) =
+    whole_from_some 32 rest name attribute c ∙ ap (λ t. name ++ 32 ∷ t) target_named in
+    let all : text ≡ id ++ 32 ∷ (name ++ 32 ∷ (codes "peeled:" ++ object)) = split ∙ ap (λ t. id ++ 32 ∷ t) following in (
       peeled name w.id o.id,
-      behind_id line text id rest h trim split ∙ ap (named text (Some w.id)) c
-          ∙ named_peeled text name w.id o.id attribute some (peeled_attribute text attribute object ho tells),
+      following_id line text id rest h trim split ∙ ap (named text (Some w.id)) c
+          ∙ named_peeled text name w.id o.id attribute some (peeled_attribute text attribute object ho target_named),
       ap (λ t. t ++ 32 ∷ (name ++ (codes " peeled:" ++ (encode_lower o.id ++ codes "\n")))) w.writes
           ∙ ap (λ t. id ++ 32 ∷ (name ++ (codes " peeled:" ++ (t ++ codes "\n")))) o.writes
           ∙ sym (append_assoc id (32 ∷ (name ++ 32 ∷ (codes "peeled:" ++ object))) (codes "\n")

@@ -87,21 +87,21 @@ pub record NamedRef : Type 0 where
 abbrev pub symref_named : List Symref → List ℕ → Option Symref
 symref_named t name = find (λ s. is_text s.name name) t
 
-abbrev pub told_target : Option Symref → Option (List ℕ)
-told_target None = None
-told_target (Some s) = s.target
+abbrev pub reported_target : Option Symref → Option (List ℕ)
+reported_target None = None
+reported_target (Some s) = s.target
 
 -- the target of the first symref of this name, if there is one
-abbrev pub tells : List Symref → List ℕ → Option (Option (List ℕ))
-tells t name = option_map (λ (s : Symref). s.target) (symref_named t name)
+abbrev pub target_named : List Symref → List ℕ → Option (Option (List ℕ))
+target_named t name = option_map (λ (s : Symref). s.target) (symref_named t name)
 
 -- two lists have the same first symref for each name
 abbrev pub TellAlike : List Symref → List Symref → Type 0
-TellAlike t u = (name : List ℕ) → tells t name ≡ tells u name
+TellAlike t u = (name : List ℕ) → target_named t name ≡ target_named u name
 
 -- the ref of a ref line without a peeled line, by the first symref of its name
 abbrev pub single : List Symref → NamedRef → RefValue
-single t n = born n.name n.object (told_target (symref_named t n.name)) None
+single t n = born n.name n.object (reported_target (symref_named t n.name)) None
 
 abbrev pub not_preceded : RefsRefusal
 not_preceded = invariant (codes "Expecting peeled refs to be preceded by direct refs")

@@ -63,7 +63,7 @@ NextRefused t last (text ∷ texts) end e =
     (v1_line text ≡ Err e) ⊎ ((left base : List ℕ) × (v1_line text ≡ Ok (peels left base)) × (pair t last left base ≡ Err e))
 
 -- the lines of some groups with their refs, and the first error after them
-pub record AreRefusedBehind (t : List Symref) (texts : List (List ℕ)) (end : Option RefsRefusal) (e : RefsRefusal) : Type 0 where
+pub record AreRefusedAfter (t : List Symref) (texts : List (List ℕ)) (end : Option RefsRefusal) (e : RefsRefusal) : Type 0 where
   pub taken : List (List ℕ)
   pub more : List (List ℕ)
   pub split : texts ≡ taken ++ more

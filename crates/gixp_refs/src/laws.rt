@@ -3,7 +3,7 @@ ghost use Rattle.std.specs.Prelude.{◌≡◌, ℕ, List, Option, None, Ok, Err}
 ghost use Rattle.gixp_refs.specs.Ref.{RefValue};
 ghost use Rattle.gixp_refs.specs.RefLine.{RefsRefusal};
 ghost use Rattle.gixp_refs.specs.RefAdvertisement.{Symref, groups};
-ghost use Rattle.gixp_refs.specs.RefGroups.{Group, AreRefGroups, AreGroupRefs, AreRefusedBehind};
+ghost use Rattle.gixp_refs.specs.RefGroups.{Group, AreRefGroups, AreGroupRefs, AreRefusedAfter};
 
 /// The refs of a reference advertisement of version 0 or 1 are those of its groups: ref lines alone, or with their
 /// peeled lines. Lines that belong to no group may occur between these.
@@ -22,11 +22,11 @@ pub fn groups_are_advertised_refs()
 /// line after them, or of the end.
 pub fn refused_advertisements_are_cut()
     ensures { (t : List Symref) (texts : List (List ℕ)) (end : Option RefsRefusal) (e : RefsRefusal) → groups texts end t None ≡ Err e
-        → AreRefusedBehind t texts end e }
+        → AreRefusedAfter t texts end e }
 {}
 
 /// Groups with such an error after them fail with it, however they are read.
 pub fn cut_advertisements_are_refused()
-    ensures { (t : List Symref) (texts : List (List ℕ)) (end : Option RefsRefusal) (e : RefsRefusal) → AreRefusedBehind t texts end e
+    ensures { (t : List Symref) (texts : List (List ℕ)) (end : Option RefsRefusal) (e : RefsRefusal) → AreRefusedAfter t texts end e
         → groups texts end t None ≡ Err e }
 {}

@@ -68,5 +68,5 @@ matched_is_covered s name positive h = ap (λ l. is_covered l name) (cond-false 
     ∙ covered_by (kind_of s.source) s.source name h
 
 -- the prefixes after others cover the same names
-pub covered_behind : (old more : List (List ℕ)) (name : List ℕ) → is_covered more name ≡ true → is_covered (old ++ more) name ≡ true
-covered_behind old more name h = list_any-append (λ prefix. starts_with nat_eq name prefix) old more ∙ or_right _ _ h
+pub covered_after : (old more : List (List ℕ)) (name : List ℕ) → is_covered more name ≡ true → is_covered (old ++ more) name ≡ true
+covered_after old more name h = list_any-append (λ prefix. starts_with nat_eq name prefix) old more ∙ or_right _ _ h

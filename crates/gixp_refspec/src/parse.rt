@@ -163,7 +163,7 @@ struct Parts<'a> {
 }
 
 // The text after its sign.
-fn behind_sign(text: &[u8]) -> &[u8]
+fn after_sign(text: &[u8]) -> &[u8]
     requires { 1 ≤ length text.now }
     ensures { result.now ≡ drop 1 text.now }
 {
@@ -178,11 +178,11 @@ fn parts_of(text: &[u8]) -> Parts<'_>
     if text.starts_with(b"^") {
         Parts {
             sign: Sign::Exclude,
-            source: behind_sign(text),
+            source: after_sign(text),
             destination: None,
         }
     } else if text.starts_with(b"+") {
-        let body = behind_sign(text);
+        let body = after_sign(text);
         Parts {
             sign: Sign::Force,
             source: source_in(body),

@@ -12,7 +12,7 @@ use crate::values;
 use gixp_packetline::{ExtendedBufRead, LineReader, Protocol};
 use gixp_response::fetch::Response;
 use gixp_sidebands::{NeverInterrupt, WithSidebands};
-use gixp_wire::Transport;
+use gixp_transport::Transport;
 use std::alloc::{AllocError, Global};
 
 pub(crate) const SETTINGS: &[Setting] = &[
@@ -78,10 +78,10 @@ fn report_banded<R: ExtendedBufRead>(
     lines: u64,
     report: &mut Report,
 ) -> Result<(), AllocError> {
-    let mut told = Report::new(alloc);
+    let mut reported = Report::new(alloc);
     {
         let mut never = NeverInterrupt;
-        let notes = Notes::new(&mut told, u64::MAX);
+        let notes = Notes::new(&mut reported, u64::MAX);
         let mut banded = WithSidebands::new(reader, notes, &mut never);
         let _ = read_response(alloc, &mut banded, reading, report);
         values::stop(report, banded.stopped_at());
@@ -90,7 +90,7 @@ fn report_banded<R: ExtendedBufRead>(
         }
     }
     report.word("told ");
-    report.quote_report(&told);
+    report.quote_report(&reported);
     report.word(" ");
     Ok(())
 }

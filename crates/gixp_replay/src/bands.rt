@@ -135,15 +135,15 @@ pub(crate) fn report_calls(
     let mut device = row.device(stream);
     let mut reader = LineReader::new(alloc, &mut device)?;
     reader.reset(version);
-    let mut told = Report::new(alloc);
+    let mut reported = Report::new(alloc);
     {
         let mut once = Once::new(interrupt);
-        let notes = Notes::new(&mut told, memory);
+        let notes = Notes::new(&mut reported, memory);
         let mut banded = WithSidebands::new(&mut reader, notes, &mut once);
         call_each(alloc, &mut banded, words, report)?;
     }
     report.word("told ");
-    report.quote_report(&told);
+    report.quote_report(&reported);
     report.word(" ");
     lines::report_rest(&mut reader, version, report);
     Ok(())

@@ -32,7 +32,7 @@ use gixp_refmap::RefMap;
 use gixp_refmap::refmap::init;
 use gixp_requests::agent_feature;
 use gixp_shallow::{ShallowError, ShallowStore};
-use gixp_wire::{Service, Transport};
+use gixp_transport::{Service, Transport};
 use std::alloc::{AllocError, Global};
 use std::io::ErrorKind;
 use std::mem;

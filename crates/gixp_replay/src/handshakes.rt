@@ -11,7 +11,7 @@ use bstr::BString;
 use gixp_capabilities::Capabilities;
 use gixp_doubles::{Device, Paper, Pieces};
 use gixp_refs::handshake::refs::from_v1_refs_received_as_part_of_handshake_and_capabilities;
-use gixp_wire::{Bodies, Body, Connection, Opening, Service, SetServiceResponse, Transport};
+use gixp_transport::{Bodies, Body, Connection, Opening, Service, SetServiceResponse, Transport};
 use std::alloc::{AllocError, Global};
 
 pub(crate) const SETTINGS: &[Setting] = &[("over", BODIES_CONNECTION, 0), ("version", &[], 2)];

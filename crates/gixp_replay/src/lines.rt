@@ -179,12 +179,12 @@ fn call_word<R: ExtendedBufRead>(
         report.is_unknown = true;
         return Ok(0);
     };
-    let mut told = 0u64;
+    let mut reported = 0u64;
     for _ in 0..times {
         let failed = call_again(alloc, reader, made, report)?;
-        told = told.saturating_add(failed);
+        reported = reported.saturating_add(failed);
     }
-    Ok(told)
+    Ok(reported)
 }
 
 /// The rest of a reader: its stop, two lines, and three more after a reset.
@@ -205,12 +205,12 @@ pub(crate) fn report_rest<R: ExtendedBufRead>(
 }
 
 /// Reports nothing if each failed read led to one error.
-pub(crate) fn report_failures(report: &mut Report, told: u64, failed: u64) {
-    if told != failed {
+pub(crate) fn report_failures(report: &mut Report, reported: u64, failed: u64) {
+    if reported != failed {
         report.word("!failed ");
         report.number(failed);
         report.word(", told ");
-        report.number(told);
+        report.number(reported);
     }
 }
 
@@ -223,15 +223,15 @@ pub(crate) fn report_calls(
     let [version, ..] = row.settings;
     let (words, stream) = cut_at_byte(row.payload, b'\n');
     let mut device = row.device(stream);
-    let mut told = 0u64;
+    let mut reported = 0u64;
     {
         let mut reader = LineReader::new(alloc, &mut device)?;
         reader.reset(version_of(version));
         for word in words.split(|b| *b == b' ') {
             let failed = call_word(alloc, &mut reader, word, report)?;
-            told = told.saturating_add(failed);
+            reported = reported.saturating_add(failed);
         }
     }
-    report_failures(report, told, device.failures);
+    report_failures(report, reported, device.failures);
     Ok(())
 }

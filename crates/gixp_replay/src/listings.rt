@@ -9,9 +9,9 @@ use crate::lines::report_rest;
 use crate::map_values::{init_error, report_map};
 use crate::maps::context_of;
 use crate::report::Report;
+use crate::reporting::Reporting;
 use crate::rows::{BODIES_CONNECTION, Row, Setting, cut_at_byte};
 use crate::shakes::{Helper, bodies_of, connection, memory, shake_error};
-use crate::telling::Telling;
 use gixp_handshake::Handshake;
 use gixp_handshake::credentials::Action;
 use gixp_handshake::handshake::{ObtainRefMap, handshake, obtain};
@@ -19,7 +19,7 @@ use gixp_packetline::{PacketLine, split_packet_line};
 use gixp_refmap::RefMap;
 use gixp_refmap::refmap::init::{Context, Error};
 use gixp_requests::command::{CommandTable, Feature};
-use gixp_wire::{Service, Transport};
+use gixp_transport::{Service, Transport};
 use std::alloc::{AllocError, Global};
 
 pub(crate) const SETTINGS: &[Setting] = &[
@@ -104,7 +104,7 @@ fn prepare_and_fetch<T: Transport>(
     shaken: &mut Handshake,
     client: Client,
     context: Context,
-    progress: &mut Telling,
+    progress: &mut Reporting,
     transport: &mut T,
     report: &mut Report,
 ) -> Result<Option<Result<RefMap, Error>>, AllocError> {
@@ -138,7 +138,7 @@ fn prepare<T: Transport>(
     shaken: &mut Handshake,
     client: Client,
     context: Context,
-    progress: &mut Telling,
+    progress: &mut Reporting,
     transport: &mut T,
     report: &mut Report,
 ) -> Result<Option<Result<RefMap, Error>>, AllocError> {
@@ -157,7 +157,7 @@ fn report_mapped<T: Transport>(
     transport: &mut T,
     report: &mut Report,
 ) -> Result<(), AllocError> {
-    let mut progress = Telling::new(alloc);
+    let mut progress = Reporting::new(alloc);
     let map = if client.way == 0 {
         let agent = client.agent(alloc)?;
         Some(obtain(
@@ -202,7 +202,7 @@ fn report_over<T: Transport>(
     report: &mut Report,
 ) -> Result<(), AllocError> {
     let mut helper = Helper::new(alloc, &[]);
-    let mut progress = Telling::new(alloc);
+    let mut progress = Reporting::new(alloc);
     let outcome = handshake(
         alloc,
         transport,

@@ -27,12 +27,12 @@ mod progress_lines;
 mod refs;
 mod refspecs;
 mod report;
+mod reporting;
 mod requests;
 mod rows;
 mod scripts;
 mod sessions;
 mod shakes;
-mod telling;
 mod urls;
 mod values;
 
@@ -252,7 +252,9 @@ fn main(rt: HostRuntime) -> ExitCode {
         }
         Failure::Io => eprintln!(rt; "Io"),
         Failure::Memory => eprintln!(rt; "Memory"),
-        Failure::Row(number, name, error) => eprintln!(rt; "row {number} ({name}): {error}"),
+        Failure::Row(number, name, error) => eprintln!(rt;
+            "test vector {number} ({name}): {error}"
+        ),
         Failure::Name(name) => {
             let _ = eprintln!(rt; "no row of the name {name}");
             return ExitCode::from(2);

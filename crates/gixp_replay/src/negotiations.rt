@@ -23,7 +23,7 @@ use gixp_requests::command::CommandTable;
 use gixp_requests::fetch::Arguments;
 use gixp_response::fetch::Response;
 use gixp_shallow::Shallow;
-use gixp_wire::Transport;
+use gixp_transport::Transport;
 use std::alloc::{AllocError, Global};
 use std::mem;
 use std::num::NonZeroU32;
@@ -121,10 +121,10 @@ fn report_line(report: &mut Report, line: &[u8]) {
 fn report_requests(report: &mut Report, bytes: &[u8]) {
     let mut rest = bytes;
     for _ in 0..bytes.len() {
-        let Ok(Some((line, behind))) = split_packet_line(rest) else {
+        let Ok(Some((line, following))) = split_packet_line(rest) else {
             break;
         };
-        rest = behind;
+        rest = following;
         match line {
             PacketLine::Data(text) => report_line(report, text),
             _ => report.word("/ "),

@@ -8,7 +8,7 @@ use crate::report::Report;
 use crate::rows::{NO_YES, Row, Setting, cut_at_byte};
 use crate::values::client_error;
 use bstr::BString;
-use gixp_wire::{Opening, Service, Transport};
+use gixp_transport::{Opening, Service, Transport};
 use std::alloc::{AllocError, Global};
 
 pub(crate) const SETTINGS: &[Setting] = &[

@@ -26,18 +26,18 @@ pub(crate) const SETTINGS: &[Setting] = &[
 /// A listener that records messages. The allocation for the message with the number `fails` fails, once.
 #[derive(Drop)]
 pub(crate) struct Notes<'a> {
-    told: &'a mut Report,
+    reported: &'a mut Report,
     fails: u64,
 }
 
 impl<'a> Notes<'a> {
-    pub(crate) fn new(told: &'a mut Report, fails: u64) -> Notes<'a> {
-        Notes { told, fails }
+    pub(crate) fn new(reported: &'a mut Report, fails: u64) -> Notes<'a> {
+        Notes { reported, fails }
     }
 }
 
 impl BandText for Notes<'_> {
-    ghost hears = { λ old is_error text new. Unit {0} };
+    ghost receives = { λ old is_error text new. Unit {0} };
 
     ghost spares = { λ old is_error text new. Unit {0} };
 
@@ -47,9 +47,9 @@ impl BandText for Notes<'_> {
             return Err(AllocError);
         }
         self.fails -= 1;
-        self.told.word(if is_error { "[3:" } else { "[2:" });
-        self.told.quote(text);
-        self.told.word("]");
+        self.reported.word(if is_error { "[3:" } else { "[2:" });
+        self.reported.quote(text);
+        self.reported.word("]");
         Ok(())
     }
 }
@@ -70,7 +70,7 @@ impl Once {
 }
 
 impl Interrupt for Once {
-    ghost says = { λ old answer new. Unit {0} };
+    ghost polls = { λ old answer new. Unit {0} };
 
     fn is_interrupted(&mut self) -> bool {
         if self.questions == 0 {
@@ -101,7 +101,7 @@ fn size_of_read(random: u64) -> usize {
 }
 
 // The result of a read.
-enum Step {
+enum ReadOutcome {
     Took,
     Ended,
     Refused,
@@ -113,21 +113,21 @@ fn read_some<R: Read>(
     size: usize,
     room: &mut Vec<u8>,
     content: &mut Vec<u8>,
-) -> Result<Step, AllocError> {
+) -> Result<ReadOutcome, AllocError> {
     let size = size.min(room.len());
     match reader.read(&mut room[..size]) {
         Ok(0) => {
             if size == 0 {
-                return Ok(Step::Took);
+                return Ok(ReadOutcome::Took);
             }
-            Ok(Step::Ended)
+            Ok(ReadOutcome::Ended)
         }
         Ok(count) => {
             let count = count.min(room.len());
             content.extend_from_slice(&room[..count])?;
-            Ok(Step::Took)
+            Ok(ReadOutcome::Took)
         }
-        Err(_) => Ok(Step::Refused),
+        Err(_) => Ok(ReadOutcome::Refused),
     }
 }
 
@@ -168,14 +168,14 @@ fn lend_some<R: BufRead>(
     random: u64,
     left: usize,
     content: &mut Vec<u8>,
-) -> Result<Step, AllocError> {
+) -> Result<ReadOutcome, AllocError> {
     match copy_lent(reader.fill_buf(), random, left, content)? {
         Lent::Bytes(amount) => {
             reader.consume(amount);
-            Ok(Step::Took)
+            Ok(ReadOutcome::Took)
         }
-        Lent::Ended => Ok(Step::Ended),
-        Lent::Refused => Ok(Step::Refused),
+        Lent::Ended => Ok(ReadOutcome::Ended),
+        Lent::Refused => Ok(ReadOutcome::Refused),
     }
 }
 
@@ -248,7 +248,7 @@ fn read_mixed<T: ExtendedBufRead, I: Interrupt>(
     left: usize,
     room: &mut Vec<u8>,
     content: &mut Vec<u8>,
-) -> Result<Step, AllocError> {
+) -> Result<ReadOutcome, AllocError> {
     if random % 4 == 3 {
         lend_some(reader, random / 4, left, content)
     } else {
@@ -282,14 +282,14 @@ fn drain<T: ExtendedBufRead, I: Interrupt>(
             read_mixed(reader, random / 65_536, left, &mut room, content)
         };
         match step? {
-            Step::Took => {}
-            Step::Ended => {
+            ReadOutcome::Took => {}
+            ReadOutcome::Ended => {
                 report.word("end ");
                 report_fault(reader.fault(), report);
                 break;
             }
-            Step::Refused if counts.count(reader.fault()) => {}
-            Step::Refused => {
+            ReadOutcome::Refused if counts.count(reader.fault()) => {}
+            ReadOutcome::Refused => {
                 report_last_error(reader, report);
                 break;
             }
@@ -317,11 +317,11 @@ pub(crate) fn read_pack<T: ExtendedBufRead>(
     settings: Settings,
     report: &mut Report,
 ) -> Result<u64, AllocError> {
-    let mut told = Report::new(alloc);
+    let mut reported = Report::new(alloc);
     let mut content = Vec::new(alloc);
     let counts = {
         let mut once = Once::new(settings.interrupt);
-        let notes = Notes::new(&mut told, settings.memory);
+        let notes = Notes::new(&mut reported, settings.memory);
         let mut banded = WithSidebands::new(reader, notes, &mut once);
         let Settings { limit, seed, .. } = settings;
         let counts = drain(alloc, &mut banded, limit, seed, &mut content, report)?;
@@ -330,7 +330,7 @@ pub(crate) fn read_pack<T: ExtendedBufRead>(
     };
     report.quote(&content);
     report.word(" told ");
-    report.quote_report(&told);
+    report.quote_report(&reported);
     report.word(" ");
     report.number(counts.interrupted);
     report.word(" ");
@@ -354,15 +354,15 @@ pub(crate) fn report_pack(
         memory,
     };
     let mut device = row.device(row.payload);
-    let told = {
+    let reported = {
         let mut reader = LineReader::new(alloc, &mut device)?;
         reader.reset(version);
-        let told = read_pack(alloc, &mut reader, settings, report)?;
+        let reported = read_pack(alloc, &mut reader, settings, report)?;
         if row.fail_at == 0 {
             report_rest(&mut reader, version, report);
         }
-        told
+        reported
     };
-    report_failures(report, told, device.failures);
+    report_failures(report, reported, device.failures);
     Ok(())
 }

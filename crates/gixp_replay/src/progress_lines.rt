@@ -3,8 +3,8 @@
 //! `error` says whether it is an error of the server. The payload is a line with the name shown before, which may be empty for
 //! none, and the text.
 use crate::report::Report;
+use crate::reporting::Reporting;
 use crate::rows::{NO_YES, Row, Setting, cut_at_byte};
-use crate::telling::Telling;
 use gixp_progress::{Progress, RemoteProgress};
 use std::alloc::{AllocError, Global};
 
@@ -38,7 +38,7 @@ pub(crate) fn report_line(
         Some(line) => report_parts(report, &line),
         None => report.word("none "),
     }
-    let mut progress = Telling::new(alloc);
+    let mut progress = Reporting::new(alloc);
     if !shown.is_empty() {
         progress.set_name(String::from_utf8_lossy(alloc, shown)?);
     }

@@ -111,21 +111,21 @@ pub(crate) fn report_refs(
     let [version, by, ..] = row.settings;
     let version = version_of(version);
     let mut device = row.device(row.payload);
-    let mut told = 0u64;
+    let mut reported = 0u64;
     {
         let mut reader = LineReader::new(alloc, &mut device)?;
         reader.reset(version);
         if by == 0 {
             let _ = report_all(alloc, &mut reader, report);
         } else {
-            told = report_each(alloc, &mut reader, report);
+            reported = report_each(alloc, &mut reader, report);
         }
         if row.fail_at == 0 {
             report_rest(&mut reader, version, report);
         }
     }
     if by == 1 {
-        report_failures(report, told, device.failures);
+        report_failures(report, reported, device.failures);
     }
     Ok(())
 }

@@ -14,7 +14,7 @@ use gixp_hash::ObjectId;
 use gixp_requests::agent;
 use gixp_requests::command::{CommandTable, Feature};
 use gixp_requests::fetch::Arguments;
-use gixp_wire::Transport;
+use gixp_transport::Transport;
 use std::alloc::{AllocError, Global};
 
 pub(crate) const SETTINGS: &[Setting] = &[("version", &[], 2), ("over", BODIES_CONNECTION, 0)];

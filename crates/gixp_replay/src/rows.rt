@@ -212,17 +212,17 @@ impl<'a> Row<'a> {
 /// The error of a malformed test vector.
 #[derive(Clone, Copy, Debug, Drop, DeriveError)]
 pub(crate) enum RowError {
-    #[error("no mode of that name")]
+    #[error("there is no mode of this name")]
     Mode,
-    #[error("its mode has no such setting")]
+    #[error("its mode doesn't have this setting")]
     Setting,
-    #[error("no value of that setting")]
+    #[error("the setting doesn't have this value")]
     Value,
-    #[error("bytes without a row before them")]
+    #[error("bytes that belong to no vector")]
     Head,
-    #[error("no byte, or no end, after a backslash")]
+    #[error("an escape without a byte or an end")]
     Escape,
-    #[error("a call or a line of a script that its mode doesn't know")]
+    #[error("its mode doesn't know a word of its bytes")]
     Script,
     #[error("out of memory")]
     Memory,

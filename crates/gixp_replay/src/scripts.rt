@@ -295,8 +295,8 @@ impl<'a> Script<'a> {
         let mut script = Script::new(alloc);
         let mut rest = payload;
         for _ in 0..u64::MAX {
-            let (line, behind) = cut_at_byte(rest, b'\n');
-            rest = behind;
+            let (line, following) = cut_at_byte(rest, b'\n');
+            rest = following;
             if line.is_empty() {
                 break;
             }

@@ -20,7 +20,7 @@ use gixp_requests::fetch::Arguments;
 use gixp_requests::{Command, agent_feature};
 use gixp_response::fetch::Response;
 use gixp_sidebands::{NeverInterrupt, WithSidebands};
-use gixp_wire::{Body, Transport};
+use gixp_transport::{Body, Transport};
 use std::alloc::{AllocError, Global};
 
 pub(crate) const SETTINGS: &[Setting] = &[
@@ -63,9 +63,9 @@ fn read_answer<T: Transport>(
     if !reading.is_banded {
         return read_response(alloc, transport, reading, report);
     }
-    let mut told = Report::new(alloc);
+    let mut reported = Report::new(alloc);
     let mut never = NeverInterrupt;
-    let notes = Notes::new(&mut told, u64::MAX);
+    let notes = Notes::new(&mut reported, u64::MAX);
     let mut reader = WithSidebands::new(transport, notes, &mut never);
     read_response(alloc, &mut reader, reading, report)
 }

@@ -8,8 +8,8 @@ use crate::lines::report_rest;
 use crate::openings::parameters_of;
 use crate::refs::report_list;
 use crate::report::Report;
+use crate::reporting::Reporting;
 use crate::rows::{BODIES_CONNECTION, Row, Setting, cut_at, cut_at_byte, number};
-use crate::telling::Telling;
 use crate::values::{capability_list, client_error, parse_error, update, version_of};
 use bstr::BString;
 use gixp_doubles::{Device, Paper};
@@ -17,7 +17,7 @@ use gixp_handshake::Handshake;
 use gixp_handshake::credentials::{self, Account, Action, NextAction, Outcome};
 use gixp_handshake::handshake::{Error, handshake};
 use gixp_packetline::Protocol;
-use gixp_wire::{Bodies, Body, Connection, Opening, Service, Transport};
+use gixp_transport::{Bodies, Body, Connection, Opening, Service, Transport};
 use std::alloc::{AllocError, Global};
 use std::io::ErrorKind;
 
@@ -256,7 +256,7 @@ fn report_over<T: Transport>(
     report: &mut Report,
 ) -> Result<(), AllocError> {
     let mut helper = Helper::new(alloc, script);
-    let mut progress = Telling::new(alloc);
+    let mut progress = Reporting::new(alloc);
     let parameters = parameters_of(alloc, words, b' ')?;
     let outcome = handshake(
         alloc,

@@ -5,7 +5,7 @@ use Rattle.std.proofs.lemmas.Bool.Decides.{nat_tests}
 use Rattle.std.proofs.lemmas.List.{map-append, append-nil}
 use Rattle.std.proofs.lemmas.List.Elements.{filter-append}
 use Rattle.gixp_requests.specs.Feature.{FeatureValue, feature_text}
-use Rattle.gixp_requests.specs.Arguments.{is_on, texts_on, spaced, behind_blank}
+use Rattle.gixp_requests.specs.Arguments.{is_on, texts_on, spaced, after_blank}
 
 pub spaced-append : (xs ys : List (List ℕ)) → spaced (xs ++ ys) ≡ spaced xs ++ spaced ys
 spaced-append [] ys = refl
@@ -24,13 +24,13 @@ spaced_on-append i d xs ys =
     ∙ spaced-append (texts_on i d xs) (texts_on i d ys)
 
 -- for at least one text, a blank and the texts joined by blanks are the texts each after a blank
-pub spaced_joined : (x : List ℕ) (xs : List (List ℕ)) → spaced (x ∷ xs) ≡ behind_blank (x ∷ xs)
+pub spaced_joined : (x : List ℕ) (xs : List (List ℕ)) → spaced (x ∷ xs) ≡ after_blank (x ∷ xs)
 spaced_joined x [] = ap (λ z. 32 ∷ z) (append-nil x)
 spaced_joined x (y ∷ ys) = ap (λ z. 32 ∷ x ++ z) (spaced_joined y ys)
 
 -- a blank alone, where there is no text
 pub blank_alone : (xs : List (List ℕ)) (text : List ℕ) (n : ℕ) → n ≡ length text → true ≡ (n == 0) → text ≡ spaced xs
-    → 32 ∷ [] ≡ behind_blank xs
+    → 32 ∷ [] ≡ after_blank xs
 blank_alone [] text n len h e = refl
 blank_alone (x ∷ xs) text n len h e =
     let more : n ≡ length (x ++ spaced xs) + 1 = len ∙ ap length e ∙ omega arith in
@@ -38,7 +38,7 @@ blank_alone (x ∷ xs) text n len h e =
 
 -- otherwise each text follows its blank
 pub blanks_joined : (xs : List (List ℕ)) (text : List ℕ) (n : ℕ) → n ≡ length text → false ≡ (n == 0) → text ≡ spaced xs
-    → text ≡ behind_blank xs
+    → text ≡ after_blank xs
 blanks_joined [] text n len h e =
     let none : n ≡ 0 = len ∙ ap length e in
     let t : (n == 0) ≡ true = ap (λ m. m == 0) none in

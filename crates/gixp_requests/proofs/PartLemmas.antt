@@ -3,8 +3,8 @@ use Rattle.std.proofs.Common.{◌≡◌, ℕ, List, [], ◌∷◌, map, refl, ap
 use Rattle.std.specs.Prelude.{Bool, ◌&&◌}
 use Rattle.std.specs.List.{list_all, flat_map}
 use Rattle.std.proofs.lemmas.List.Folds.{list_all-append}
-use Rattle.gixp_wire.specs.declared.message.Message.{Message}
-use Rattle.gixp_wire.specs.Message.{text, fits, line_frame, value_frame, value_fits, message_value, message_frame, message_fits, request_frames, all_fit}
+use Rattle.gixp_transport.specs.declared.message.Message.{Message}
+use Rattle.gixp_transport.specs.Message.{text, fits, line_frame, value_frame, value_fits, message_value, message_frame, message_fits, request_frames, all_fit}
 
 -- whether they fit into packet lines
 pub fit_of_messages : (messages : List Message) → all_fit messages ≡ list_all value_fits (map message_value messages)

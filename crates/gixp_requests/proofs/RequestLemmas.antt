@@ -5,9 +5,9 @@ use Rattle.std.specs.List.{swap, position_or_len, prefix_len, slice_set, slice_i
 use Rattle.std.proofs.lemmas.List.{map-append, map-set, length-map, set-set, set-get_or, get_or-set_same}
 use Rattle.std.proofs.lemmas.List.Elements.{filter-append}
 use Rattle.std.proofs.Math.ListN.{get_or-map}
-use Rattle.gixp_wire.specs.Message.{MessageValue, text, flush, delimiter, argument_values, command_lines, command_values}
+use Rattle.gixp_transport.specs.Message.{MessageValue, text, flush, delimiter, argument_values, command_lines, command_values}
 use Rattle.gixp_requests.specs.Feature.{FeatureValue, feature_text}
-use Rattle.gixp_requests.specs.Request.{has_value, sent_features, done_line, done_lines, done_value, fetch_arguments, exchanged, want_first, flush_behind, upload_values}
+use Rattle.gixp_requests.specs.Request.{has_value, sent_features, done_line, done_lines, done_value, fetch_arguments, exchanged, want_first, flush_after, upload_values}
 
 -- an offset by a test of the results of a function
 prefix_len-map : {A B : Type 0} (p : B → Bool) (h : A → B) (xs : List A) → prefix_len p (map h xs) ≡ prefix_len (λ x. p (h x)) xs
@@ -48,10 +48,10 @@ map-exchanged f xs None = refl
 map-exchanged f xs (Some i) = map-swap f xs 0 i
 
 -- the messages of a request of versions 0 and 1, part by part
-pub upload_joined : (first lines haves : List (List ℕ)) (between behind : List MessageValue) (done : Bool)
-    → first ≡ want_first lines → between ≡ flush_behind lines → behind ≡ done_value done ∷ []
-    → map text first ++ (between ++ (map text haves ++ (behind ++ []))) ≡ upload_values lines haves done
-upload_joined first lines haves between behind done e1 e2 e3 = rw (e1, e2, e3) refl
+pub upload_joined : (first lines haves : List (List ℕ)) (between following : List MessageValue) (done : Bool)
+    → first ≡ want_first lines → between ≡ flush_after lines → following ≡ done_value done ∷ []
+    → map text first ++ (between ++ (map text haves ++ (following ++ []))) ≡ upload_values lines haves done
+upload_joined first lines haves between following done e1 e2 e3 = rw (e1, e2, e3) refl
 
 pub sent_features-append : (xs ys : List FeatureValue) → sent_features (xs ++ ys) ≡ sent_features xs ++ sent_features ys
 sent_features-append xs ys = ap (map feature_text) (filter-append has_value xs ys)

@@ -76,15 +76,15 @@ abbrev pub first_features : ArgumentsValue → List (List ℕ)
 first_features a = texts_on a.include_tag a.deepen_relative a.features ++ a.added
 
 -- a blank, and these texts joined by blanks
-abbrev pub behind_blank : List (List ℕ) → List ℕ
-behind_blank texts = 32 ∷ join_with_byte 32 texts
+abbrev pub after_blank : List (List ℕ) → List ℕ
+after_blank texts = 32 ∷ join_with_byte 32 texts
 
 -- the text after the id of the first want: under versions 0 and 1 a blank and the features, joined by blanks
-abbrev pub behind_want : ArgumentsValue → List ℕ
-behind_want a = if is_v2 a.version || a.wanted then [] else behind_blank (first_features a)
+abbrev pub after_want : ArgumentsValue → List ℕ
+after_want a = if is_v2 a.version || a.wanted then [] else after_blank (first_features a)
 
 abbrev pub want_line : List ℕ → ArgumentsValue → List ℕ
-want_line id a = codes "want " ++ (id ++ behind_want a)
+want_line id a = codes "want " ++ (id ++ after_want a)
 
 -- the arguments after each call
 abbrev pub asks_want : List ℕ → ArgumentsValue → ArgumentsValue

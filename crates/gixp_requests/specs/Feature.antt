@@ -6,7 +6,7 @@ use Rattle.std.specs.Str.{bytes_eq}
 use Rattle.std.specs.String.{string_bytes}
 use Rattle.std.specs.Borrow.{Bor}
 use Rattle.std.specs.declared.alloc.Global.{Global}
-use Rattle.gixp_wire.specs.Message.{feature_line}
+use Rattle.gixp_transport.specs.Message.{feature_line}
 
 -- a feature: its name, and its value if it has one
 pub record FeatureValue : Type 0 where

@@ -6,11 +6,11 @@ pub use Rattle.gixp_packetline.specs.FrameText
 pub use Rattle.gixp_packetline.specs.TransportState
 pub use Rattle.gixp_packetline.specs.Items
 pub use Rattle.gixp_packetline.specs.Lines
-pub use Rattle.gixp_wire.specs.Message
+pub use Rattle.gixp_transport.specs.Message
 pub use Rattle.gixp_hash.specs.ObjectId
 pub use Rattle.gixp_packetline.specs.Pieces
 pub use Rattle.gixp_packetline.specs.Reading
-pub use Rattle.gixp_wire.specs.Transport
+pub use Rattle.gixp_transport.specs.Transport
 pub mod Feature
 pub mod Command
 pub mod Arguments

@@ -5,7 +5,7 @@ use Rattle.std.specs.declared.alloc.Global.{Global}
 use Rattle.bstr.specs.Owned.{bstring_bytes}
 use Rattle.gixp_hash.specs.declared.object_id.ObjectId.{ObjectId}
 use Rattle.gixp_packetline.specs.Frames.{Frame}
-use Rattle.gixp_wire.specs.Message.{MessageValue, text, fits, line_frame, message_value}
+use Rattle.gixp_transport.specs.Message.{MessageValue, text, fits, line_frame, message_value}
 use Rattle.gixp_requests.specs.declared.fetch.arguments.line.Line.{Line}
 use Rattle.gixp_requests.specs.declared.fetch.arguments.line.Line.TheVariants.{Want, Text}
 use Rattle.gixp_requests.specs.declared.fetch.arguments.part.Part.{Part}

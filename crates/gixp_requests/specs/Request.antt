@@ -5,8 +5,8 @@ use Rattle.gixp_capabilities.specs.declared.client.Error.{Error}
 use Rattle.gixp_packetline.specs.Frames.{Frame}
 use Rattle.gixp_packetline.specs.FrameText.{texts_of}
 use Rattle.gixp_packetline.specs.Reading.{Reading}
-use Rattle.gixp_wire.specs.Message.{MessageValue, text, flush, value_frame, value_fits, command_values}
-use Rattle.gixp_wire.specs.Transport.{Sends}
+use Rattle.gixp_transport.specs.Message.{MessageValue, text, flush, value_frame, value_fits, command_values}
+use Rattle.gixp_transport.specs.Transport.{Sends}
 use Rattle.gixp_requests.specs.Feature.{FeatureValue, feature_text}
 use Rattle.gixp_requests.specs.Arguments.{ArgumentsValue, is_want, is_v2}
 
@@ -36,9 +36,9 @@ abbrev pub want_first : List (List ℕ) → List (List ℕ)
 want_first lines = exchanged lines (position is_want lines)
 
 -- a flush packet after the lines, if there are any
-abbrev pub flush_behind : List (List ℕ) → List MessageValue
-flush_behind [] = []
-flush_behind (line ∷ lines) = flush ∷ []
+abbrev pub flush_after : List (List ℕ) → List MessageValue
+flush_after [] = []
+flush_after (line ∷ lines) = flush ∷ []
 
 -- the last message of a request of version 0 or 1: `done` or a flush packet
 abbrev pub done_value : Bool → MessageValue
@@ -46,7 +46,7 @@ done_value done = if done then text done_line else flush
 
 -- the lines, a flush packet after them, the haves, and `done` or a flush packet
 abbrev pub upload_values : List (List ℕ) → List (List ℕ) → Bool → List MessageValue
-upload_values lines haves done = map text (want_first lines) ++ (flush_behind lines ++ (map text haves ++ done_value done ∷ []))
+upload_values lines haves done = map text (want_first lines) ++ (flush_after lines ++ (map text haves ++ done_value done ∷ []))
 
 -- the messages of a fetch request
 abbrev pub request_values : ArgumentsValue → Bool → List MessageValue

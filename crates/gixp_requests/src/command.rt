@@ -5,7 +5,7 @@ mod features;
 pub(crate) mod table;
 pub mod validate_argument_prefixes;
 
-pub use gixp_wire::Feature;
+pub use gixp_transport::Feature;
 pub use table::CommandTable;
 
 /// A command of version 2 (gitprotocol-v2, "Command Request").

@@ -4,7 +4,7 @@ ghost use Rattle.std.specs.String.{string_bytes};
 ghost use Rattle.gixp_requests.specs.Command.{agent_feature, agent_of};
 ghost use Rattle.gixp_requests.specs.Feature.{feature_value};
 
-use gixp_wire::Feature;
+use gixp_transport::Feature;
 use std::alloc::{AllocError, Global};
 
 /// The agent string of a client, as servers know it: its name, with `git/` before it unless the name begins with that

@@ -12,7 +12,7 @@ use Rattle.gixp_response.specs.declared.fetch.response.error.Error.{Error}
 use Rattle.gixp_response.specs.declared.fetch.response.error.Error.TheVariants.{Memory}
 use Rattle.gixp_response.specs.ResponseError.{AnswerRefusal, answer_refusal, from_reader, IsAnswerRefusal}
 use Rattle.gixp_response.specs.Answer.{AnswerValue, Found, whole, refused, front, is_of_line}
-use Rattle.gixp_response.specs.AnswerReading.{stop_of, last_stop, stop_behind, Going, IsRunning, EndsAt, ReadsAnswer, AnswerFails}
+use Rattle.gixp_response.specs.AnswerReading.{stop_of, last_stop, stop_after, Going, IsRunning, EndsAt, ReadsAnswer, AnswerFails}
 use Rattle.gixp_packetline.proofs.ReadingLemmas.{Known, known_steps}
 
 -- a special packet is not a line
@@ -151,13 +151,13 @@ last_mark taken kind at h = h ∙ sym (stands_last taken (mark kind))
 -- the packet lines taken are a response
 pub going-whole : (found k : Pieces → Found) (v : Protocol) (taken : List Piece) (old new : Reading) (value : AnswerValue)
     → Going found k taken old new → new.version ≡ v
-    → EndsAt v value.pack new.stopped → new.stopped ≡ stop_behind value.pack taken → ((q : Pieces) → k q ≡ whole value q)
+    → EndsAt v value.pack new.stopped → new.stopped ≡ stop_after value.pack taken → ((q : Pieces) → k q ≡ whole value q)
     → ReadsAnswer found v old new value
 going-whole found k v taken old new value h e r at w = record {
   taken = taken;
   took = h.took;
-  behind = no_pieces (io UnexpectedEof);
-  said = h.same (no_pieces (io UnexpectedEof)) ∙ w (no_pieces (io UnexpectedEof));
+  following = no_pieces (io UnexpectedEof);
+  response = h.same (no_pieces (io UnexpectedEof)) ∙ w (no_pieces (io UnexpectedEof));
   at = at;
   answer = known_found found k taken old.to_come new.to_come value h.same w h.took;
   running = ends_running v value.pack new.stopped r;

@@ -7,8 +7,8 @@ use Rattle.gixp_packetline.specs.Lines.{gives, stops, refuses, next_from, next_o
 use Rattle.gixp_packetline.specs.Pieces.{Refusal, Piece, line, mark, Pieces, no_pieces, with_piece, unexpected_frame}
 use Rattle.gixp_response.specs.ResponseError.{by_reader, from_reader}
 use Rattle.gixp_response.specs.Answer.{AnswerValue, Found, whole, refused, front}
-use Rattle.gixp_response.specs.Beginnings.{AnswerItem, line_item, stopped, Expected, ends, said_in, unless_ends, beginnings_from, v1_answer}
-use Rattle.gixp_response.specs.BeginningGrammar.{items_behind, AreStops, IsShortest}
+use Rattle.gixp_response.specs.Beginnings.{AnswerItem, line_item, stopped, Expected, ends, answer_in, unless_ends, beginnings_from, v1_answer}
+use Rattle.gixp_response.specs.BeginningGrammar.{items_after, AreStops, IsShortest}
 
 -- the same, after items that were read before
 record Shortest (v : Protocol) (a : Expected) (before : List AnswerItem) (p : Pieces) (value : AnswerValue) (rest : Pieces) : Type 0 where
@@ -16,10 +16,10 @@ record Shortest (v : Protocol) (a : Expected) (before : List AnswerItem) (p : Pi
   pack : Bool
   split : p ≡ front taken rest
   stops : AreStops v taken
-  ended : ends a (items_behind taken before) (next_of v rest) ≡ Some pack
-  said : value ≡ said_in (items_behind taken before) pack
+  ended : ends a (items_after taken before) (next_of v rest) ≡ Some pack
+  response : value ≡ answer_in (items_after taken before) pack
   shortest : (shorter : List Piece) (next : Piece) (more : List Piece) → taken ≡ shorter ++ next ∷ more
-      → ends a (items_behind shorter before) (next_of v (front (next ∷ more) rest)) ≡ None
+      → ends a (items_after shorter before) (next_of v (front (next ∷ more) rest)) ≡ None
 
 not_empty : (shorter : List Piece) (next : Piece) (more : List Piece) → [] ≡ shorter ++ next ∷ more → ⊥
 not_empty [] next more h = cc
@@ -30,24 +30,24 @@ whole_parts v w p q h = (cc, cc)
 
 here : (v : Protocol) (a : Expected) (before : List AnswerItem) (p : Pieces) (value : AnswerValue) (rest : Pieces) (pack : Bool)
     → ends a before (next_of v p) ≡ Some pack
-    → whole (said_in before pack) p ≡ whole value rest → Shortest v a before p value rest
+    → whole (answer_in before pack) p ≡ whole value rest → Shortest v a before p value rest
 here v a before p value rest pack e h =
-    let parts = whole_parts (said_in before pack) value p rest h in
+    let parts = whole_parts (answer_in before pack) value p rest h in
     record {
       taken = [];
       pack = pack;
       split = parts.1;
       stops = tt;
       ended = subst (λ x. ends a before (next_of v x) ≡ Some pack) parts.1 e;
-      said = sym parts.0;
+      response = sym parts.0;
       shortest = λ shorter next more k. absurd (not_empty shorter next more k);
     }
 
 -- it ends after one more packet line
 further : (v : Protocol) (a : Expected) (before : List AnswerItem) (x : Piece) (p : Pieces) (value : AnswerValue) (rest : Pieces)
     → ends a before (next_of v (with_piece x p)) ≡ None
-    → Shortest v a (items_behind (x ∷ []) before) p value rest
-    → ((ps : List Piece) → items_behind (x ∷ ps) before ≡ items_behind ps (items_behind (x ∷ []) before))
+    → Shortest v a (items_after (x ∷ []) before) p value rest
+    → ((ps : List Piece) → items_after (x ∷ ps) before ≡ items_after ps (items_after (x ∷ []) before))
     → ((ps : List Piece) → AreStops v ps → AreStops v (x ∷ ps))
     → Shortest v a before (with_piece x p) value rest
 further v a before x p value rest e h s m = record {
@@ -56,12 +56,12 @@ further v a before x p value rest e h s m = record {
   split = ap (with_piece x) h.split;
   stops = m h.taken h.stops;
   ended = ap (λ i. ends a i (next_of v rest)) (s h.taken) ∙ h.ended;
-  said = h.said ∙ ap (λ i. said_in i h.pack) (sym (s h.taken));
+  response = h.response ∙ ap (λ i. answer_in i h.pack) (sym (s h.taken));
   shortest = none_shorter;
 }
   where
     none_shorter : (shorter : List Piece) (next : Piece) (more : List Piece) → (x ∷ h.taken) ≡ shorter ++ next ∷ more
-        → ends a (items_behind shorter before) (next_of v (front (next ∷ more) rest)) ≡ None
+        → ends a (items_after shorter before) (next_of v (front (next ∷ more) rest)) ≡ None
     none_shorter [] next more k =
         let same : (x ∷ p.list) ≡ (next ∷ more) ++ rest.list = ap (λ (q : Pieces). x ∷ q.list) h.split ∙ ap (λ l. l ++ rest.list) k in
         let all : with_piece x p ≡ front (next ∷ more) rest = ap (with_piece x) h.split ∙ ap (λ l. front l rest) k in
@@ -70,7 +70,7 @@ further v a before x p value rest e h s m = record {
         let first : x ≡ y = cc in
         let others : h.taken ≡ ys ++ next ∷ more = cc in
         let one = h.shortest ys next more others in
-        subst (λ z. ends a (items_behind (z ∷ ys) before) (next_of v (front (next ∷ more) rest)) ≡ None) first
+        subst (λ z. ends a (items_after (z ∷ ys) before) (next_of v (front (next ∷ more) rest)) ≡ None) first
         (ap (λ i. ends a i (next_of v (front (next ∷ more) rest))) (s ys) ∙ one)
 
 -- it ends here, or further on
@@ -119,7 +119,7 @@ pub shortest_found : (v : Protocol) (a : Expected) (p : Pieces) (value : AnswerV
     → v1_answer v a p ≡ whole value rest → IsShortest v a p value rest
 shortest_found v a p value rest h =
     let x = found_from v a p.list p.end [] value rest h in
-    record { taken = x.taken; pack = x.pack; split = x.split; stops = x.stops; ended = x.ended; said = x.said; shortest = x.shortest }
+    record { taken = x.taken; pack = x.pack; split = x.split; stops = x.stops; ended = x.ended; response = x.response; shortest = x.shortest }
 
 -- ---- and back
 
@@ -127,14 +127,14 @@ mark_ended : (a : Expected) (before : List AnswerItem) (kind : MessageKind) (p :
     → ends a before (cond b (stops kind p) (refuses unexpected_frame)) ≡ Some pack
     → cond b (unless_ends (ends a before (stops kind p)) before (with_piece (mark kind) p) longer)
     (unless_ends (ends a before (refuses unexpected_frame)) before (with_piece (mark kind) p) (refused (by_reader unexpected_frame)))
-    ≡ whole (said_in before pack) (with_piece (mark kind) p)
+    ≡ whole (answer_in before pack) (with_piece (mark kind) p)
 mark_ended a before kind p longer pack true h = rw h refl
 mark_ended a before kind p longer pack false h = rw h refl
 
 -- where a response ends, it is read
 ended_here : (v : Protocol) (a : Expected) (list : List Piece) (end : Refusal) (before : List AnswerItem) (pack : Bool)
     → ends a before (next_from v list end) ≡ Some pack
-    → beginnings_from v a list end before ≡ whole (said_in before pack) (record { list = list; end = end })
+    → beginnings_from v a list end before ≡ whole (answer_in before pack) (record { list = list; end = end })
 ended_here v a [] end before pack h = rw h refl
 ended_here v a (line text ∷ ps) end before pack h = rw h refl
 ended_here v a (mark kind ∷ ps) end before pack h =
@@ -149,10 +149,10 @@ mark_passed a before kind p x longer other all false i n h = cc
 -- a beginning that ends a response is read if no shorter one does
 found_shortest : (v : Protocol) (a : Expected) (taken : List Piece) (rest : Pieces) (before : List AnswerItem) (pack : Bool)
     → AreStops v taken
-    → ends a (items_behind taken before) (next_of v rest) ≡ Some pack
+    → ends a (items_after taken before) (next_of v rest) ≡ Some pack
     → ((shorter : List Piece) (next : Piece) (more : List Piece) → taken ≡ shorter ++ next ∷ more
-    → ends a (items_behind shorter before) (next_of v (front (next ∷ more) rest)) ≡ None)
-    → beginnings_from v a (taken ++ rest.list) rest.end before ≡ whole (said_in (items_behind taken before) pack) rest
+    → ends a (items_after shorter before) (next_of v (front (next ∷ more) rest)) ≡ None)
+    → beginnings_from v a (taken ++ rest.list) rest.end before ≡ whole (answer_in (items_after taken before) pack) rest
 found_shortest v a [] rest before pack s e f = ended_here v a rest.list rest.end before pack e
 found_shortest v a (line text ∷ ts) rest before pack s e f =
     let none : ends a before (gives text (front ts rest)) ≡ None = f [] (line text) ts refl in
@@ -168,4 +168,4 @@ found_shortest v a (mark kind ∷ ts) rest before pack s e f =
 pub shortest_read : (v : Protocol) (a : Expected) (p : Pieces) (value : AnswerValue) (rest : Pieces) → IsShortest v a p value rest
     → v1_answer v a p ≡ whole value rest
 shortest_read v a p value rest h =
-    ap (v1_answer v a) h.split ∙ found_shortest v a h.taken rest [] h.pack h.stops h.ended h.shortest ∙ ap (λ x. whole x rest) (sym h.said)
+    ap (v1_answer v a) h.split ∙ found_shortest v a h.taken rest [] h.pack h.stops h.ended h.shortest ∙ ap (λ x. whole x rest) (sym h.response)

@@ -15,11 +15,11 @@ use Rattle.gixp_packetline.specs.Pieces.{Refusal, io, Piece, line, mark, Pieces,
 use Rattle.gixp_packetline.specs.Reading.{Reading, TakesLine, ShowsLine, TakesStop, AtStop, Reads, Faults, Fails, IsPlain, refusal_of, reset_to, Rose}
 use Rattle.gixp_response.specs.declared.fetch.response.error.Error.{Error}
 use Rattle.gixp_response.specs.declared.fetch.response.error.Error.TheVariants.{Memory}
-use Rattle.gixp_response.specs.declared.fetch.response.beginnings.Said.{Said}
-use Rattle.gixp_response.specs.declared.fetch.response.beginnings.Said.TheVariants.{Acknowledgement as SaidAcknowledgement, ShallowUpdate as SaidUpdate}
+use Rattle.gixp_response.specs.declared.fetch.response.beginnings.ResponseLine.{ResponseLine}
+use Rattle.gixp_response.specs.declared.fetch.response.beginnings.ResponseLine.TheVariants.{Acknowledgement as LineAcknowledgement, ShallowUpdate as LineUpdate}
 use Rattle.gixp_response.specs.ResponseError.{from_reader, by_reader, answer_refusal}
 use Rattle.gixp_response.specs.Answer.{AnswerValue, no_more, Found, whole, refused, front}
-use Rattle.gixp_response.specs.Beginnings.{AnswerItem, acknowledged, updated, other, stopped, line_item, item_said, is_ready, is_nak, is_stopped, is_other, is_at_end, last_is, last_two_are, Expected, ends_by_nak, ends_before, ends, said_in, said_with, unless_ends, beginnings_from, v1_answer}
+use Rattle.gixp_response.specs.Beginnings.{AnswerItem, acknowledged, updated, other, stopped, line_item, line_item_of, is_ready, is_nak, is_stopped, is_other, is_at_end, last_is, last_two_are, Expected, ends_by_nak, ends_before, ends, answer_in, answer_with, unless_ends, beginnings_from, v1_answer}
 use Rattle.gixp_response.specs.AnswerReading.{last_stop, Going, IsRunning, EndsBare, ReadsAnswer, Answered, AnswerFails}
 use Rattle.gixp_response.proofs.AnswerRunLemmas.{line_is, going-start, going-turn, going-line, going-stop, going-reset, going-whole, going-memory, going-fails, stop_taken, stands_last, last_mark}
 
@@ -39,12 +39,12 @@ pub record Read (v : Protocol) (a : Expected) (before : List AnswerItem) (old no
   pub last : SameLast taken before
 
 -- this beginning was read; it ends no response
-pub record Amid (v : Protocol) (a : Expected) (answer : AnswerValue) (came_ready behind_stop : Bool) (old now : Reading) : Type 0 where
+pub record Amid (v : Protocol) (a : Expected) (answer : AnswerValue) (received_ready follows_stop : Bool) (old now : Reading) : Type 0 where
   pub before : List AnswerItem
   pub read : Read v a before old now
-  pub answer_is : answer ≡ said_in before false
-  pub ready_is : came_ready ≡ list_any is_ready before
-  pub stop_is : behind_stop ≡ last_is is_stopped before
+  pub answer_is : answer ≡ answer_in before false
+  pub ready_is : received_ready ≡ list_any is_ready before
+  pub stop_is : follows_stop ≡ last_is is_stopped before
   pub no_nak : ends_by_nak a before ≡ false
   pub no_stops : last_two_are is_stopped before ≡ false
 
@@ -74,7 +74,7 @@ either_whole false f g h p q = q
 -- a beginning that ends a response, whatever follows
 ended_is : (v : Protocol) (a : Expected) (list : List Piece) (end : Refusal) (before : List AnswerItem) (pack : Bool)
     → ((next : Next) → ends a before next ≡ Some pack)
-    → beginnings_from v a list end before ≡ whole (said_in before pack) (record { list = list; end = end })
+    → beginnings_from v a list end before ≡ whole (answer_in before pack) (record { list = list; end = end })
 ended_is v a [] end before pack h = rw (h (refuses end)) refl
 ended_is v a (line text ∷ ps) end before pack h = rw (h (gives text (record { list = ps; end = end }))) refl
 ended_is v a (mark kind ∷ ps) end before pack h =
@@ -97,10 +97,10 @@ read_stop v a before old mid new h n t k =
     (λ q. after_stop v a before k.0 q stop n t)
 
 -- a stop is skipped
-pub amid-stop : (v : Protocol) (a : Expected) (answer : AnswerValue) (came_ready : Bool) (old mid new last : Reading)
-    → Amid v a answer came_ready false old mid → AtStop mid new → last ≡ reset_to v new
-    → Amid v a answer came_ready true old last
-amid-stop v a answer came_ready old mid new last h k e =
+pub amid-stop : (v : Protocol) (a : Expected) (answer : AnswerValue) (received_ready : Bool) (old mid new last : Reading)
+    → Amid v a answer received_ready false old mid → AtStop mid new → last ≡ reset_to v new
+    → Amid v a answer received_ready true old last
+amid-stop v a answer received_ready old mid new last h k e =
     let t = stop_taken v mid new h.read.running k in
     let went = read_stop v a h.before old mid new h.read h.no_nak h.no_stops t in
     let all = going-reset (v1_answer v a) (longer_of v a (stopped ∷ h.before)) v _ old new last went e in
@@ -139,14 +139,14 @@ ends_bare v (inl e) at h = subst (λ x. EndsBare x at) (sym e) h
 ends_bare v (inr e) at h = subst (λ x. EndsBare x at) (sym e) h
 
 -- a second stop ends the response
-pub amid-stops : (v : Protocol) (earlier : IsEarlier v) (a : Expected) (answer : AnswerValue) (came_ready : Bool)
-    (old mid new : Reading) → Amid v a answer came_ready true old mid → AtStop mid new
+pub amid-stops : (v : Protocol) (earlier : IsEarlier v) (a : Expected) (answer : AnswerValue) (received_ready : Bool)
+    (old mid new : Reading) → Amid v a answer received_ready true old mid → AtStop mid new
     → Answered (v1_answer v a) v old new answer
-amid-stops v earlier a answer came_ready old mid new h k =
+amid-stops v earlier a answer received_ready old mid new h k =
     let t = stop_taken v mid new h.read.running k in
     let went = read_stop v a h.before old mid new h.read h.no_nak h.no_stops t in
     inl (subst (ReadsAnswer (v1_answer v a) v old new) (sym h.answer_is)
-    (going-whole (v1_answer v a) (longer_of v a (stopped ∷ h.before)) v _ old new (said_in h.before false) went
+    (going-whole (v1_answer v a) (longer_of v a (stopped ∷ h.before)) v _ old new (answer_in h.before false) went
     (t.1.version ∙ h.read.running.version)
     (ends_bare v earlier new.stopped (inr (t.1.stopped
     ∙ ap Some (only_flush v earlier t.0 (subst (λ x. is_stop x t.0 ≡ true) h.read.running.version t.1.is_stop)))))
@@ -177,7 +177,7 @@ mark_at_end false kind p h = cc
 at_end_is : (v : Protocol) (a : Expected) (before : List AnswerItem) (list : List Piece) (end : Refusal)
     → ends a before (refuses (io UnexpectedEof)) ≡ Some false
     → next_from v list end ≡ refuses (io UnexpectedEof) → beginnings_from v a list end before
-    ≡ whole (said_in before false) (no_pieces (io UnexpectedEof))
+    ≡ whole (answer_in before false) (no_pieces (io UnexpectedEof))
 at_end_is v a before [] end e h = let s : end ≡ io UnexpectedEof = cc in rw (s, e) refl
 at_end_is v a before (line t ∷ ps) end e h = cc
 at_end_is v a before (mark kind ∷ ps) end e h = absurd (mark_at_end (is_stop v kind) kind (record { list = ps; end = end }) h)
@@ -222,15 +222,15 @@ fault_is_no_end old new f = let x = f.fault.0 in cc
 
 end_answers : (v : Protocol) (earlier : IsEarlier v) (a : Expected) (before : List AnswerItem) (old mid new : Reading)
     → Read v a before old mid → ends a before (refuses (io UnexpectedEof)) ≡ Some false
-    → last_is is_stopped before ≡ false → Fails mid new (io UnexpectedEof) → Answered (v1_answer v a) v old new (said_in before false)
+    → last_is is_stopped before ≡ false → Fails mid new (io UnexpectedEof) → Answered (v1_answer v a) v old new (answer_in before false)
 end_answers v earlier a before old mid new h e l (inl t) = inl (record {
   taken = h.taken;
   took = took_end v mid.version h.taken old.to_come mid.to_come new.to_come h.running.version h.going.took t.next;
-  behind = no_pieces (io UnexpectedEof);
-  said = h.going.same (no_pieces (io UnexpectedEof)) ∙ at_end_is v a before [] (io UnexpectedEof) e refl;
+  following = no_pieces (io UnexpectedEof);
+  response = h.going.same (no_pieces (io UnexpectedEof)) ∙ at_end_is v a before [] (io UnexpectedEof) e refl;
   at = t.stopped ∙ sym (h.last l);
   answer = known_end v mid.version (v1_answer v a) (longer_of v a before) h.taken old.to_come mid.to_come new.to_come
-      (said_in before false) (io UnexpectedEof)
+      (answer_in before false) (io UnexpectedEof)
       h.running.version h.going.same (λ q n. at_end_is v a before q.list q.end e n) h.going.took t.next;
   running = λ p. cc;
   stopped = ends_bare v earlier new.stopped (inl t.stopped);
@@ -241,7 +241,7 @@ end_answers v earlier a before old mid new h e l (inr (inl t)) = absurd (fault_i
 end_answers v earlier a before old mid new h e l (inr (inr t)) =
     let nothing : Pieces = no_pieces (io UnexpectedEof) in
     let all : front h.taken nothing ≡ record { list = h.taken; end = io UnexpectedEof } = rw append-nil refl in
-    let left : longer_of v a before nothing ≡ whole (said_in before false) nothing = at_end_is v a before [] (io UnexpectedEof) e refl in
+    let left : longer_of v a before nothing ≡ whole (answer_in before false) nothing = at_end_is v a before [] (io UnexpectedEof) e refl in
     inr (record {
       taken = h.taken;
       now = mid;
@@ -254,11 +254,11 @@ end_answers v earlier a before old mid new h e l (inr (inr t)) =
     })
 
 -- the end of the stream, not right after a stop
-pub amid-end : (v : Protocol) (earlier : IsEarlier v) (a : Expected) (answer : AnswerValue) (came_ready behind_stop : Bool)
-    (old mid new : Reading) (r : ReadError) → Amid v a answer came_ready behind_stop old mid
-    → Fails mid new (refusal_of r) → true ≡ (is_at_end (refusal_of r) && not behind_stop) → Answered (v1_answer v a) v old new answer
-amid-end v earlier a answer came_ready behind_stop old mid new r h f t =
-    let parts = and_parts (is_at_end (refusal_of r)) behind_stop (sym t) in
+pub amid-end : (v : Protocol) (earlier : IsEarlier v) (a : Expected) (answer : AnswerValue) (received_ready follows_stop : Bool)
+    (old mid new : Reading) (r : ReadError) → Amid v a answer received_ready follows_stop old mid
+    → Fails mid new (refusal_of r) → true ≡ (is_at_end (refusal_of r) && not follows_stop) → Answered (v1_answer v a) v old new answer
+amid-end v earlier a answer received_ready follows_stop old mid new r h f t =
+    let parts = and_parts (is_at_end (refusal_of r)) follows_stop (sym t) in
     let kind = end_is (refusal_of r) parts.0 in
     let fails : Fails mid new (io UnexpectedEof) = subst (λ x. Fails mid new x) kind f in
     let stop : false ≡ last_is is_stopped h.before = sym parts.1 ∙ h.stop_is in
@@ -290,15 +290,15 @@ refused_is v a before (mark kind ∷ ps) end r n t e h =
     mark_refused v a before (is_stop v kind) kind (record { list = ps; end = end }) _ r (goes_on a before (refuses unexpected_frame) n t) h
 
 -- an error of the reader, or an I/O error, an interrupt or an allocation failure
-pub amid-fails : (plain : Bool) (v : Protocol) (a : Expected) (answer : AnswerValue) (came_ready behind_stop : Bool)
+pub amid-fails : (plain : Bool) (v : Protocol) (a : Expected) (answer : AnswerValue) (received_ready follows_stop : Bool)
     (old mid new : Reading) (r : ReadError) (e : Error)
-    → Amid v a answer came_ready behind_stop old mid → Fails mid new (refusal_of r) → false ≡ (is_at_end (refusal_of r) && not behind_stop)
+    → Amid v a answer received_ready follows_stop old mid → Fails mid new (refusal_of r) → false ≡ (is_at_end (refusal_of r) && not follows_stop)
     → (plain ≡ true → IsPlain new (refusal_of r)) → answer_refusal e ≡ from_reader (refusal_of r)
     → AnswerFails (v1_answer v a) plain old new e
-amid-fails plain v a answer came_ready behind_stop old mid new r e h f t p is =
+amid-fails plain v a answer received_ready follows_stop old mid new r e h f t p is =
     going-fails plain (v1_answer v a) (longer_of v a h.before) v h.read.taken old mid new r e h.read.going h.read.running
     (λ q n. refused_is v a h.before q.list q.end (refusal_of r) h.no_nak h.no_stops
-    (no_end (is_at_end (refusal_of r)) (last_is is_stopped h.before) behind_stop h.stop_is t) n) f p is
+    (no_end (is_at_end (refusal_of r)) (last_is is_stopped h.before) follows_stop h.stop_is t) n) f p is
 
 -- a line that was peeked at is still to come
 known_shown : (a b : Option Pieces) (P : Pieces → Pieces → Type 0) → IfSome a (λ p. (q : Pieces) × (b ≡ Some p) × P p q)
@@ -342,7 +342,7 @@ peeked_taken mid new (Err e) p (inr (inr h)) = absurd (let x = h.unpeeked in cc)
 pack_is : (v : Protocol) (a : Expected) (before : List AnswerItem) (list : List Piece) (end : Refusal) (text : List ℕ) (rest : Pieces)
     → ends_by_nak a before ≡ false → last_two_are is_stopped before ≡ false
     → line_item text ≡ other → next_from v list end ≡ gives text rest → beginnings_from v a list end before
-    ≡ whole (said_in before true) (record { list = list; end = end })
+    ≡ whole (answer_in before true) (record { list = list; end = end })
 pack_is v a before list end text rest n t o h =
     let parts = line_is v list end text rest h in
     rw parts.0 (rw (n, t, o) refl)
@@ -360,22 +360,22 @@ known_pack v w found k taken (Some p) (Some q) n value text i s e h t =
     (q, t.1, ap found h.2 ∙ ap (λ x. found (front taken x)) (sym same) ∙ s q ∙ e q t.0 (ap (λ x. next_of x q) (sym i) ∙ t.2))
 
 -- the pack begins before another line
-pub amid-pack : (v : Protocol) (a : Expected) (answer : AnswerValue) (came_ready behind_stop : Bool) (old mid new : Reading)
-    → Amid v a answer came_ready behind_stop old mid → ShowsLine mid new
+pub amid-pack : (v : Protocol) (a : Expected) (answer : AnswerValue) (received_ready follows_stop : Bool) (old mid new : Reading)
+    → Amid v a answer received_ready follows_stop old mid → ShowsLine mid new
     → line_item new.line ≡ other → Answered (v1_answer v a) v old new (record answer { pack = true })
-amid-pack v a answer came_ready behind_stop old mid new h s o =
+amid-pack v a answer received_ready follows_stop old mid new h s o =
     let shown = read_shown v a h.before old mid new h.read s in
     let begun : Pieces = record { list = line new.line ∷ []; end = io UnexpectedEof } in
-    let value : record answer { pack = true } ≡ said_in h.before true = ap (λ (x : AnswerValue). record x { pack = true }) h.answer_is in
+    let value : record answer { pack = true } ≡ answer_in h.before true = ap (λ (x : AnswerValue). record x { pack = true }) h.answer_is in
     inl (subst (ReadsAnswer (v1_answer v a) v old new) (sym value) (record {
       taken = h.read.taken;
       took = took_same old.to_come mid.to_come new.to_come h.read.taken h.read.going.took (known_shown mid.to_come new.to_come _ s.next);
-      behind = begun;
-      said = h.read.going.same begun
+      following = begun;
+      response = h.read.going.same begun
           ∙ pack_is v a h.before (line new.line ∷ []) (io UnexpectedEof) new.line (no_pieces (io UnexpectedEof)) h.no_nak h.no_stops o refl;
       at = shown.running.stopped;
       answer = known_pack v mid.version (v1_answer v a) (longer_of v a h.before) h.read.taken old.to_come mid.to_come new.to_come
-          (said_in h.before true) new.line
+          (answer_in h.before true) new.line
           h.read.running.version h.read.going.same
           (λ q r n. pack_is v a h.before q.list q.end new.line r h.no_nak h.no_stops o n) h.read.going.took s.next;
       running = λ _. shown.running.stopped;
@@ -384,93 +384,93 @@ amid-pack v a answer came_ready behind_stop old mid new h s o =
       failures = shown.going.failures;
     }))
 
-said_is_other : (s : Said) → is_other (item_said (Some s)) ≡ false
-said_is_other (SaidAcknowledgement x) = refl
-said_is_other (SaidUpdate x) = refl
+line_is_other : (s : ResponseLine) → is_other (line_item_of (Some s)) ≡ false
+line_is_other (LineAcknowledgement x) = refl
+line_is_other (LineUpdate x) = refl
 
-said_is_stop : (s : Said) → is_stopped (item_said (Some s)) ≡ false
-said_is_stop (SaidAcknowledgement x) = refl
-said_is_stop (SaidUpdate x) = refl
+line_is_stop : (s : ResponseLine) → is_stopped (line_item_of (Some s)) ≡ false
+line_is_stop (LineAcknowledgement x) = refl
+line_is_stop (LineUpdate x) = refl
 
 after_line : (v : Protocol) (a : Expected) (before : List AnswerItem) (text : List ℕ) (i : AnswerItem) (q : Pieces)
     → ends_by_nak a before ≡ false → last_two_are is_stopped before ≡ false → line_item text ≡ i
     → is_other i ≡ false → longer_of v a before (with_piece (line text) q) ≡ longer_of v a (i ∷ before) q
 after_line v a before text i q n t e o = rw (n, t, e, o) refl
 
-read_line : (v : Protocol) (a : Expected) (before : List AnswerItem) (s : Said) (old mid new : Reading) → Read v a before old mid
+read_line : (v : Protocol) (a : Expected) (before : List AnswerItem) (s : ResponseLine) (old mid new : Reading) → Read v a before old mid
     → ends_by_nak a before ≡ false → last_two_are is_stopped before ≡ false
-    → TakesLine mid new → line_item new.line ≡ item_said (Some s) → Read v a (item_said (Some s) ∷ before) old new
+    → TakesLine mid new → line_item new.line ≡ line_item_of (Some s) → Read v a (line_item_of (Some s) ∷ before) old new
 read_line v a before s old mid new h n t k e =
     let all = going-line (v1_answer v a) (longer_of v a before) v h.taken old mid new h.going h.running k in
     record {
       taken = h.taken ++ line new.line ∷ [];
-      going = going-turn (v1_answer v a) _ (longer_of v a (item_said (Some s) ∷ before)) _ old new all.0
-          (λ q. after_line v a before new.line (item_said (Some s)) q n t e (said_is_other s));
+      going = going-turn (v1_answer v a) _ (longer_of v a (line_item_of (Some s) ∷ before)) _ old new all.0
+          (λ q. after_line v a before new.line (line_item_of (Some s)) q n t e (line_is_other s));
       running = all.1;
       last = λ _. stands_last h.taken (line new.line);
     }
 
 -- a line was peeked at and taken
-pub record Taken (v : Protocol) (a : Expected) (s : Said) (before : List AnswerItem) (old new : Reading) : Type 0 where
-  pub read : Read v a (item_said (Some s) ∷ before) old new
+pub record Taken (v : Protocol) (a : Expected) (s : ResponseLine) (before : List AnswerItem) (old new : Reading) : Type 0 where
+  pub read : Read v a (line_item_of (Some s) ∷ before) old new
 
-pub amid-line : (v : Protocol) (a : Expected) (answer : AnswerValue) (came_ready behind_stop : Bool) (s : Said)
-    (old mid shown new : Reading) (r : Result Bool ReadError) (h : Amid v a answer came_ready behind_stop old mid)
-    → ShowsLine mid shown → item_said (Some s) ≡ line_item shown.line → Reads shown new r → Taken v a s h.before old new
-amid-line v a answer came_ready behind_stop s old mid shown new r h k e t =
+pub amid-line : (v : Protocol) (a : Expected) (answer : AnswerValue) (received_ready follows_stop : Bool) (s : ResponseLine)
+    (old mid shown new : Reading) (r : Result Bool ReadError) (h : Amid v a answer received_ready follows_stop old mid)
+    → ShowsLine mid shown → line_item_of (Some s) ≡ line_item shown.line → Reads shown new r → Taken v a s h.before old new
+amid-line v a answer received_ready follows_stop s old mid shown new r h k e t =
     let taken = peeked_taken shown new r k.peeked t in
     record {
       read = read_line v a h.before s old shown new (read_shown v a h.before old mid shown h.read k) h.no_nak h.no_stops taken
           (ap line_item (taken.again k.peeked) ∙ sym e);
     }
 
-said_more : (before : List AnswerItem) (i : AnswerItem) → said_with (said_in before false) i ≡ said_in (i ∷ before) false
-said_more before (acknowledged x) = refl
-said_more before (updated x) = refl
-said_more before other = refl
-said_more before stopped = refl
+answer_more : (before : List AnswerItem) (i : AnswerItem) → answer_with (answer_in before false) i ≡ answer_in (i ∷ before) false
+answer_more before (acknowledged x) = refl
+answer_more before (updated x) = refl
+answer_more before other = refl
+answer_more before stopped = refl
 
 -- the response goes on after it
-pub amid-said : (v : Protocol) (a : Expected) (answer more : AnswerValue) (came_ready behind_stop ready : Bool) (s : Said)
-    (old mid new : Reading) (h : Amid v a answer came_ready behind_stop old mid)
-    → Taken v a s h.before old new → more ≡ said_with answer (item_said (Some s)) → ready ≡ (is_ready (item_said (Some s)) || came_ready)
-    → false ≡ ((is_nak (item_said (Some s)) && a.negotiates) && not (a.expects_pack && ready)) → Amid v a more ready false old new
-amid-said v a answer more came_ready behind_stop ready s old mid new h t m r n =
-    let i = item_said (Some s) in
-    let came : ready ≡ list_any is_ready (i ∷ h.before) = r ∙ ap (λ x. is_ready i || x) h.ready_is in
+pub amid-response_line : (v : Protocol) (a : Expected) (answer more : AnswerValue) (received_ready follows_stop ready : Bool) (s : ResponseLine)
+    (old mid new : Reading) (h : Amid v a answer received_ready follows_stop old mid)
+    → Taken v a s h.before old new → more ≡ answer_with answer (line_item_of (Some s)) → ready ≡ (is_ready (line_item_of (Some s)) || received_ready)
+    → false ≡ ((is_nak (line_item_of (Some s)) && a.negotiates) && not (a.expects_pack && ready)) → Amid v a more ready false old new
+amid-response_line v a answer more received_ready follows_stop ready s old mid new h t m r n =
+    let i = line_item_of (Some s) in
+    let received : ready ≡ list_any is_ready (i ∷ h.before) = r ∙ ap (λ x. is_ready i || x) h.ready_is in
     record {
       before = i ∷ h.before;
       read = t.read;
-      answer_is = m ∙ ap (λ x. said_with x i) h.answer_is ∙ said_more h.before i;
-      ready_is = came;
-      stop_is = sym (said_is_stop s);
-      no_nak = ap (λ x. (is_nak i && a.negotiates) && not (a.expects_pack && x)) (sym came) ∙ sym n;
-      no_stops = rw (said_is_stop s) refl;
+      answer_is = m ∙ ap (λ x. answer_with x i) h.answer_is ∙ answer_more h.before i;
+      ready_is = received;
+      stop_is = sym (line_is_stop s);
+      no_nak = ap (λ x. (is_nak i && a.negotiates) && not (a.expects_pack && x)) (sym received) ∙ sym n;
+      no_stops = rw (line_is_stop s) refl;
     }
 
 ends_nak : (a : Expected) (before : List AnswerItem) → ends_by_nak a before ≡ true → (next : Next) → ends a before next ≡ Some false
 ends_nak a before e next = rw e refl
 
 -- the response ends there
-pub amid-nak : (v : Protocol) (earlier : IsEarlier v) (a : Expected) (answer more : AnswerValue) (came_ready behind_stop ready : Bool)
-    (s : Said) (old mid new : Reading) (h : Amid v a answer came_ready behind_stop old mid)
-    → Taken v a s h.before old new → more ≡ said_with answer (item_said (Some s)) → ready ≡ (is_ready (item_said (Some s)) || came_ready)
-    → true ≡ ((is_nak (item_said (Some s)) && a.negotiates) && not (a.expects_pack && ready)) → Answered (v1_answer v a) v old new more
-amid-nak v earlier a answer more came_ready behind_stop ready s old mid new h t m r n =
-    let i = item_said (Some s) in
-    let came : ready ≡ list_any is_ready (i ∷ h.before) = r ∙ ap (λ x. is_ready i || x) h.ready_is in
-    let nak : ends_by_nak a (i ∷ h.before) ≡ true = ap (λ x. (is_nak i && a.negotiates) && not (a.expects_pack && x)) (sym came) ∙ sym n in
-    let value : more ≡ said_in (i ∷ h.before) false = m ∙ ap (λ x. said_with x i) h.answer_is ∙ said_more h.before i in
+pub amid-nak : (v : Protocol) (earlier : IsEarlier v) (a : Expected) (answer more : AnswerValue) (received_ready follows_stop ready : Bool)
+    (s : ResponseLine) (old mid new : Reading) (h : Amid v a answer received_ready follows_stop old mid)
+    → Taken v a s h.before old new → more ≡ answer_with answer (line_item_of (Some s)) → ready ≡ (is_ready (line_item_of (Some s)) || received_ready)
+    → true ≡ ((is_nak (line_item_of (Some s)) && a.negotiates) && not (a.expects_pack && ready)) → Answered (v1_answer v a) v old new more
+amid-nak v earlier a answer more received_ready follows_stop ready s old mid new h t m r n =
+    let i = line_item_of (Some s) in
+    let received : ready ≡ list_any is_ready (i ∷ h.before) = r ∙ ap (λ x. is_ready i || x) h.ready_is in
+    let nak : ends_by_nak a (i ∷ h.before) ≡ true = ap (λ x. (is_nak i && a.negotiates) && not (a.expects_pack && x)) (sym received) ∙ sym n in
+    let value : more ≡ answer_in (i ∷ h.before) false = m ∙ ap (λ x. answer_with x i) h.answer_is ∙ answer_more h.before i in
     inl (subst (ReadsAnswer (v1_answer v a) v old new) (sym value)
     (going-whole (v1_answer v a) (longer_of v a (i ∷ h.before)) v t.read.taken old new
-    (said_in (i ∷ h.before) false) t.read.going t.read.running.version
+    (answer_in (i ∷ h.before) false) t.read.going t.read.running.version
     (ends_bare v earlier new.stopped (inl t.read.running.stopped))
-    (t.read.running.stopped ∙ sym (t.read.last (said_is_stop s)))
+    (t.read.running.stopped ∙ sym (t.read.last (line_is_stop s)))
     (λ q. ended_is v a q.list q.end (i ∷ h.before) false (ends_nak a (i ∷ h.before) nak))))
 
 -- an allocation failed for its item
-pub amid-memory : (plain : Bool) (v : Protocol) (a : Expected) (s : Said) (before : List AnswerItem) (old new : Reading)
+pub amid-memory : (plain : Bool) (v : Protocol) (a : Expected) (s : ResponseLine) (before : List AnswerItem) (old new : Reading)
     → Taken v a s before old new → AnswerFails (v1_answer v a) plain old new Memory
 amid-memory plain v a s before old new t =
     going-memory plain (v1_answer v a) (longer_of v a
-    (item_said (Some s) ∷ before)) t.read.taken old new t.read.going t.read.running.stopped
+    (line_item_of (Some s) ∷ before)) t.read.taken old new t.read.going t.read.running.stopped

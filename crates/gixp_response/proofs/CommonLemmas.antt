@@ -16,9 +16,9 @@ use Rattle.gixp_response.specs.declared.fetch.response.line.Acknowledgement.{Ack
 use Rattle.gixp_response.specs.declared.fetch.response.line.Acknowledgement.TheVariants.{Common, Ready, Nak}
 use Rattle.gixp_capabilities.specs.Capabilities.{is_text}
 use Rattle.gixp_response.specs.Answer.{AnswerValue}
-use Rattle.gixp_response.specs.Beginnings.{acknowledged, said_with, is_same_common, with_acknowledgement}
+use Rattle.gixp_response.specs.Beginnings.{acknowledged, answer_with, is_same_common, with_acknowledgement}
 use Rattle.gixp_response.specs.RepeatedCommons.{flagged, named_from, AreNoted, without_repeats}
-use Rattle.gixp_repeats.specs.Repeats.{is_before, is_repeat, tested_from}
+use Rattle.gixp_utils.specs.Repeats.{is_before, is_repeat, tested_from}
 use Rattle.gixp_response.specs.declared.fetch.response.repeats.Repeats.{Repeats}
 
 not_ready : (had : List Acknowledgement) → list_any (λ x. is_same_common x Ready) had ≡ false
@@ -234,10 +234,10 @@ pub flagged_once : (all : List Acknowledgement)
 flagged_once all = kept_from all [] all [] refl (λ a. refl)
 
 -- one more acknowledgement, with and without repeats
-pub said_more : (answer : AnswerValue) (found : Acknowledgement)
+pub answer_more : (answer : AnswerValue) (found : Acknowledgement)
     → without_repeats (record answer { acknowledgements = answer.acknowledgements ++ found ∷ [] })
-    ≡ said_with (without_repeats answer) (acknowledged found)
-said_more answer found =
+    ≡ answer_with (without_repeats answer) (acknowledged found)
+answer_more answer found =
     ap (λ acks. record answer { acknowledgements = acks }) (fold-append with_acknowledgement [] answer.acknowledgements (found ∷ []))
 
 -- ---- elements that are moved to the front

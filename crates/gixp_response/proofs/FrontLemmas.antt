@@ -10,7 +10,7 @@ use Rattle.gixp_hash.specs.declared.object_id.ObjectId.{ObjectId}
 use Rattle.gixp_hash.specs.ObjectId.{id_cmp}
 use Rattle.gixp_response.specs.RepeatedCommons.{front_of, front_cmp, row_cmp}
 use Rattle.gixp_hash.specs.IdLaws.{ids_total}
-use Rattle.gixp_repeats.proofs.RepeatLemmas.{place_total}
+use Rattle.gixp_utils.proofs.RepeatLemmas.{place_total}
 
 pub fronts_total : IsTotalOrder front_cmp
 fronts_total = then_total (on_total (λ id. front_of id.bytes) nat_cmp_total) ids_total

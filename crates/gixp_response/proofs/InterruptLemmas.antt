@@ -25,16 +25,16 @@ peeked_asks A old new (Err x) p (inr (inl h)) k = absurd (let e = h.stays.unpeek
 peeked_asks A old new (Err x) p (inr (inr h)) k = absurd (let e = h.unpeeked in cc)
 
 -- a call that found the end of the stream wasn't interrupted
-pub ended_asks : (A : Bool → Type 0) (e : ReadError) (behind : Bool) → (is_at_end (refusal_of e) && not behind) ≡ true
+pub ended_asks : (A : Bool → Type 0) (e : ReadError) (following : Bool) → (is_at_end (refusal_of e) && not following) ≡ true
     → A (is_interrupted {X = Bool} (Err e)) → A false
-ended_asks A (ReadIo kind) behind h k = k
-ended_asks A (Decode x) behind h k = k
-ended_asks A (Server m) behind h k = k
-ended_asks A UnexpectedFrame behind h k = k
-ended_asks A NotUtf8 behind h k = k
-ended_asks A (BadBand b) behind h k = k
-ended_asks A Interrupted behind h k = absurd (let x = h in cc)
-ended_asks A ReadMemory behind h k = k
+ended_asks A (ReadIo kind) following h k = k
+ended_asks A (Decode x) following h k = k
+ended_asks A (Server m) following h k = k
+ended_asks A UnexpectedFrame following h k = k
+ended_asks A NotUtf8 following h k = k
+ended_asks A (BadBand b) following h k = k
+ended_asks A Interrupted following h k = absurd (let x = h in cc)
+ended_asks A ReadMemory following h k = k
 
 -- only an interrupt of the reader is an interrupt of the response
 by_refusal : (e : ReadError) → is_interrupted {X = Bool} (Err e) ≡ is_interruption (from_reader (refusal_of e))

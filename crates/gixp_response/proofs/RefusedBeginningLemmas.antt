@@ -8,7 +8,7 @@ use Rattle.gixp_packetline.specs.Pieces.{Refusal, Piece, line, mark, Pieces, no_
 use Rattle.gixp_response.specs.ResponseError.{AnswerRefusal, by_reader, from_reader}
 use Rattle.gixp_response.specs.Answer.{Found, refused, front}
 use Rattle.gixp_response.specs.Beginnings.{AnswerItem, line_item, stopped, Expected, ends, unless_ends, beginnings_from, v1_answer}
-use Rattle.gixp_response.specs.BeginningGrammar.{items_behind, AreStops, BeginningIsRefused}
+use Rattle.gixp_response.specs.BeginningGrammar.{items_after, AreStops, BeginningIsRefused}
 
 -- the same, after items that were read before
 record Refusing (v : Protocol) (a : Expected) (before : List AnswerItem) (p : Pieces) (e : AnswerRefusal) : Type 0 where
@@ -19,7 +19,7 @@ record Refusing (v : Protocol) (a : Expected) (before : List AnswerItem) (p : Pi
   refusal : Refusal
   next : next_of v rest ≡ refuses refusal
   error : e ≡ from_reader refusal
-  unended : (shorter more : List Piece) → taken ≡ shorter ++ more → ends a (items_behind shorter before) (next_of v (front more rest))
+  unended : (shorter more : List Piece) → taken ≡ shorter ++ more → ends a (items_after shorter before) (next_of v (front more rest))
       ≡ None
 
 refused_parts : (e f : AnswerRefusal) → refused e ≡ refused f → e ≡ f
@@ -39,15 +39,15 @@ refused_here v a before p e refusal n none h = record {
   unended = no_shorter;
 }
   where
-    no_shorter : (shorter more : List Piece) → [] ≡ shorter ++ more → ends a (items_behind shorter before) (next_of v (front more p)) ≡ None
+    no_shorter : (shorter more : List Piece) → [] ≡ shorter ++ more → ends a (items_after shorter before) (next_of v (front more p)) ≡ None
     no_shorter [] more k = subst (λ m. ends a before (next_of v (front m p)) ≡ None) k none
     no_shorter (x ∷ xs) more k = cc
 
 -- it fails after one more packet line
 refused_further : (v : Protocol) (a : Expected) (before : List AnswerItem) (x : Piece) (p : Pieces) (e : AnswerRefusal)
     → ends a before (next_of v (with_piece x p)) ≡ None
-    → Refusing v a (items_behind (x ∷ []) before) p e
-    → ((ps : List Piece) → items_behind (x ∷ ps) before ≡ items_behind ps (items_behind (x ∷ []) before))
+    → Refusing v a (items_after (x ∷ []) before) p e
+    → ((ps : List Piece) → items_after (x ∷ ps) before ≡ items_after ps (items_after (x ∷ []) before))
     → ((ps : List Piece) → AreStops v ps → AreStops v (x ∷ ps))
     → Refusing v a before (with_piece x p) e
 refused_further v a before x p e none h s m = record {
@@ -62,14 +62,14 @@ refused_further v a before x p e none h s m = record {
 }
   where
     no_shorter : (shorter more : List Piece) → (x ∷ h.taken) ≡ shorter ++ more
-        → ends a (items_behind shorter before) (next_of v (front more h.rest)) ≡ None
+        → ends a (items_after shorter before) (next_of v (front more h.rest)) ≡ None
     no_shorter [] more k =
         let all : with_piece x p ≡ front more h.rest = ap (with_piece x) h.split ∙ ap (λ l. front l h.rest) k in
         subst (λ q. ends a before (next_of v q) ≡ None) all none
     no_shorter (y ∷ ys) more k =
         let first : x ≡ y = cc in
         let others : h.taken ≡ ys ++ more = cc in
-        subst (λ z. ends a (items_behind (z ∷ ys) before) (next_of v (front more h.rest)) ≡ None) first
+        subst (λ z. ends a (items_after (z ∷ ys) before) (next_of v (front more h.rest)) ≡ None) first
         (ap (λ i. ends a i (next_of v (front more h.rest))) (s ys) ∙ h.unended ys more others)
 
 -- it doesn't end here
@@ -163,21 +163,21 @@ mark_passed a before kind p x longer other all true i n h = rw n h
 mark_passed a before kind p x longer other all false i n h = cc
 
 -- after packet lines none of whose beginnings ends a response
-read_behind : (v : Protocol) (a : Expected) (taken : List Piece) (rest : Pieces) (before : List AnswerItem) (refusal : Refusal)
+read_after : (v : Protocol) (a : Expected) (taken : List Piece) (rest : Pieces) (before : List AnswerItem) (refusal : Refusal)
     → AreStops v taken → next_of v rest ≡ refuses refusal
-    → ((shorter more : List Piece) → taken ≡ shorter ++ more → ends a (items_behind shorter before) (next_of v (front more rest)) ≡ None)
+    → ((shorter more : List Piece) → taken ≡ shorter ++ more → ends a (items_after shorter before) (next_of v (front more rest)) ≡ None)
     → beginnings_from v a (taken ++ rest.list) rest.end before ≡ refused (from_reader refusal)
-read_behind v a [] rest before refusal s n f = read_here v a rest.list rest.end before refusal n (f [] [] refl)
-read_behind v a (line text ∷ ts) rest before refusal s n f =
+read_after v a [] rest before refusal s n f = read_here v a rest.list rest.end before refusal n (f [] [] refl)
+read_after v a (line text ∷ ts) rest before refusal s n f =
     let none : ends a before (gives text (front ts rest)) ≡ None = f [] (line text ∷ ts) refl in
-    rw none (read_behind v a ts rest (line_item text ∷ before) refusal s n
+    rw none (read_after v a ts rest (line_item text ∷ before) refusal s n
     (λ shorter more k. f (line text ∷ shorter) more (ap (λ l. line text ∷ l) k)))
-read_behind v a (mark kind ∷ ts) rest before refusal s n f =
+read_after v a (mark kind ∷ ts) rest before refusal s n f =
     mark_passed a before kind (front ts rest) (front (mark kind ∷ ts) rest)
     (beginnings_from v a (ts ++ rest.list) rest.end (stopped ∷ before)) _ _ (is_stop v kind) s.0 (f [] (mark kind ∷ ts) refl)
-    (read_behind v a ts rest (stopped ∷ before) refusal s.1 n (λ shorter more k. f (mark kind ∷ shorter) more (ap (λ l. mark kind ∷ l) k)))
+    (read_after v a ts rest (stopped ∷ before) refusal s.1 n (λ shorter more k. f (mark kind ∷ shorter) more (ap (λ l. mark kind ∷ l) k)))
 
 -- if no beginning ends a response, reading fails
 pub refusal_read : (v : Protocol) (a : Expected) (p : Pieces) (e : AnswerRefusal) → BeginningIsRefused v a p e → v1_answer v a p ≡ refused e
-refusal_read v a p e h = ap (v1_answer v a) h.split ∙ read_behind v a h.taken h.rest [] h.refusal h.stops h.next h.unended
+refusal_read v a p e h = ap (v1_answer v a) h.split ∙ read_after v a h.taken h.rest [] h.refusal h.stops h.next h.unended
     ∙ ap refused (sym h.error)

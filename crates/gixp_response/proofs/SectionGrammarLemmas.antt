@@ -10,11 +10,11 @@ use Rattle.gixp_response.specs.declared.fetch.response.sections.Header.TheVarian
 use Rattle.gixp_response.specs.ResponseError.{AnswerRefusal}
 use Rattle.gixp_response.specs.Answer.{AnswerValue, no_more, both, Found, whole, refused, in_front}
 use Rattle.gixp_response.specs.Sections.{read_header, read_item, opened, added, closed, sections_from}
-use Rattle.gixp_response.specs.SectionGrammar.{SectionText, AreItems, IsSection, lines_to_stop, section_text, Last, pack_behind, flushed, AreSections, said_before, said_by}
+use Rattle.gixp_response.specs.SectionGrammar.{SectionText, AreItems, IsSection, lines_to_stop, section_text, Last, pack_after, flushed, AreSections, answer_before, answer_by}
 
 -- items before those of a response
 abbrev pub items_before : List AnswerValue → Found → Found
-items_before vs (whole w rest) = whole (said_before vs w) rest
+items_before vs (whole w rest) = whole (answer_before vs w) rest
 items_before vs (refused e) = refused e
 
 none_before : (f : Found) → f ≡ items_before [] f
@@ -48,8 +48,8 @@ section_read s stop rest end h =
 -- the sections are read as their items
 pub sections_read : (ps : List Piece) (ss : List SectionText) (last : Last) (rest : List Piece) (end : Refusal)
     → AreSections ps ss last rest
-    → sections_from ps end None ≡ whole (said_by ss last) (record { list = rest; end = end })
-sections_read ps [] (pack_behind header) rest end h =
+    → sections_from ps end None ≡ whole (answer_by ss last) (record { list = rest; end = end })
+sections_read ps [] (pack_after header) rest end h =
     let head : read_header header ≡ Ok Packfile = h.0 in
     rw h.1 (rw head refl)
 sections_read ps [] (flushed s) rest end h = rw h.1 (section_read s Flush rest end h.0)
@@ -62,15 +62,15 @@ record Inside (kind : Section) (ps : List Piece) (v : AnswerValue) (rest : List 
   items : List AnswerValue
   are : AreItems kind lines items
   -- a flush packet ends it, or a delimiter packet and further sections follow
-  ends : ((ps ≡ lines_to_stop lines Flush rest) × (v ≡ said_before items (no_more false)))
+  ends : ((ps ≡ lines_to_stop lines Flush rest) × (v ≡ answer_before items (no_more false)))
       ⊎ ((more : List Piece) × (ss : List SectionText) × (last : Last) × (ps ≡ lines_to_stop lines Delimiter more)
-      × AreSections more ss last rest × (v ≡ said_before items (said_by ss last)))
+      × AreSections more ss last rest × (v ≡ answer_before items (answer_by ss last)))
 
 record Sections (ps : List Piece) (v : AnswerValue) (rest : List Piece) : Type 0 where
   before : List SectionText
   last : Last
   are : AreSections ps before last rest
-  value : v ≡ said_by before last
+  value : v ≡ answer_by before last
 
 -- the packet lines at a header, or in a section
 abbrev At : Option Section → List Piece → AnswerValue → List Piece → Type 0
@@ -95,12 +95,12 @@ inside_line kind t ps rest item v w e is i = record {
   ends = ended i.ends;
 }
   where
-    ended : ((ps ≡ lines_to_stop i.lines Flush rest) × (w ≡ said_before i.items (no_more false)))
+    ended : ((ps ≡ lines_to_stop i.lines Flush rest) × (w ≡ answer_before i.items (no_more false)))
         ⊎ ((more : List Piece) × (ss : List SectionText) × (last : Last) × (ps ≡ lines_to_stop i.lines Delimiter more)
-        × AreSections more ss last rest × (w ≡ said_before i.items (said_by ss last)))
-        → (((line t ∷ ps) ≡ lines_to_stop (t ∷ i.lines) Flush rest) × (v ≡ said_before (item ∷ i.items) (no_more false)))
+        × AreSections more ss last rest × (w ≡ answer_before i.items (answer_by ss last)))
+        → (((line t ∷ ps) ≡ lines_to_stop (t ∷ i.lines) Flush rest) × (v ≡ answer_before (item ∷ i.items) (no_more false)))
         ⊎ ((more : List Piece) × (ss : List SectionText) × (last : Last) × ((line t ∷ ps) ≡ lines_to_stop (t ∷ i.lines) Delimiter more)
-        × AreSections more ss last rest × (v ≡ said_before (item ∷ i.items) (said_by ss last)))
+        × AreSections more ss last rest × (v ≡ answer_before (item ∷ i.items) (answer_by ss last)))
     ended (inl x) = inl (ap (λ y. line t ∷ y) x.0, is ∙ ap (λ (y : AnswerValue). both y.pack item y) x.1)
     ended (inr x) = inr (x.0, x.1, x.2, ap (λ y. line t ∷ y) x.3, x.4, is ∙ ap (λ (y : AnswerValue). both y.pack item y) x.5)
 
@@ -111,9 +111,9 @@ inside_header kind t ps rest v e i = ended i.ends
     section : SectionText
     section = record { header = t; kind = kind; lines = i.lines; items = i.items }
 
-    ended : ((ps ≡ lines_to_stop i.lines Flush rest) × (v ≡ said_before i.items (no_more false)))
+    ended : ((ps ≡ lines_to_stop i.lines Flush rest) × (v ≡ answer_before i.items (no_more false)))
         ⊎ ((more : List Piece) × (ss : List SectionText) × (last : Last) × (ps ≡ lines_to_stop i.lines Delimiter more)
-        × AreSections more ss last rest × (v ≡ said_before i.items (said_by ss last)))
+        × AreSections more ss last rest × (v ≡ answer_before i.items (answer_by ss last)))
         → Sections (line t ∷ ps) v rest
     ended (inl x) = record {
       before = [];
@@ -137,7 +137,7 @@ header_found t ps end v q (Ok (Of kind)) e h f = let i = f kind h in (inside_hea
 header_found t ps end v q (Ok Packfile) e h f =
     let p : Pieces = record { list = ps; end = end } in
     let s = whole_value (no_more true) v p q h in (
-      record { before = []; last = pack_behind t; are = (e, ap (λ (x : Pieces). line t ∷ x.list) s.1); value = sym s.0 },
+      record { before = []; last = pack_after t; are = (e, ap (λ (x : Pieces). line t ∷ x.list) s.1); value = sym s.0 },
       ap (λ (x : Pieces). x.end) (sym s.1),
     )
 header_found t ps end v q (Err r) e h f = cc
@@ -181,5 +181,5 @@ found_at (Some kind) (mark k ∷ ps) end v q h = stop_found kind k ps end v q h 
 
 -- a response that is read is a list of sections
 pub sections_found : (ps : List Piece) (end : Refusal) (v : AnswerValue) (q : Pieces) → sections_from ps end None ≡ whole v q
-    → (ss : List SectionText) × (last : Last) × AreSections ps ss last q.list × (q.end ≡ end) × (v ≡ said_by ss last)
+    → (ss : List SectionText) × (last : Last) × AreSections ps ss last q.list × (q.end ≡ end) × (v ≡ answer_by ss last)
 sections_found ps end v q h = let x = found_at None ps end v q h in (x.0.before, x.0.last, x.0.are, x.1, x.0.value)

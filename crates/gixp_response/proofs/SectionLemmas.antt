@@ -19,7 +19,7 @@ use Rattle.gixp_response.specs.ResponseError.{AnswerRefusal, io_failed, unknown_
 use Rattle.gixp_response.specs.Answer.{AnswerValue, no_more, both, Found, whole, refused, in_front, is_of_line}
 use Rattle.gixp_response.specs.Sections.{or_refused, header_of, item_of, read_header, read_item, closed, not_opened, is_flush, sections_from, v2_answer}
 use Rattle.gixp_response.specs.AnswerLine.{trimmed}
-use Rattle.gixp_response.specs.AnswerReading.{stop_behind, Adds, Going, IsRunning, EndsAt, ReadsAnswer, AnswerFails}
+use Rattle.gixp_response.specs.AnswerReading.{stop_after, Adds, Going, IsRunning, EndsAt, ReadsAnswer, AnswerFails}
 use Rattle.gixp_response.proofs.AnswerRunLemmas.{going-start, going-turn, going-line, going-stop, going-reset, going-whole, going-refused, going-memory, going-fails, stop_taken, last_line, last_mark}
 
 -- the rest of the response after these items, in this section or at a header
@@ -140,7 +140,7 @@ within-flush had s old mid new h a f =
     let flush : is_flush (Some t.0) ≡ true = subst (λ o. is_flush o ≡ true) t.1.stopped f in
     going-whole v2_answer _ V2 _ old new had went (t.1.version ∙ h.running.version)
     (subst (λ b. EndsAt V2 b new.stopped) (sym h.no_pack) (flush_is new.stopped f))
-    (subst (λ b. new.stopped ≡ stop_behind b (h.taken ++ mark t.0 ∷ [])) (sym h.no_pack) (last_mark h.taken t.0 new.stopped t.1.stopped))
+    (subst (λ b. new.stopped ≡ stop_after b (h.taken ++ mark t.0 ∷ [])) (sym h.no_pack) (last_mark h.taken t.0 new.stopped t.1.stopped))
     (λ q. ap (in_front had) (flushed_is t.0 q (sections_from q.list q.end None) flush) ∙ ap (λ v. whole v q) (had_all had h.no_pack))
 
 -- a stop in place of a header

@@ -23,6 +23,7 @@ pub record WantedValue : Type 0 where
 abbrev pub wanted_value : WantedRef → WantedValue
 wanted_value w = record { id = w.id.bytes; path = bstring_bytes w.path }
 
+-- the id of these 20 bytes
 abbrev pub id_from : List ℕ → ObjectId
 id_from bytes = record { bytes = bytes }
 
@@ -31,8 +32,8 @@ common_id (Common id) = Some id
 common_id _ = None
 
 -- the text after this word, if the text begins with it
-abbrev pub behind : List ℕ → List ℕ → Option (List ℕ)
-behind word text = if is_text (take (length word) text) word then Some (drop (length word) text) else None
+abbrev pub following : List ℕ → List ℕ → Option (List ℕ)
+following word text = if is_text (take (length word) text) word then Some (drop (length word) text) else None
 
 -- nothing follows, or a blank and any text
 abbrev pub ends_word : Option (List ℕ) → Bool
@@ -42,7 +43,7 @@ ends_word (Some (c ∷ cs)) = c == 32
 
 -- the text is the word, or the word followed by a blank and any text
 abbrev pub is_word : List ℕ → List ℕ → Bool
-is_word word text = ends_word (behind word text)
+is_word word text = ends_word (following word text)
 
 -- an id alone or with `common` is a common commit; an id with `ready` means only `ready`
 abbrev pub described : Option (List ℕ) → List ℕ → Option Acknowledgement
@@ -63,7 +64,7 @@ abbrev pub acknowledgement_of : List ℕ → Option Acknowledgement
 acknowledgement_of text =
     if is_word (codes "ready") text then Some Ready
     else if is_word (codes "NAK") text then Some Nak
-    else acknowledged (behind (codes "ACK ") text)
+    else acknowledged (following (codes "ACK ") text)
 
 -- an id and nothing else
 abbrev pub update_with : (ObjectId → ShallowUpdate) → List ℕ → Option ShallowUpdate
@@ -79,7 +80,7 @@ update_by None other = unshallow_by other
 
 -- `shallow` or `unshallow`, and an id
 abbrev pub shallow_update_of : List ℕ → Option ShallowUpdate
-shallow_update_of text = update_by (behind (codes "shallow ") text) (behind (codes "unshallow ") text)
+shallow_update_of text = update_by (following (codes "shallow ") text) (following (codes "unshallow ") text)
 
 abbrev pub wanted_at : List ℕ × Option (List ℕ) → Option WantedValue
 wanted_at (left, None) = None

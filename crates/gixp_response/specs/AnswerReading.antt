@@ -44,9 +44,9 @@ last_stop (p ∷ []) = stop_of p
 last_stop (p ∷ q ∷ ps) = last_stop (q ∷ ps)
 
 -- the stop after the packet lines of a response; none before a pack
-abbrev pub stop_behind : Bool → List Piece → Option MessageKind
-stop_behind true taken = None
-stop_behind false taken = last_stop taken
+abbrev pub stop_after : Bool → List Piece → Option MessageKind
+stop_after true taken = None
+stop_after false taken = last_stop taken
 
 -- where a response without a pack ends: in version 2 at a flush packet, in versions 0 and 1 at the second of two flush
 -- packets, or at no stop
@@ -64,9 +64,9 @@ EndsAt under false at = EndsBare under at
 pub record ReadsAnswer (found : Pieces → Found) (under : Protocol) (old new : Reading) (value : AnswerValue) : Type 0 where
   pub taken : List Piece
   pub took : Took taken old new
-  pub behind : Pieces
-  pub said : found (front taken behind) ≡ whole value behind
-  pub at : new.stopped ≡ stop_behind value.pack taken
+  pub following : Pieces
+  pub response : found (front taken following) ≡ whole value following
+  pub at : new.stopped ≡ stop_after value.pack taken
   pub answer : IfSome old.to_come (λ p. (q : Pieces) × (new.to_come ≡ Some q) × (found p ≡ whole value q))
   pub running : value.pack ≡ true → new.stopped ≡ None
   pub stopped : EndsAt under value.pack new.stopped

@@ -6,17 +6,17 @@ use Rattle.gixp_packetline.specs.Lines.{refuses, next_of}
 use Rattle.gixp_packetline.specs.Pieces.{Refusal, Piece, line, mark, Pieces}
 use Rattle.gixp_response.specs.ResponseError.{AnswerRefusal, from_reader}
 use Rattle.gixp_response.specs.Answer.{AnswerValue, front}
-use Rattle.gixp_response.specs.Beginnings.{AnswerItem, line_item, stopped, Expected, ends, said_in}
+use Rattle.gixp_response.specs.Beginnings.{AnswerItem, line_item, stopped, Expected, ends, answer_in}
 
 -- the items of these packet lines after the items before them, the last one first
-abbrev pub items_behind : List Piece → List AnswerItem → List AnswerItem
-items_behind [] before = before
-items_behind (line text ∷ ps) before = items_behind ps (line_item text ∷ before)
-items_behind (mark kind ∷ ps) before = items_behind ps (stopped ∷ before)
+abbrev pub items_after : List Piece → List AnswerItem → List AnswerItem
+items_after [] before = before
+items_after (line text ∷ ps) before = items_after ps (line_item text ∷ before)
+items_after (mark kind ∷ ps) before = items_after ps (stopped ∷ before)
 
 -- whether a response ends after the packet lines `taken`, and if so, whether a pack follows
-abbrev pub ends_behind : Protocol → Expected → List Piece → Pieces → Option Bool
-ends_behind version a taken rest = ends a (items_behind taken []) (next_of version rest)
+abbrev pub ends_after : Protocol → Expected → List Piece → Pieces → Option Bool
+ends_after version a taken rest = ends a (items_after taken []) (next_of version rest)
 
 -- each special packet among these packet lines is a stop
 abbrev pub AreStops : Protocol → List Piece → Type 0
@@ -30,10 +30,10 @@ pub record IsShortest (version : Protocol) (a : Expected) (p : Pieces) (value : 
   pub pack : Bool
   pub split : p ≡ front taken rest
   pub stops : AreStops version taken
-  pub ended : ends_behind version a taken rest ≡ Some pack
-  pub said : value ≡ said_in (items_behind taken []) pack
+  pub ended : ends_after version a taken rest ≡ Some pack
+  pub response : value ≡ answer_in (items_after taken []) pack
   pub shortest : (shorter : List Piece) (next : Piece) (more : List Piece) → taken ≡ shorter ++ next ∷ more
-      → ends_behind version a shorter (front (next ∷ more) rest) ≡ None
+      → ends_after version a shorter (front (next ∷ more) rest) ≡ None
 
 -- no beginning is a response, and an error comes after the longest one
 pub record BeginningIsRefused (version : Protocol) (a : Expected) (p : Pieces) (e : AnswerRefusal) : Type 0 where
@@ -44,4 +44,4 @@ pub record BeginningIsRefused (version : Protocol) (a : Expected) (p : Pieces) (
   pub refusal : Refusal
   pub next : next_of version rest ≡ refuses refusal
   pub error : e ≡ from_reader refusal
-  pub unended : (shorter more : List Piece) → taken ≡ shorter ++ more → ends_behind version a shorter (front more rest) ≡ None
+  pub unended : (shorter more : List Piece) → taken ≡ shorter ++ more → ends_after version a shorter (front more rest) ≡ None

@@ -15,8 +15,8 @@ use Rattle.gixp_response.specs.Answer.{AnswerValue, Found, whole, refused}
 use Rattle.gixp_response.specs.declared.fetch.response.line.Acknowledgement.{Acknowledgement}
 use Rattle.gixp_response.specs.declared.fetch.response.line.Acknowledgement.TheVariants.{Common, Ready, Nak}
 use Rattle.gixp_shallow.specs.declared.update.ShallowUpdate.{ShallowUpdate}
-use Rattle.gixp_response.specs.declared.fetch.response.beginnings.Said.{Said}
-use Rattle.gixp_response.specs.declared.fetch.response.beginnings.Said.TheVariants.{Acknowledgement as SaidAcknowledgement, ShallowUpdate as SaidUpdate}
+use Rattle.gixp_response.specs.declared.fetch.response.beginnings.ResponseLine.{ResponseLine}
+use Rattle.gixp_response.specs.declared.fetch.response.beginnings.ResponseLine.TheVariants.{Acknowledgement as LineAcknowledgement, ShallowUpdate as LineUpdate}
 
 -- an item of a response: an acknowledgement, a shallow update, another line, or a stop
 pub data AnswerItem : Type 0 where
@@ -68,10 +68,10 @@ last_two_are p [] = false
 last_two_are p (i ∷ before) = p i && last_is p before
 
 -- the item of a line that the code has read
-abbrev pub item_said : Option Said → AnswerItem
-item_said (Some (SaidAcknowledgement a)) = acknowledged a
-item_said (Some (SaidUpdate u)) = updated u
-item_said None = other
+abbrev pub line_item_of : Option ResponseLine → AnswerItem
+line_item_of (Some (LineAcknowledgement a)) = acknowledged a
+line_item_of (Some (LineUpdate u)) = updated u
+line_item_of None = other
 
 -- what the client expects: whether a pack follows, and whether it wants to negotiate
 pub record Expected : Type 0 where
@@ -122,19 +122,19 @@ updates_in (updated u ∷ before) = updates_in before ++ u ∷ []
 updates_in (_ ∷ before) = updates_in before
 
 -- the response that these items make
-abbrev pub said_in : List AnswerItem → Bool → AnswerValue
-said_in before pack =
+abbrev pub answer_in : List AnswerItem → Bool → AnswerValue
+answer_in before pack =
     record { acknowledgements = acknowledgements_in before; shallow_updates = updates_in before; wanted_refs = []; pack = pack }
 
 -- the response with one more item
-abbrev pub said_with : AnswerValue → AnswerItem → AnswerValue
-said_with had (acknowledged a) = record had { acknowledgements = with_acknowledgement had.acknowledgements a }
-said_with had (updated u) = record had { shallow_updates = had.shallow_updates ++ u ∷ [] }
-said_with had _ = had
+abbrev pub answer_with : AnswerValue → AnswerItem → AnswerValue
+answer_with had (acknowledged a) = record had { acknowledgements = with_acknowledgement had.acknowledgements a }
+answer_with had (updated u) = record had { shallow_updates = had.shallow_updates ++ u ∷ [] }
+answer_with had _ = had
 
 -- the response ends here, or further on
 abbrev pub unless_ends : Option Bool → List AnswerItem → Pieces → Found → Found
-unless_ends (Some pack) before rest longer = whole (said_in before pack) rest
+unless_ends (Some pack) before rest longer = whole (answer_in before pack) rest
 unless_ends None before rest longer = longer
 
 -- the response that ends after the items `before` or further on; the others are the packet lines to come

@@ -6,13 +6,13 @@ pub use Rattle.gixp_packetline.specs.FrameText
 pub use Rattle.gixp_packetline.specs.TransportState
 pub use Rattle.gixp_packetline.specs.Items
 pub use Rattle.gixp_packetline.specs.Lines
-pub use Rattle.gixp_wire.specs.Message
+pub use Rattle.gixp_transport.specs.Message
 pub use Rattle.gixp_hash.specs.ObjectId
 pub use Rattle.gixp_packetline.specs.Pieces
 pub use Rattle.gixp_packetline.specs.Reading
 pub use Rattle.gixp_packetline.specs.Runs
 pub use Rattle.gixp_packetline.specs.ReadFails
-pub use Rattle.gixp_wire.specs.Transport
+pub use Rattle.gixp_transport.specs.Transport
 pub mod AnswerLine
 pub mod ResponseError
 pub mod Answer
@@ -22,7 +22,7 @@ pub mod AnswerReading
 pub mod Features
 pub mod SectionGrammar
 pub mod BeginningGrammar
-pub use Rattle.gixp_repeats.specs.Repeats
+pub use Rattle.gixp_utils.specs.Repeats
 pub mod RepeatedCommons
 pub mod Order
 pub mod AnswerMessage

@@ -4,7 +4,7 @@ use Rattle.std.specs.declared.io.ErrorKind.{ErrorKind}
 use Rattle.bstr.specs.Owned.{bstring_bytes}
 use Rattle.gixp_packetline.specs.Pieces.{Refusal, io, server, interrupted, memory}
 use Rattle.gixp_packetline.specs.Reading.{refusal_of}
-use Rattle.gixp_wire.specs.Spurious.{is_spurious_kind, is_spurious_client}
+use Rattle.gixp_transport.specs.Spurious.{is_spurious_kind, is_spurious_client}
 use Rattle.gixp_capabilities.specs.Client.{ClientRefusal, no_memory as client_no_memory, client_refusal}
 use Rattle.gixp_packetline.specs.ReadFails.{Errors}
 use Rattle.gixp_response.specs.declared.fetch.response.error.Error.{Error}

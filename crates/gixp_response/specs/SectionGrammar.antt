@@ -39,27 +39,27 @@ section_text s stop rest = line s.header ∷ lines_to_stop s.lines stop rest
 
 -- the end of a response: the header `packfile`, or a section with a flush packet
 pub data Last : Type 0 where
-  pack_behind : List ℕ → Last
+  pack_after : List ℕ → Last
   flushed : SectionText → Last
 
 -- the packet lines are these sections, each with a delimiter packet after it, and then this end
 abbrev pub AreSections : List Piece → List SectionText → Last → List Piece → Type 0
-AreSections ps [] (pack_behind header) rest = (read_header header ≡ Ok Packfile) × (ps ≡ line header ∷ rest)
+AreSections ps [] (pack_after header) rest = (read_header header ≡ Ok Packfile) × (ps ≡ line header ∷ rest)
 AreSections ps [] (flushed s) rest = IsSection s × (ps ≡ section_text s Flush rest)
 AreSections ps (s ∷ ss) last rest = IsSection s × (more : List Piece) × (ps ≡ section_text s Delimiter more) × AreSections more ss last rest
 
 -- the items of the sections before those of the rest, each kind in order
-abbrev pub said_before : List AnswerValue → AnswerValue → AnswerValue
-said_before [] rest = rest
-said_before (v ∷ vs) rest = let more = said_before vs rest in both more.pack v more
+abbrev pub answer_before : List AnswerValue → AnswerValue → AnswerValue
+answer_before [] rest = rest
+answer_before (v ∷ vs) rest = let more = answer_before vs rest in both more.pack v more
 
-abbrev pub said_at : Last → AnswerValue
-said_at (pack_behind header) = no_more true
-said_at (flushed s) = said_before s.items (no_more false)
+abbrev pub answer_at : Last → AnswerValue
+answer_at (pack_after header) = no_more true
+answer_at (flushed s) = answer_before s.items (no_more false)
 
-abbrev pub said_by : List SectionText → Last → AnswerValue
-said_by [] last = said_at last
-said_by (s ∷ ss) last = said_before s.items (said_by ss last)
+abbrev pub answer_by : List SectionText → Last → AnswerValue
+answer_by [] last = answer_at last
+answer_by (s ∷ ss) last = answer_before s.items (answer_by ss last)
 
 -- an error in place of a header: the end of the stream, a line that is not a header, or a special packet
 abbrev pub HeaderRefused : List Piece → Refusal → AnswerRefusal → Type 0

@@ -7,18 +7,18 @@ ghost use Rattle.gixp_response.specs.Sections.{v2_answer};
 ghost use Rattle.gixp_packetline.specs.declared.protocol.Protocol.{Protocol};
 ghost use Rattle.gixp_response.specs.Beginnings.{Expected, v1_answer};
 ghost use Rattle.gixp_response.specs.BeginningGrammar.{IsShortest, BeginningIsRefused};
-ghost use Rattle.gixp_response.specs.SectionGrammar.{SectionText, Last, AreSections, said_by, AreRefused};
+ghost use Rattle.gixp_response.specs.SectionGrammar.{SectionText, Last, AreSections, answer_by, AreRefused};
 
 /// A response of version 2 that is read is a list of sections, and has the items of these sections.
 pub fn answers_are_sections()
     ensures { (p : Pieces) (value : AnswerValue) (rest : Pieces) → v2_answer p ≡ whole value rest
-        → (ss : List SectionText) × (last : Last) × AreSections p.list ss last rest.list × (rest.end ≡ p.end) × (value ≡ said_by ss last) }
+        → (ss : List SectionText) × (last : Last) × AreSections p.list ss last rest.list × (rest.end ≡ p.end) × (value ≡ answer_by ss last) }
 {}
 
 /// Each list of sections is read as a response with its items, however it is read.
 pub fn sections_are_answers()
     ensures { (ps : List Piece) (end : Refusal) (ss : List SectionText) (last : Last) (rest : List Piece) → AreSections ps ss last rest
-        → v2_answer (record { list = ps; end = end }) ≡ whole (said_by ss last) (record { list = rest; end = end }) }
+        → v2_answer (record { list = ps; end = end }) ≡ whole (answer_by ss last) (record { list = rest; end = end }) }
 {}
 
 /// A response of version 0 or 1 that is read is a beginning of the stream that ends a response, and no shorter beginning does.

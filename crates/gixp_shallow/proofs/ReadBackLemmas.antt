@@ -84,10 +84,10 @@ are_lines (s ∷ ss) good =
     subst (AllByRecursion (λ l. IsSome (id_of l))) (sym (first_back s ss good.0))
     (subst IsSome (sym (id_back s good.0)) refl, are_lines ss good.1)
 
-one_of : (P : List ℕ → Type 0) (before : List (List ℕ)) (line : List ℕ) (behind : List (List ℕ))
-    → AllByRecursion P (before ++ line ∷ behind) → P line
-one_of P [] line behind h = h.0
-one_of P (l ∷ ls) line behind h = one_of P ls line behind h.1
+one_of : (P : List ℕ → Type 0) (before : List (List ℕ)) (line : List ℕ) (following : List (List ℕ))
+    → AllByRecursion P (before ++ line ∷ following) → P line
+one_of P [] line following h = h.0
+one_of P (l ∷ ls) line following h = one_of P ls line following h.1
 
 -- ---- sets
 

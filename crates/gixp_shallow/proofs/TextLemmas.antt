@@ -75,14 +75,14 @@ are_ids (l ∷ ls) [] h = absurd h
 are_ids (l ∷ ls) (id ∷ ids) h = All-cons (λ l. IsSome (id_of l)) l ls (subst IsSome (sym h.0) refl) (are_ids ls ids h.1)
 
 -- a line that is not an id, after lines that are
-pub unread : (text : List ℕ) (before : List (List ℕ)) (ids : List ObjectId) (rest line behind : List ℕ) (e : ShallowError)
+pub unread : (text : List ℕ) (before : List (List ℕ)) (ids : List ObjectId) (rest line following : List ℕ) (e : ShallowError)
     → lines text ≡ before ++ lines rest → AllZip IsIdOf before ids
-    → lines rest ≡ line ∷ lines behind → IsNoId line e → IdTextFails text e
-unread text before ids rest line behind (Decode found) s a c n =
-    (before, line, lines behind, s ∙ ap (λ ls. before ++ ls) c, are_ids before ids a, n.0, n.1)
-unread text before ids rest line behind Memory s a c n = tt
-unread text before ids rest line behind (Io kind) s a c n = n
-unread text before ids rest line behind Locked s a c n = n
+    → lines rest ≡ line ∷ lines following → IsNoId line e → IdTextFails text e
+unread text before ids rest line following (Decode found) s a c n =
+    (before, line, lines following, s ∙ ap (λ ls. before ++ ls) c, are_ids before ids a, n.0, n.1)
+unread text before ids rest line following Memory s a c n = tt
+unread text before ids rest line following (Io kind) s a c n = n
+unread text before ids rest line following Locked s a c n = n
 
 one_more : (before : List (List ℕ)) (ids : List ObjectId) (line : List ℕ) (id : ObjectId) → AllZip IsIdOf before ids → IsIdOf line id
     → AllZip IsIdOf (before ++ line ∷ []) (ids ++ id ∷ [])
@@ -91,12 +91,12 @@ one_more [] (x ∷ xs) line id a is = absurd a
 one_more (l ∷ ls) [] line id a is = absurd a
 one_more (l ∷ ls) (x ∷ xs) line id a is = (a.0, one_more ls xs line id a.1 is)
 
-pub one_line : (text : List ℕ) (before : List (List ℕ)) (ids more : List ObjectId) (id : ObjectId) (rest line behind : List ℕ)
+pub one_line : (text : List ℕ) (before : List (List ℕ)) (ids more : List ObjectId) (id : ObjectId) (rest line following : List ℕ)
     → lines text ≡ before ++ lines rest → AllZip IsIdOf before ids
-    → lines rest ≡ line ∷ lines behind → IsIdOf line id → more ≡ ids ++ id ∷ [] → (x : List (List ℕ)) × (lines text ≡ x ++ lines behind)
+    → lines rest ≡ line ∷ lines following → IsIdOf line id → more ≡ ids ++ id ∷ [] → (x : List (List ℕ)) × (lines text ≡ x ++ lines following)
     × AllZip IsIdOf x more
-one_line text before ids more id rest line behind s a c is e = (
+one_line text before ids more id rest line following s a c is e = (
   before ++ line ∷ [],
-  s ∙ ap (λ ls. before ++ ls) c ∙ sym (append_assoc before (line ∷ []) (lines behind)),
+  s ∙ ap (λ ls. before ++ ls) c ∙ sym (append_assoc before (line ∷ []) (lines following)),
   subst (AllZip IsIdOf (before ++ line ∷ [])) (sym e) (one_more before ids line id a is),
 )

@@ -48,8 +48,8 @@ IsNoId line Locked = ⊥
 
 -- the first line that is not an id, or an allocation failure
 abbrev pub IdTextFails : List ℕ → ShallowError → Type 0
-IdTextFails text (Decode found) = (before : List (List ℕ)) × (line : List ℕ) × (behind : List (List ℕ))
-    × (lines text ≡ before ++ line ∷ behind) × All (λ l. IsSome (id_of l)) before × (id_of line ≡ None) × (bstring_bytes found ≡ line)
+IdTextFails text (Decode found) = (before : List (List ℕ)) × (line : List ℕ) × (following : List (List ℕ))
+    × (lines text ≡ before ++ line ∷ following) × All (λ l. IsSome (id_of l)) before × (id_of line ≡ None) × (bstring_bytes found ≡ line)
 IdTextFails text Memory = ⊤
 IdTextFails text (Io kind) = ⊥
 IdTextFails text Locked = ⊥

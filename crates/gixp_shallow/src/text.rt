@@ -27,10 +27,10 @@ fn id_lines(alloc: Global, ids: &[ObjectId]) -> Result<Vec<u8>, AllocError>
 {
     let mut text = Vec::new(alloc);
     let mut rest = ids;
-    while let Some((id, behind)) = rest.split_first() {
+    while let Some((id, following)) = rest.split_first() {
         text.extend_from_slice(&id.to_hex())?;
         text.push(b'\n')?;
-        rest = behind;
+        rest = following;
     }
     Ok(text)
 }
@@ -61,13 +61,13 @@ fn line_ids(alloc: Global, text: &[u8]) -> Result<Vec<ObjectId>, ShallowError>
     let mut ids = Vec::new(alloc);
     let mut rest = text;
     while !rest.is_empty() {
-        let (line, behind) = first_line(rest);
+        let (line, following) = first_line(rest);
         let id = line_id(alloc, line)?;
         match ids.push(id) {
             Ok(()) => {}
             Err(_) => return Err(ShallowError::Memory),
         }
-        rest = behind;
+        rest = following;
     }
     Ok(ids)
 }

@@ -10,7 +10,7 @@ use Rattle.gixp_packetline.specs.Items.{is_stop}
 use Rattle.gixp_packetline.specs.Lines.{gives, stops, refuses, next_from, next_of}
 use Rattle.gixp_packetline.specs.Reading.{Reading, TakesLine, ShowsLine, AtStop, Fails, IsFault, IsPlain, Rose, refusal_of, reset_to, is_interrupted}
 use Rattle.gixp_sidebands.specs.Bands.{band_of, is_held, is_begun, IsUncounted, Message}
-use Rattle.gixp_sidebands.specs.Telling.{Listener, TellsPacket}
+use Rattle.gixp_sidebands.specs.Reporting.{Listener, ReportsPacket}
 use Rattle.gixp_sidebands.specs.Questions.{one_if, is_text, IsLeft, TakesTexts, NoFewer, Asked, AskedBelow}
 use Rattle.gixp_sidebands.specs.QuestionsAgain.{takes-nothing, asked-none, asked-joins}
 use Rattle.gixp_sidebands.proofs.PieceLemmas.{mark_not_gives}
@@ -173,106 +173,106 @@ leave-takes place r new h t f = by (is_begun place) refl
         let c : band_of new.line ≡ Content = ap band_of (k.again l.1) ∙ l.0 in
         (let x = k.failures in omega (arith, x), takes-line 0 r new k (ap (λ b. one_if (is_text b)) c))
 
-module _ {I : Type 0} (says : I → Bool → I → Type 0) where
+module _ {I : Type 0} (polls : I → Bool → I → Type 0) where
   pub asked-leave : (place : Option ℕ) (r new : Reading) (x : I) → is_held place r ≡ true → (is_begun place ≡ true → TakesLine r new)
-      → (is_begun place ≡ false → new ≡ r) → Asked says false r new x x
-  asked-leave place r new x h t f = let k = leave-takes place r new h t f in asked-none says r new x k.0 k.1
+      → (is_begun place ≡ false → new ≡ r) → Asked polls false r new x x
+  asked-leave place r new x h t f = let k = leave-takes place r new h t f in asked-none polls r new x k.0 k.1
 
-  pub asked-shown : (o now new : Reading) (a b : I) → Asked says false o now a b → ShowsLine now new → Asked says false o new a b
+  pub asked-shown : (o now new : Reading) (a b : I) → Asked polls false o now a b → ShowsLine now new → Asked polls false o new a b
   asked-shown o now new a b h s = let f = s.failures in
-      asked-joins says false o now new a b b h (asked-none says now new b (omega (arith, f)) (takes-shown now new s))
+      asked-joins polls false o now new a b b h (asked-none polls now new b (omega (arith, f)) (takes-shown now new s))
 
   -- a packet without a message is taken
-  pub asked-passed : (o now new : Reading) (a b : I) → Asked says false o now a b → now.peeked ≡ true
-      → is_text (band_of now.line) ≡ false → TakesLine now new → Asked says false o new a b
+  pub asked-passed : (o now new : Reading) (a b : I) → Asked polls false o now a b → now.peeked ≡ true
+      → is_text (band_of now.line) ≡ false → TakesLine now new → Asked polls false o new a b
   asked-passed o now new a b h p k t =
       let f = t.failures in
       let e : one_if (is_text (band_of new.line)) ≡ 0 = ap (λ l. one_if (is_text (band_of l))) (t.again p) ∙ ap one_if k in
-      asked-joins says false o now new a b b h (asked-none says now new b (omega (arith, f)) (takes-line 0 now new t e))
+      asked-joins polls false o now new a b b h (asked-none polls now new b (omega (arith, f)) (takes-line 0 now new t e))
 
-  pub asked-empty : (o now mid new : Reading) (a b : I) → Asked says false o now a b → ShowsLine now mid → band_of mid.line ≡ Empty
-      → TakesLine mid new → Asked says false o new a b
+  pub asked-empty : (o now mid new : Reading) (a b : I) → Asked polls false o now a b → ShowsLine now mid → band_of mid.line ≡ Empty
+      → TakesLine mid new → Asked polls false o new a b
   asked-empty o now mid new a b h s k t =
       asked-passed o mid new a b (asked-shown o now mid a b h s) s.peeked (ap is_text k) t
 
-  pub below-content : (plain : Bool) (o now new : Reading) (a b : I) → AskedBelow says plain false o now a b
-      → band_of now.line ≡ Content → now.peeked ≡ true → TakesLine now new → AskedBelow says plain false o new a b
+  pub below-content : (plain : Bool) (o now new : Reading) (a b : I) → AskedBelow polls plain false o now a b
+      → band_of now.line ≡ Content → now.peeked ≡ true → TakesLine now new → AskedBelow polls plain false o new a b
   below-content plain o now new a b (inl h) k p t = inl (asked-passed o now new a b h p (ap is_text k) t)
   below-content plain o now new a b (inr h) k p t = absurd (let e = h.1 in cc)
 
   -- the reader goes on after a stop
-  pub asked-reset : (version : Protocol) (r new : Reading) (x : I) → new ≡ reset_to version r → Asked says false r new x x
-  asked-reset version r new x e = subst (λ (n : Reading). Asked says false r n x x) (sym e)
-      (asked-none says r (reset_to version r) x (omega arith) (takes-nothing r (reset_to version r) (same r.to_come)))
+  pub asked-reset : (version : Protocol) (r new : Reading) (x : I) → new ≡ reset_to version r → Asked polls false r new x x
+  asked-reset version r new x e = subst (λ (n : Reading). Asked polls false r n x x) (sym e)
+      (asked-none polls r (reset_to version r) x (omega arith) (takes-nothing r (reset_to version r) (same r.to_come)))
     where
       same : (o : Option Pieces) → IfSome o (λ p. o ≡ Some p)
       same None = tt
       same (Some p) = refl
 
-  pub asked-stop : (o now new : Reading) (a b : I) → Asked says false o now a b → AtStop now new → Asked says false o new a b
+  pub asked-stop : (o now new : Reading) (a b : I) → Asked polls false o now a b → AtStop now new → Asked polls false o new a b
   asked-stop o now new a b h s =
-      asked-joins says false o now new a b b h (asked-none says now new b (by s) (takes-stop now new s))
+      asked-joins polls false o now new a b b h (asked-none polls now new b (by s) (takes-stop now new s))
     where
       by : AtStop now new → NoFewer now new
       by (inl s) = let f = s.failures in omega (arith, f)
       by (inr s) = let f = s.1.failures in omega (arith, f)
 
-  asked-fails : (o now new : Reading) (a b : I) (e : Refusal) → Asked says false o now a b → Fails now new e → Asked says false o new a b
+  asked-fails : (o now new : Reading) (a b : I) (e : Refusal) → Asked polls false o now a b → Fails now new e → Asked polls false o new a b
   asked-fails o now new a b e h f =
-      asked-joins says false o now new a b b h (asked-none says now new b (fails-rise now new e f) (takes-fails now new e f))
+      asked-joins polls false o now new a b b h (asked-none polls now new b (fails-rise now new e f) (takes-fails now new e f))
 
   -- a message is reported, and the interrupt is called
-  asked-text : (answer : Bool) (o now mid new : Reading) (a b c : I) (is_error : Bool) → Asked says false o now a b → ShowsLine now mid
-      → band_of mid.line ≡ Text is_error → TakesLine mid new → says b answer c → Asked says answer o new a c
+  asked-text : (answer : Bool) (o now mid new : Reading) (a b c : I) (is_error : Bool) → Asked polls false o now a b → ShowsLine now mid
+      → band_of mid.line ≡ Text is_error → TakesLine mid new → polls b answer c → Asked polls answer o new a c
   asked-text answer o now mid new a b c is_error h s k t w =
-      asked-joins says answer o mid new a b c (asked-shown o now mid a b h s) (by answer w)
+      asked-joins polls answer o mid new a b c (asked-shown o now mid a b h s) (by answer w)
     where
       e : one_if (is_text (band_of new.line)) ≡ 1
       e = ap (λ l. one_if (is_text (band_of l))) (t.again s.peeked) ∙ ap (λ x. one_if (is_text x)) k
 
-      by : (answer : Bool) → says b answer c → Asked says answer mid new b c
+      by : (answer : Bool) → polls b answer c → Asked polls answer mid new b c
       by false w = record {
         after = c ∷ [];
-        said = (w, refl);
+        polled = (w, refl);
         failures = let f = t.failures in omega (arith, f);
         each = takes-line 1 mid new t e;
       }
       by true w = record {
         after = [];
-        said = w;
+        polled = w;
         failures = let f = t.failures in omega (arith, f);
         each = takes-line 1 mid new t e;
       }
 
-  pub asked-more : (o now mid new : Reading) (a b c : I) (is_error : Bool) → Asked says false o now a b → ShowsLine now mid
-      → band_of mid.line ≡ Text is_error → TakesLine mid new → says b false c → Asked says false o new a c
+  pub asked-more : (o now mid new : Reading) (a b c : I) (is_error : Bool) → Asked polls false o now a b → ShowsLine now mid
+      → band_of mid.line ≡ Text is_error → TakesLine mid new → polls b false c → Asked polls false o new a c
   asked-more o now mid new a b c is_error = asked-text false o now mid new a b c is_error
 
   -- a packet is reported, or its report fails
-  pub asked-tell : {P : Type 0} (hears spares : P → Bool → List ℕ → P → Type 0) (X Y : Type 0) (plain : Bool) (m : Message)
-      (o now mid new : Reading) (a : I) (b c : Listener P I) (is_error : Bool) (e : Error) → Asked says false o now a b.interrupt
-      → ShowsLine now mid → band_of mid.line ≡ Text is_error → TellsPacket hears spares says {X = X} m mid new b c (Err e)
-      → AskedBelow says plain (is_interrupted {X = Y} (Err e)) o new a c.interrupt
-  asked-tell hears spares X Y plain m o now mid new a b c is_error Interrupted h s k t =
+  pub asked-tell : {P : Type 0} (receives spares : P → Bool → List ℕ → P → Type 0) (X Y : Type 0) (plain : Bool) (m : Message)
+      (o now mid new : Reading) (a : I) (b c : Listener P I) (is_error : Bool) (e : Error) → Asked polls false o now a b.interrupt
+      → ShowsLine now mid → band_of mid.line ≡ Text is_error → ReportsPacket receives spares polls {X = X} m mid new b c (Err e)
+      → AskedBelow polls plain (is_interrupted {X = Y} (Err e)) o new a c.interrupt
+  asked-tell receives spares X Y plain m o now mid new a b c is_error Interrupted h s k t =
       inl (asked-text true o now mid new a b.interrupt c.interrupt is_error h s k t.0 t.1.1)
-  asked-tell hears spares X Y plain m o now mid new a b c is_error Memory h s k t =
-      inl (subst (λ x. Asked says false o new a x) (sym t.1.1)
-      (subst (λ (r : Reading). Asked says false o r a b.interrupt) (sym t.0) (asked-shown o now mid a b.interrupt h s)))
-  asked-tell hears spares X Y plain m o now mid new a b c is_error (Io kind) h s k t = absurd t
-  asked-tell hears spares X Y plain m o now mid new a b c is_error (Decode x) h s k t = absurd t
-  asked-tell hears spares X Y plain m o now mid new a b c is_error (Server x) h s k t = absurd t
-  asked-tell hears spares X Y plain m o now mid new a b c is_error UnexpectedFrame h s k t = absurd t
-  asked-tell hears spares X Y plain m o now mid new a b c is_error NotUtf8 h s k t = absurd t
-  asked-tell hears spares X Y plain m o now mid new a b c is_error (BadBand x) h s k t = absurd t
+  asked-tell receives spares X Y plain m o now mid new a b c is_error Memory h s k t =
+      inl (subst (λ x. Asked polls false o new a x) (sym t.1.1)
+      (subst (λ (r : Reading). Asked polls false o r a b.interrupt) (sym t.0) (asked-shown o now mid a b.interrupt h s)))
+  asked-tell receives spares X Y plain m o now mid new a b c is_error (Io kind) h s k t = absurd t
+  asked-tell receives spares X Y plain m o now mid new a b c is_error (Decode x) h s k t = absurd t
+  asked-tell receives spares X Y plain m o now mid new a b c is_error (Server x) h s k t = absurd t
+  asked-tell receives spares X Y plain m o now mid new a b c is_error UnexpectedFrame h s k t = absurd t
+  asked-tell receives spares X Y plain m o now mid new a b c is_error NotUtf8 h s k t = absurd t
+  asked-tell receives spares X Y plain m o now mid new a b c is_error (BadBand x) h s k t = absurd t
 
   not_plain : (plain : Bool) (new : Reading) → (plain ≡ true → IsPlain new interrupted) → plain ≡ false
   not_plain false new f = refl
   not_plain true new f = absurd (f refl)
 
   -- the reader below fails
-  pub asked-below : (X : Type 0) (plain : Bool) (o now new : Reading) (a b : I) (e : Error) → Asked says false o now a b
+  pub asked-below : (X : Type 0) (plain : Bool) (o now new : Reading) (a b : I) (e : Error) → Asked polls false o now a b
       → Fails now new (refusal_of e) → (plain ≡ true → IsPlain new (refusal_of e))
-      → AskedBelow says plain (is_interrupted {X = X} (Err e)) o new a b
+      → AskedBelow polls plain (is_interrupted {X = X} (Err e)) o new a b
   asked-below X plain o now new a b Interrupted h f p =
       inr (not_plain plain new p, refl, asked-fails o now new a b interrupted h f)
   asked-below X plain o now new a b Memory h f p = inl (asked-fails o now new a b memory h f)

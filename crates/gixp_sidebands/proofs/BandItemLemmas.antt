@@ -8,7 +8,7 @@ use Rattle.gixp_sidebands.specs.declared.sidebands.band.Band.TheVariants.{Empty,
 use Rattle.gixp_packetline.specs.Pieces.{Refusal, bad_band, unexpected_frame, Piece, line, mark, Pieces}
 use Rattle.gixp_packetline.specs.Items.{is_stop, plain, banded, Item, line_item, text_item, stop_item, item_of, unless_empty, Items, with_found, items_from, items_of, with_item, no_items, first_lines}
 use Rattle.gixp_packetline.specs.Lines.{lines_of, lines_from, no_lines, stop, refusal}
-use Rattle.gixp_sidebands.specs.Bands.{band_of, unband_line, unband_from, content_from, Message, messages_line, messages_from, joined, heard_before, heard, first_texts, without_texts}
+use Rattle.gixp_sidebands.specs.Bands.{band_of, unband_line, unband_from, content_from, Message, messages_line, messages_from, joined, messages_before, received_messages, first_texts, without_texts}
 
 -- the item of a line, by its band
 abbrev item_by : Band → List ℕ → Result (Option Item) Refusal
@@ -44,7 +44,7 @@ no_line is_error [] rest = refl
 no_line is_error (x ∷ xs) rest = refl
 
 one_text : (is_error : Bool) (text : List ℕ) (rest : Items) → first_texts
-    (with_found (Ok (unless_empty (text_item is_error) text)) rest).list ≡ heard_before is_error text (first_texts rest.list)
+    (with_found (Ok (unless_empty (text_item is_error) text)) rest).list ≡ messages_before is_error text (first_texts rest.list)
 one_text is_error [] rest = refl
 one_text is_error (x ∷ xs) rest = refl
 
@@ -85,11 +85,11 @@ pub content_items : (v : Protocol) (list : List Piece) (end : Refusal)
     → content_from (unband_from list end).list ≡ joined (first_lines (items_from v banded list end)).lines
 content_items v list end = joined_lines v (unband_from list end).list (unband_from list end).end ∙ ap joined (content_lines v list end)
 
-text_step : (k : Band) (text : List ℕ) (rest : List Message) (items : Items) → heard rest ≡ first_texts items.list
-    → heard (messages_line k text rest) ≡ first_texts (with_found (item_by k text) items).list
+text_step : (k : Band) (text : List ℕ) (rest : List Message) (items : Items) → received_messages rest ≡ first_texts items.list
+    → received_messages (messages_line k text rest) ≡ first_texts (with_found (item_by k text) items).list
 text_step Empty text rest items h = h
 text_step Content text rest items h = h
-text_step (Text b) text rest items h = ap (heard_before b (strip_last 10 (drop 1 text))) h
+text_step (Text b) text rest items h = ap (messages_before b (strip_last 10 (drop 1 text))) h
     ∙ sym (one_text b (strip_last 10 (drop 1 text)) items)
 text_step (Unknown b) text rest items h = refl
 
@@ -100,7 +100,7 @@ texts_mark false kind items = refl
 
 -- the reported messages are the texts among the banded items
 pub messages_items : (v : Protocol) (list : List Piece) (end : Refusal)
-    → heard (messages_from list) ≡ first_texts (items_from v banded list end).list
+    → received_messages (messages_from list) ≡ first_texts (items_from v banded list end).list
 messages_items v [] end = refl
 messages_items v (line text ∷ ps) end =
     text_step (band_of text) text (messages_from ps) (items_from v banded ps end) (messages_items v ps end)

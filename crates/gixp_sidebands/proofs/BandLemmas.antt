@@ -13,7 +13,7 @@ use Rattle.gixp_packetline.specs.Items.{is_stop}
 use Rattle.gixp_packetline.specs.Lines.{gives, stops, refuses, next_from, next_of}
 use Rattle.gixp_packetline.specs.TransportState.{TransportState}
 use Rattle.gixp_packetline.specs.Reading.{Reading, TakesLine, ShowsLine, AtStop, Refuses, Faults, Fails, Stays, IsFault, Rose}
-use Rattle.gixp_sidebands.specs.Bands.{band_of, is_content, band_refusal, IsPassed, unband_line, unband_from, unband, unband_behind, banded_reading, is_begun}
+use Rattle.gixp_sidebands.specs.Bands.{band_of, is_content, band_refusal, IsPassed, unband_line, unband_from, unband, unband_after, banded_reading, is_begun}
 use Rattle.gixp_sidebands.proofs.PieceLemmas.{mark_not_gives}
 
 -- the content of banded packet lines, by the next line
@@ -28,14 +28,14 @@ unband_gives v (line t ∷ ps) end text q h =
 unband_gives v (mark kind ∷ ps) end text q h =
     absurd (mark_not_gives (is_stop v kind) kind (record { list = ps; end = end }) q unexpected_frame text h)
 
-behind_gives : (v : Protocol) (list : List Piece) (end : Refusal) (text : List ℕ) (q : Pieces) → next_from v list end ≡ gives text q
-    → unband_behind (record { list = list; end = end }) ≡ unband q
-behind_gives v [] end text q h = cc
-behind_gives v (line t ∷ ps) end text q h =
+following_gives : (v : Protocol) (list : List Piece) (end : Refusal) (text : List ℕ) (q : Pieces) → next_from v list end ≡ gives text q
+    → unband_after (record { list = list; end = end }) ≡ unband q
+following_gives v [] end text q h = cc
+following_gives v (line t ∷ ps) end text q h =
     let p : Pieces = record { list = ps; end = end } in
     let e2 : p ≡ q = cc in
     rw (← e2) refl
-behind_gives v (mark kind ∷ ps) end text q h =
+following_gives v (mark kind ∷ ps) end text q h =
     absurd (mark_not_gives (is_stop v kind) kind (record { list = ps; end = end }) q unexpected_frame text h)
 
 unband_stops : (v : Protocol) (list : List Piece) (end : Refusal) (kind : MessageKind) (q : Pieces) → next_from v list end ≡ stops kind q
@@ -100,16 +100,16 @@ skipping-start name r = record {
     same None = tt
     same (Some p) = refl
 
-behind_next : (a b : Option Pieces) (v : Protocol) (text : List ℕ)
+following_next : (a b : Option Pieces) (v : Protocol) (text : List ℕ)
     → IfSome a (λ p. (q : Pieces) × (b ≡ Some q) × (next_of v p ≡ gives text q))
-    → IfSome (option_map unband_behind a) (λ p. option_map unband b ≡ Some p)
-behind_next None b v text n = tt
-behind_next (Some p) b v text n = ap (option_map unband) n.1 ∙ ap Some (sym (behind_gives v p.list p.end text n.0 n.2))
+    → IfSome (option_map unband_after a) (λ p. option_map unband b ≡ Some p)
+following_next None b v text n = tt
+following_next (Some p) b v text n = ap (option_map unband) n.1 ∙ ap Some (sym (following_gives v p.list p.end text n.0 n.2))
 
 -- after a packet that was begun
-pub skipping-behind : (name : GName) (r now : Reading) → TakesLine r now → Skipping (banded_reading true name r) name now
-skipping-behind name r now t = record {
-  to_come = behind_next r.to_come now.to_come r.version now.line t.next;
+pub skipping-following : (name : GName) (r now : Reading) → TakesLine r now → Skipping (banded_reading true name r) name now
+skipping-following name r now t = record {
+  to_come = following_next r.to_come now.to_come r.version now.line t.next;
   stopped = t.stopped ∙ sym t.running;
   version = t.version;
   failures = t.failures;
@@ -522,7 +522,7 @@ fails_above o now new name e s (inr (inr h)) =
 pub skipping-init : (begun : Bool) (name name' : GName) (r new : Reading) → name' ≡ name → (begun ≡ true → TakesLine r new)
     → (begun ≡ false → new ≡ r)
     → Skipping (banded_reading begun name r) name' new
-skipping-init true name name' r new e t f = rw e (skipping-behind name r new (t refl))
+skipping-init true name name' r new e t f = rw e (skipping-following name r new (t refl))
 skipping-init false name name' r new e t f =
     rw e (subst (λ (x : Reading). Skipping (seen name r) name x) (sym (f refl)) (skipping-start name r))
 

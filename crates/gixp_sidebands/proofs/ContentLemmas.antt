@@ -289,16 +289,16 @@ at_stop : (s : Option MessageKind) (q : Pieces) → IsSome s → content_left No
 at_stop None q h = absurd (let x = h in cc)
 at_stop (Some kind) q h = refl
 
-stop_behind : (old new : Reading) → AtStop old new → IfSome old.to_come (λ p. (y : Pieces) × (new.to_come ≡ Some y)
+stop_after : (old new : Reading) → AtStop old new → IfSome old.to_come (λ p. (y : Pieces) × (new.to_come ≡ Some y)
     × ((q : Pieces) → unband q ≡ y → content_left None new.stopped q ≡ []))
-stop_behind old new (inl h) = at old.to_come h.stays.to_come
+stop_after old new (inl h) = at old.to_come h.stays.to_come
   where
     at : (o : Option Pieces) → IfSome o (λ p. new.to_come ≡ Some p)
         → IfSome o (λ p. (y : Pieces) × (new.to_come ≡ Some y) × ((q : Pieces) → unband q ≡ y → content_left None new.stopped q ≡ []))
     at None k = tt
     at (Some p) k =
         (p, k, λ q _. at_stop new.stopped q (let P : Option MessageKind → Type 0 = IsSome in subst P (sym h.stays.stopped) h.was))
-stop_behind old new (inr h) = at old.to_come h.1.next
+stop_after old new (inr h) = at old.to_come h.1.next
   where
     at : (o : Option Pieces) → IfSome o (λ p. (q : Pieces) × (new.to_come ≡ Some q) × (next_of old.version p ≡ stops h.0 q))
         → IfSome o (λ p. (y : Pieces) × (new.to_come ≡ Some y) × ((q : Pieces) → unband q ≡ y → content_left None new.stopped q ≡ []))
@@ -319,7 +319,7 @@ ends_content_at old new o n f h =
     record {
       at_stop = h;
       content = none;
-      rest = empty_passes old new o n none (stop_behind (banded_reading false old.name old.reading)
+      rest = empty_passes old new o n none (stop_after (banded_reading false old.name old.reading)
           (banded_reading false new.name new.reading) k);
       ending = stop_keeps_end old new o n h;
       bound = rw (o, n) (let a = stop_left (banded_reading false old.name old.reading) (banded_reading false new.name new.reading) k in
@@ -418,9 +418,9 @@ fault_passes old new x o n h =
 refused_empty : (s : Option MessageKind) (x : Refusal) (q : Pieces) → s ≡ None → unband q ≡ no_pieces x → content_left None s q ≡ []
 refused_empty s x q e u = rw e (ap (λ y. content_from y.list) u)
 
-refusal_behind : (old new : Reading) (x : Refusal) → Refuses old new x → IfSome old.to_come (λ p. (y : Pieces) × (new.to_come ≡ Some y)
+refusal_after : (old new : Reading) (x : Refusal) → Refuses old new x → IfSome old.to_come (λ p. (y : Pieces) × (new.to_come ≡ Some y)
     × ((q : Pieces) → unband q ≡ y → content_left None new.stopped q ≡ []))
-refusal_behind old new x h = at old.to_come h.next
+refusal_after old new x h = at old.to_come h.next
   where
     at : (o : Option Pieces) → IfSome o (λ p. (new.to_come ≡ Some (no_pieces x)) × (next_of old.version p ≡ refuses x))
         → IfSome o (λ p. (y : Pieces) × (new.to_come ≡ Some y) × ((q : Pieces) → unband q ≡ y → content_left None new.stopped q ≡ []))
@@ -481,7 +481,7 @@ refuses_by old new x e o n f k (inl h) =
       place = n;
       lost = [];
       rest = empty_passes old new o n (ends_at old new x o h)
-          (refusal_behind (banded_reading false old.name old.reading) (banded_reading false new.name new.reading) x g);
+          (refusal_after (banded_reading false old.name old.reading) (banded_reading false new.name new.reading) x g);
       ending = refusal_keeps_end old new o n x (inl h);
       bound = rw (o, n) (let a = g.left in omega arith);
       keeps = λ _. refl;

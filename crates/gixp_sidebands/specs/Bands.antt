@@ -60,13 +60,13 @@ unband_from (mark kind ∷ ps) end = with_piece (mark kind) (unband_from ps end)
 abbrev pub unband : Pieces → Pieces
 unband ps = unband_from ps.list ps.end
 
-abbrev pub unband_behind_from : List Piece → Refusal → Pieces
-unband_behind_from [] end = no_pieces end
-unband_behind_from (p ∷ ps) end = unband_from ps end
+abbrev pub unband_after_from : List Piece → Refusal → Pieces
+unband_after_from [] end = no_pieces end
+unband_after_from (p ∷ ps) end = unband_from ps end
 
 -- the content after the first packet line
-abbrev pub unband_behind : Pieces → Pieces
-unband_behind ps = unband_behind_from ps.list ps.end
+abbrev pub unband_after : Pieces → Pieces
+unband_after ps = unband_after_from ps.list ps.end
 
 abbrev pub content_from : List Piece → List ℕ
 content_from [] = []
@@ -164,7 +164,7 @@ KeepsEndUncounted old new = IsUncounted old new → KeepsEnd old new
 -- begun counts as taken
 abbrev pub banded_reading : Bool → GName → Reading → Reading
 banded_reading begun name r = record {
-  to_come = option_map (if begun then unband_behind else unband) r.to_come;
+  to_come = option_map (if begun then unband_after else unband) r.to_come;
   refused = if begun then None else if r.peeked then band_refusal (band_of r.line) else r.refused;
   stopped = r.stopped;
   version = r.version;
@@ -307,13 +307,13 @@ joined [] = []
 joined (xs ∷ xss) = xs ++ joined xss
 
 -- a message is reported unless its text is empty
-abbrev pub heard_before : Bool → List ℕ → List Message → List Message
-heard_before is_error [] rest = rest
-heard_before is_error (x ∷ xs) rest = record { is_error = is_error; text = x ∷ xs } ∷ rest
+abbrev pub messages_before : Bool → List ℕ → List Message → List Message
+messages_before is_error [] rest = rest
+messages_before is_error (x ∷ xs) rest = record { is_error = is_error; text = x ∷ xs } ∷ rest
 
-abbrev pub heard : List Message → List Message
-heard [] = []
-heard (m ∷ ms) = heard_before m.is_error m.text (heard ms)
+abbrev pub received_messages : List Message → List Message
+received_messages [] = []
+received_messages (m ∷ ms) = messages_before m.is_error m.text (received_messages ms)
 
 -- the texts among the items before the first stop
 abbrev pub first_texts : List Item → List Message

@@ -5,7 +5,7 @@ pub use Rattle.gixp_packetline.specs.Pieces
 pub use Rattle.gixp_packetline.specs.Reading
 pub mod Bands
 pub mod Ends
-pub mod Telling
+pub mod Reporting
 pub mod Questions
 pub mod QuestionsAgain
 pub mod Sidebands

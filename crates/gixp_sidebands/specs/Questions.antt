@@ -40,18 +40,18 @@ pub record TakesTexts (count : ℕ) (old new : Reading) (p : Pieces) : Type 0 wh
 abbrev pub NoFewer : Reading → Reading → Type 0
 NoFewer old new = min old.failures (2 ^ 64 - 1) ≤ new.failures
 
-module _ {I : Type 0} (says : I → Bool → I → Type 0) where
+module _ {I : Type 0} (polls : I → Bool → I → Type 0) where
   -- the interrupt was called once for each of these states and returned false; if the flag is true, it was called once
   -- more and returned true
-  abbrev pub SaysEach : List I → Bool → I → I → Type 0
-  SaysEach [] false a b = b ≡ a
-  SaysEach [] true a b = says a true b
-  SaysEach (x ∷ xs) stops a c = says a false x × SaysEach xs stops x c
+  abbrev pub PollsEach : List I → Bool → I → I → Type 0
+  PollsEach [] false a b = b ≡ a
+  PollsEach [] true a b = polls a true b
+  PollsEach (x ∷ xs) stops a c = polls a false x × PollsEach xs stops x c
 
   -- the interrupt was called once after each packet of bands 2 and 3 that was taken; if the flag is true, its last call returned true
   pub record Asked (stops : Bool) (old new : Reading) (a b : I) : Type 0 where
     pub after : List I
-    pub said : SaysEach after stops a b
+    pub polled : PollsEach after stops a b
     pub failures : NoFewer old new
     pub each : IfSome old.to_come (TakesTexts (length after + one_if stops) old new)
 

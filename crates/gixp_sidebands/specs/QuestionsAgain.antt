@@ -5,7 +5,7 @@ use Rattle.gixp_packetline.specs.Pieces.{Refusal, io, unexpected_frame, Piece, l
 use Rattle.std.specs.declared.io.ErrorKind.TheVariants.{UnexpectedEof}
 use Rattle.gixp_packetline.specs.Reading.{Reading}
 use Rattle.gixp_sidebands.specs.Bands.{IsUncounted}
-use Rattle.gixp_sidebands.specs.Questions.{one_if, texts_in, IsLeft, TakesTexts, NoFewer, SaysEach, Asked, AskedBelow}
+use Rattle.gixp_sidebands.specs.Questions.{one_if, texts_in, IsLeft, TakesTexts, NoFewer, PollsEach, Asked, AskedBelow}
 
 texts-append : (xs ys : List Piece) → texts_in (xs ++ ys) ≡ texts_in xs + texts_in ys
 texts-append [] ys = omega arith
@@ -91,25 +91,25 @@ come-same : (o : Option Pieces) → IfSome o (λ p. o ≡ Some p)
 come-same None = tt
 come-same (Some p) = refl
 
-module _ {I : Type 0} (says : I → Bool → I → Type 0) where
-  says-then : (xs ys : List I) (stops : Bool) (a b c : I) → SaysEach says xs false a b → SaysEach says ys stops b c
-      → SaysEach says (xs ++ ys) stops a c
-  says-then [] ys stops a b c g h = subst (λ x. SaysEach says ys stops x c) g h
-  says-then (x ∷ xs) ys stops a b c g h = (g.0, says-then xs ys stops x b c g.1 h)
+module _ {I : Type 0} (polls : I → Bool → I → Type 0) where
+  polls-then : (xs ys : List I) (stops : Bool) (a b c : I) → PollsEach polls xs false a b → PollsEach polls ys stops b c
+      → PollsEach polls (xs ++ ys) stops a c
+  polls-then [] ys stops a b c g h = subst (λ x. PollsEach polls ys stops x c) g h
+  polls-then (x ∷ xs) ys stops a b c g h = (g.0, polls-then xs ys stops x b c g.1 h)
 
   -- the interrupt was not called
-  pub asked-none : (a b : Reading) (x : I) → NoFewer a b → IfSome a.to_come (TakesTexts 0 a b) → Asked says false a b x x
-  asked-none a b x f h = record { after = []; said = refl; failures = f; each = h }
+  pub asked-none : (a b : Reading) (x : I) → NoFewer a b → IfSome a.to_come (TakesTexts 0 a b) → Asked polls false a b x x
+  asked-none a b x f h = record { after = []; polled = refl; failures = f; each = h }
 
-  pub asked-stays : (r : Reading) (x : I) → Asked says false r r x x
+  pub asked-stays : (r : Reading) (x : I) → Asked polls false r r x x
   asked-stays r x = asked-none r r x (omega arith) (takes-nothing r r (come-same r.to_come))
 
   -- calls of the interrupt, and then more calls
-  pub asked-joins : (stops : Bool) (ra rb rc : Reading) (a b c : I) → Asked says false ra rb a b → Asked says stops rb rc b c
-      → Asked says stops ra rc a c
+  pub asked-joins : (stops : Bool) (ra rb rc : Reading) (a b c : I) → Asked polls false ra rb a b → Asked polls stops rb rc b c
+      → Asked polls stops ra rc a c
   asked-joins stops ra rb rc a b c g h = record {
     after = g.after ++ h.after;
-    said = says-then g.after h.after stops a b c g.said h.said;
+    polled = polls-then g.after h.after stops a b c g.polled h.polled;
     failures = let x = g.failures in let y = h.failures in omega (arith, x, y);
     each =
         let n : (length g.after + 0) + (length h.after + one_if stops) ≡ length (g.after ++ h.after) + one_if stops =
@@ -118,8 +118,8 @@ module _ {I : Type 0} (says : I → Bool → I → Type 0) where
         (takes-all (length g.after + 0) (length h.after + one_if stops) ra rb rc g.failures h.failures g.each h.each);
   }
 
-  pub below-joins : (plain stops : Bool) (ra rb rc : Reading) (a b c : I) → AskedBelow says plain false ra rb a b
-      → AskedBelow says plain stops rb rc b c → AskedBelow says plain stops ra rc a c
+  pub below-joins : (plain stops : Bool) (ra rb rc : Reading) (a b c : I) → AskedBelow polls plain false ra rb a b
+      → AskedBelow polls plain stops rb rc b c → AskedBelow polls plain stops ra rc a c
   below-joins plain stops ra rb rc a b c (inr g) h = absurd (let e = g.1 in cc)
   below-joins plain stops ra rb rc a b c (inl g) (inl h) = inl (asked-joins stops ra rb rc a b c g h)
   below-joins plain stops ra rb rc a b c (inl g) (inr h) = inr (h.0, h.1, asked-joins false ra rb rc a b c g h.2)

@@ -7,7 +7,7 @@ use Rattle.gixp_packetline.specs.declared.read.Error.{Error}
 use Rattle.gixp_sidebands.specs.declared.sidebands.WithSidebands.{WithSidebands}
 use Rattle.gixp_packetline.specs.Reading.{Reading, PeeksLent, ReadsLent, refusal_of}
 use Rattle.gixp_sidebands.specs.Bands.{Side, FillsLent, side_reading}
-use Rattle.gixp_sidebands.specs.Telling.{Listener, Told, refusal_in}
+use Rattle.gixp_sidebands.specs.Reporting.{Listener, Reported, refusal_in}
 use Rattle.gixp_sidebands.specs.Questions.{AskedBelow}
 
 module _ {T P I : Type 0} {b : _} where
@@ -30,19 +30,19 @@ module _ {T P I : Type 0} {b : _} where
   -- the interrupt was called after each packet of bands 2 and 3, and is still borrowed
   abbrev pub sidebands_asks : (T → Reading) → Bool → (I → Bool → I → Type 0) → WithSidebands T P I b → Bool → WithSidebands T P I b
       → Type 0
-  sidebands_asks reading plain says old stops new =
-      AskedBelow says plain stops (side reading old).reading (side reading new).reading (listener old).interrupt (listener new).interrupt
+  sidebands_asks reading plain polls old stops new =
+      AskedBelow polls plain stops (side reading old).reading (side reading new).reading (listener old).interrupt (listener new).interrupt
       × (new.interrupt.ghost_name ≡ old.interrupt.ghost_name)
 
   -- the reader below
   abbrev pub transport_of : WithSidebands T P I b → T
   transport_of s = s.front.at.now
 
-  module _ (reading : T → Reading) (hears spares : P → Bool → List ℕ → P → Type 0) (says : I → Bool → I → Type 0) (plain : Bool) where
+  module _ (reading : T → Reading) (receives spares : P → Bool → List ℕ → P → Type 0) (polls : I → Bool → I → Type 0) (plain : Bool) where
     -- a call that lends content: the state after it, and the messages it reported
     pub record Lends (old : WithSidebands T P I b) (result : Result (Bor (List ℕ)) io_error) (new : WithSidebands T P I b) : Type 0 where
       pub fills : FillsLent (side reading old) (side reading new) result
-      pub told : Told hears spares says plain (side reading new).fault (side reading old).reading (side reading new).reading
+      pub reported : Reported receives spares polls plain (side reading new).fault (side reading old).reading (side reading new).reading
           (listener old) (listener new)
       pub interrupt : new.interrupt.ghost_name ≡ old.interrupt.ghost_name
 
@@ -51,16 +51,16 @@ module _ {T P I : Type 0} {b : _} where
     LendsFrom old result = (new : WithSidebands T P I b) × Lends old result new
 
     -- the messages that a call reported which lends a line
-    abbrev pub ToldLent : WithSidebands T P I b → Side → Listener P I → Result (Option (Bor (List ℕ))) Error → Type 0
-    ToldLent old new heard result = Told hears spares says plain (refusal_in result) (side reading old).reading new.reading
-        (listener old) heard
+    abbrev pub ReportedLent : WithSidebands T P I b → Side → Listener P I → Result (Option (Bor (List ℕ))) Error → Type 0
+    ReportedLent old new received_messages result = Reported receives spares polls plain (refusal_in result) (side reading old).reading new.reading
+        (listener old) received_messages
 
     -- a call that lends the next line, and the messages it reported
-    abbrev pub PeeksAndTells : WithSidebands T P I b → Result (Option (Bor (List ℕ))) Error → Type 0
-    PeeksAndTells old result = (new : Side) × (heard : Listener P I)
-        × PeeksLent (sidebands_reading reading old) (side_reading new) result × ToldLent old new heard result
+    abbrev pub PeeksAndReports : WithSidebands T P I b → Result (Option (Bor (List ℕ))) Error → Type 0
+    PeeksAndReports old result = (new : Side) × (received_messages : Listener P I)
+        × PeeksLent (sidebands_reading reading old) (side_reading new) result × ReportedLent old new received_messages result
 
     -- a call that takes the next line and lends it, and the messages it reported
-    abbrev pub ReadsAndTells : WithSidebands T P I b → Result (Option (Bor (List ℕ))) Error → Type 0
-    ReadsAndTells old result = (new : Side) × (heard : Listener P I)
-        × ReadsLent (sidebands_reading reading old) (side_reading new) result × ToldLent old new heard result
+    abbrev pub ReadsAndReports : WithSidebands T P I b → Result (Option (Bor (List ℕ))) Error → Type 0
+    ReadsAndReports old result = (new : Side) × (received_messages : Listener P I)
+        × ReadsLent (sidebands_reading reading old) (side_reading new) result × ReportedLent old new received_messages result

@@ -4,7 +4,7 @@ ghost use Rattle.gixp_packetline.specs.Pieces.{Pieces};
 ghost use Rattle.gixp_packetline.specs.Items.{plain, banded, items_of, first_lines};
 ghost use Rattle.gixp_packetline.specs.Lines.{lines_of};
 ghost use Rattle.gixp_packetline.specs.declared.protocol.Protocol.{Protocol};
-ghost use Rattle.gixp_sidebands.specs.Bands.{unband, content_of, messages_of, joined, heard, first_texts, without_texts};
+ghost use Rattle.gixp_sidebands.specs.Bands.{unband, content_of, messages_of, joined, received_messages, first_texts, without_texts};
 
 /// The lines of the content are the line items before the first stop among the stream's banded items. A stop is a flush
 /// packet, or under version 2 a delimiter packet.
@@ -25,5 +25,5 @@ pub fn content_is_of_items()
 
 /// The reported messages of bands 2 and 3 are the texts before the first stop among the stream's banded items.
 pub fn messages_are_of_items()
-    ensures { (version : Protocol) (ps : Pieces) → heard (messages_of ps) ≡ first_texts (items_of version banded ps).list }
+    ensures { (version : Protocol) (ps : Pieces) → received_messages (messages_of ps) ≡ first_texts (items_of version banded ps).list }
 {}

@@ -8,16 +8,17 @@ ghost use types.Logic.{sem};
 ghost use mir.Syntax.{named};
 ghost use Rattle.gixp_packetline.specs.Reading.{Reading, Reads, Peeks, ReadsLent, PeeksLent, ReadsText, PlainIf, PlainText, TakesLine, is_interrupted, refusal_of, reset_to};
 ghost use Rattle.gixp_sidebands.specs.Bands.{FillsContent, ShowsFirst, ReadsContent, ReadsBytes, KeepsMessages, is_begun, place_after, shown, message_in, io_kind};
-ghost use Rattle.gixp_sidebands.specs.Telling.{Told, TellsPacket, refusal_in};
+ghost use Rattle.gixp_sidebands.specs.Reporting.{Reported, ReportsPacket, refusal_in};
 
 mod band;
 mod front;
 mod interrupt;
 
-use band::{Band, band_of, without_line_end};
+use band::{Band, band_of};
 use front::Front;
 use gixp_packetline::read::{Error, ExtendedBufRead};
 use gixp_packetline::{MessageKind, Protocol};
+use gixp_utils::without_line_end;
 pub use interrupt::{Interrupt, InterruptFlag, NeverInterrupt};
 use std::alloc::AllocError;
 use std::io;
@@ -26,7 +27,7 @@ use std::io::{BufRead, ErrorKind, Read};
 /// A listener for the texts of bands 2 and 3 (gitprotocol-pack, "Packfile Data").
 pub trait BandText {
     // The listener before and after it took a text.
-    ghost hears: { Self → Bool → List ℕ → Self → Type 0 };
+    ghost receives: { Self → Bool → List ℕ → Self → Type 0 };
 
     // The listener before and after an allocation failed for a text.
     ghost spares: { Self → Bool → List ℕ → Self → Type 0 };
@@ -37,7 +38,7 @@ pub trait BandText {
     ///
     /// An allocation failed. The same text is reported again, so the listener should discard what it stored of it.
     fn band_text(&mut self, is_error: bool, text: &[u8]) -> Result<(), AllocError>
-        ensures ok { OnOk result (hears self.old is_error text.now self.new) }
+        ensures ok { OnOk result (receives self.old is_error text.now self.new) }
         ensures err { OnErr result (spares self.old is_error text.now self.new) };
 }
 
@@ -144,7 +145,7 @@ impl<'a, 'i, T: ExtendedBufRead, P: BandText + Drop, I: Interrupt> WithSidebands
 
     /// Calls the interrupt.
     pub fn interrupted(&mut self) -> bool
-        ensures says { I.says (listener self.old).interrupt result (listener self.new).interrupt }
+        ensures polls { I.polls (listener self.old).interrupt result (listener self.new).interrupt }
         ensures side { side T.reading self.new ≡ side T.reading self.old }
         ensures progress { (listener self.new).progress ≡ (listener self.old).progress }
         ensures interrupt { self.new.interrupt.ghost_name ≡ self.old.interrupt.ghost_name }
@@ -178,7 +179,7 @@ impl<'a, 'i, T: ExtendedBufRead, P: BandText + Drop, I: Interrupt> WithSidebands
     /// `Interrupted` as `Other`, and all others as `InvalidData`. `fault` has the error itself.
     pub fn fill(&mut self) -> io::Result<bool>
         ensures fills { FillsContent (side T.reading self.old) (side T.reading self.new) result }
-        ensures told { Told P.hears P.spares I.says T.is_plain (side T.reading self.new).fault (side T.reading self.old).reading
+        ensures reported { Reported P.receives P.spares I.polls T.is_plain (side T.reading self.new).fault (side T.reading self.old).reading
             (side T.reading self.new).reading
             (listener self.old) (listener self.new) }
         ensures interrupt { self.new.interrupt.ghost_name ≡ self.old.interrupt.ghost_name }
@@ -187,7 +188,7 @@ impl<'a, 'i, T: ExtendedBufRead, P: BandText + Drop, I: Interrupt> WithSidebands
         if self.front.is_open() {
             return Ok(true);
         }
-        match self.settle() {
+        match self.skip_to_content() {
             Ok(more) => Ok(more),
             Err(e) => {
                 let error = io::Error::from(io_kind(&e));
@@ -208,7 +209,7 @@ impl<'a, 'i, T: ExtendedBufRead, P: BandText + Drop, I: Interrupt> WithSidebands
     fn tell(&mut self, is_error: bool) -> Result<(), Error>
         requires peeked { (T.reading self.old.front.at.now).peeked ≡ true }
         requires nowhere { self.old.front.place ≡ None }
-        ensures tells { TellsPacket P.hears P.spares I.says (message_in is_error (T.reading self.old.front.at.now).line)
+        ensures reports { ReportsPacket P.receives P.spares I.polls (message_in is_error (T.reading self.old.front.at.now).line)
             (T.reading self.old.front.at.now) (T.reading self.new.front.at.now) (listener self.old) (listener self.new) result }
         ensures same { self.new.front.at.ghost_name ≡ self.old.front.at.ghost_name }
         ensures interrupt { self.new.interrupt.ghost_name ≡ self.old.interrupt.ghost_name }
@@ -232,9 +233,9 @@ impl<'a, 'i, T: ExtendedBufRead, P: BandText + Drop, I: Interrupt> WithSidebands
     }
 
     // Takes a packet that was begun, reports the messages before the next content, and opens the packet of content.
-    fn settle(&mut self) -> Result<bool, Error>
+    fn skip_to_content(&mut self) -> Result<bool, Error>
         ensures peeks { Peeks (sidebands_reading T.reading self.old) (sidebands_reading T.reading self.new) result }
-        ensures told { Told P.hears P.spares I.says T.is_plain (refusal_in result) (T.reading self.old.front.at.now)
+        ensures reported { Reported P.receives P.spares I.polls T.is_plain (refusal_in result) (T.reading self.old.front.at.now)
             (T.reading self.new.front.at.now)
             (listener self.old) (listener self.new) }
         ensures same { self.new.front.at.ghost_name ≡ self.old.front.at.ghost_name }
@@ -242,7 +243,7 @@ impl<'a, 'i, T: ExtendedBufRead, P: BandText + Drop, I: Interrupt> WithSidebands
         ensures first { ShowsFirst (side T.reading self.old).reading (side T.reading self.new).reading result }
         ensures fault { self.new.fault ≡ self.old.fault }
         ensures place { self.new.front.place ≡ place_after result }
-        ensures asks { sidebands_asks T.reading T.is_plain I.says self.old (is_interrupted result) self.new }
+        ensures asks { sidebands_asks T.reading T.is_plain I.polls self.old (is_interrupted result) self.new }
     {
         self.front.leave();
         'packets: loop {
@@ -266,29 +267,29 @@ impl<'a, 'i, T: ExtendedBufRead, P: BandText + Drop, I: Interrupt> ExtendedBufRe
     for WithSidebands<'a, 'i, T, P, I> {
     ghost use Rattle.std.proofs.Common.{refl, inl, ◌∙◌};
     ghost use Rattle.gixp_sidebands.specs.QuestionsAgain.{asked-stays, below-joins};
-    ghost use Rattle.gixp_sidebands.specs.Sidebands.{side, sidebands_reading, sidebands_asks, listener, PeeksAndTells, ReadsAndTells};
+    ghost use Rattle.gixp_sidebands.specs.Sidebands.{side, sidebands_reading, sidebands_asks, listener, PeeksAndReports, ReadsAndReports};
 
     ghost reading = { sidebands_reading T.reading };
 
     ghost is_plain = { false };
 
-    ghost asks = { sidebands_asks T.reading T.is_plain I.says };
+    ghost asks = { sidebands_asks T.reading T.is_plain I.polls };
 
-    ghost stays = { λ r. (inl (asked-stays I.says _ _), refl) };
+    ghost stays = { λ r. (inl (asked-stays I.polls _ _), refl) };
 
-    ghost joins = { λ a b c stops g h. (below-joins I.says _ _ _ _ _ _ _ _ g.0 h.0, h.1 ∙ g.1) };
+    ghost joins = { λ a b c stops g h. (below-joins I.polls _ _ _ _ _ _ _ _ g.0 h.0, h.1 ∙ g.1) };
 
     fn next_line(&mut self) -> Result<bool, Error>
         ensures reads { Reads (sidebands_reading T.reading self.old) (sidebands_reading T.reading self.new) result }
         ensures plain { PlainIf false (sidebands_reading T.reading self.new) result }
-        ensures told { Told P.hears P.spares I.says T.is_plain (refusal_in result) (side T.reading self.old).reading
+        ensures reported { Reported P.receives P.spares I.polls T.is_plain (refusal_in result) (side T.reading self.old).reading
             (side T.reading self.new).reading
             (listener self.old) (listener self.new) }
         ensures fault { (side T.reading self.new).fault ≡ (side T.reading self.old).fault }
         ensures interrupt { self.new.interrupt.ghost_name ≡ self.old.interrupt.ghost_name }
-        ensures asks { sidebands_asks T.reading T.is_plain I.says self.old (is_interrupted result) self.new }
+        ensures asks { sidebands_asks T.reading T.is_plain I.polls self.old (is_interrupted result) self.new }
     {
-        if !self.settle()? {
+        if !self.skip_to_content()? {
             return Ok(false);
         }
         self.front.take();
@@ -298,16 +299,16 @@ impl<'a, 'i, T: ExtendedBufRead, P: BandText + Drop, I: Interrupt> ExtendedBufRe
     fn peek_line(&mut self) -> Result<bool, Error>
         ensures peeks { Peeks (sidebands_reading T.reading self.old) (sidebands_reading T.reading self.new) result }
         ensures plain { PlainIf false (sidebands_reading T.reading self.new) result }
-        ensures told { Told P.hears P.spares I.says T.is_plain (refusal_in result) (side T.reading self.old).reading
+        ensures reported { Reported P.receives P.spares I.polls T.is_plain (refusal_in result) (side T.reading self.old).reading
             (side T.reading self.new).reading
             (listener self.old) (listener self.new) }
         ensures first { ShowsFirst (side T.reading self.old).reading (side T.reading self.new).reading result }
         ensures place { (side T.reading self.new).place ≡ place_after result }
         ensures fault { (side T.reading self.new).fault ≡ (side T.reading self.old).fault }
         ensures interrupt { self.new.interrupt.ghost_name ≡ self.old.interrupt.ghost_name }
-        ensures asks { sidebands_asks T.reading T.is_plain I.says self.old (is_interrupted result) self.new }
+        ensures asks { sidebands_asks T.reading T.is_plain I.polls self.old (is_interrupted result) self.new }
     {
-        self.settle()
+        self.skip_to_content()
     }
 
     fn line(&self) -> &[u8] {
@@ -320,7 +321,7 @@ impl<'a, 'i, T: ExtendedBufRead, P: BandText + Drop, I: Interrupt> ExtendedBufRe
 
     fn peek_data_line(&mut self) -> Result<Option<&[u8]>, Error>
         ensures answers { (new : Reading) × PeeksLent (sidebands_reading T.reading self.old) new result × PlainIf false new result }
-        ensures told { PeeksAndTells T.reading P.hears P.spares I.says T.is_plain self.old result }
+        ensures reported { PeeksAndReports T.reading P.receives P.spares I.polls T.is_plain self.old result }
     {
         match self.peek_line() {
             Ok(true) => Ok(Some(self.line())),
@@ -331,7 +332,7 @@ impl<'a, 'i, T: ExtendedBufRead, P: BandText + Drop, I: Interrupt> ExtendedBufRe
 
     fn readline(&mut self) -> Result<Option<&[u8]>, Error>
         ensures answers { (new : Reading) × ReadsLent (sidebands_reading T.reading self.old) new result × PlainIf false new result }
-        ensures told { ReadsAndTells T.reading P.hears P.spares I.says T.is_plain self.old result }
+        ensures reported { ReadsAndReports T.reading P.receives P.spares I.polls T.is_plain self.old result }
     {
         match self.next_line() {
             Ok(true) => Ok(Some(self.line())),
@@ -348,12 +349,12 @@ impl<'a, 'i, T: ExtendedBufRead, P: BandText + Drop, I: Interrupt> ExtendedBufRe
         ensures text { ReadsText (sidebands_reading T.reading self.old) (sidebands_reading T.reading self.new) (string_bytes text.old)
             (string_bytes text.new) result }
         ensures plain { PlainText false (sidebands_reading T.reading self.old) (sidebands_reading T.reading self.new) result }
-        ensures told { Told P.hears P.spares I.says T.is_plain (refusal_in result) (side T.reading self.old).reading
+        ensures reported { Reported P.receives P.spares I.polls T.is_plain (refusal_in result) (side T.reading self.old).reading
             (side T.reading self.new).reading
             (listener self.old) (listener self.new) }
         ensures fault { (side T.reading self.new).fault ≡ (side T.reading self.old).fault }
         ensures interrupt { self.new.interrupt.ghost_name ≡ self.old.interrupt.ghost_name }
-        ensures asks { sidebands_asks T.reading T.is_plain I.says self.old (is_interrupted result) self.new }
+        ensures asks { sidebands_asks T.reading T.is_plain I.polls self.old (is_interrupted result) self.new }
     {
         if !self.peek_line()? {
             return Ok(0);
@@ -376,7 +377,7 @@ impl<'a, 'i, T: ExtendedBufRead, P: BandText + Drop, I: Interrupt> ExtendedBufRe
         ensures fault { (side T.reading self.new).fault ≡ (side T.reading self.old).fault }
         ensures place { (side T.reading self.new).place ≡ (side T.reading self.old).place }
         ensures interrupt { self.new.interrupt.ghost_name ≡ self.old.interrupt.ghost_name }
-        ensures asks { sidebands_asks T.reading T.is_plain I.says self.old false self.new }
+        ensures asks { sidebands_asks T.reading T.is_plain I.polls self.old false self.new }
     {
         self.front.reset(version);
     }
@@ -390,7 +391,7 @@ impl<'a, 'i, T: ExtendedBufRead, P: BandText + Drop, I: Interrupt> Read
         ensures bound { ReadsAtMost result buf.new }
         ensures bytes { ReadConsumes None None result buf.new }
         ensures content { ReadsContent (side T.reading self.old) (side T.reading self.new) result buf.new }
-        ensures told { Told P.hears P.spares I.says T.is_plain (side T.reading self.new).fault (side T.reading self.old).reading
+        ensures reported { Reported P.receives P.spares I.polls T.is_plain (side T.reading self.new).fault (side T.reading self.old).reading
             (side T.reading self.new).reading
             (listener self.old) (listener self.new) }
         ensures interrupt { self.new.interrupt.ghost_name ≡ self.old.interrupt.ghost_name }
@@ -415,7 +416,7 @@ impl<'a, 'i, T: ExtendedBufRead, P: BandText + Drop, I: Interrupt> BufRead
         ensures* after_borrow { sem 𝓛 (Rests (the_row (record { mir = named 1; lft = [] })
             (record { mir = named 2; lft = [] }) T.row P.row I.row T.ExtendedBufRead) self.entry (λ new.
             FillKeeps None None None result)) }
-        ensures shown { LendsFrom T.reading P.hears P.spares I.says T.is_plain self.old result }
+        ensures shown { LendsFrom T.reading P.receives P.spares I.polls T.is_plain self.old result }
     {
         match self.fill() {
             Ok(_) => Ok(self.front.rest()),
@@ -427,7 +428,7 @@ impl<'a, 'i, T: ExtendedBufRead, P: BandText + Drop, I: Interrupt> BufRead
         ensures bytes { DropsConsumable None None None amount }
         ensures content { ReadsBytes (side T.reading self.old) (side T.reading self.new)
             (take amount (shown (side T.reading self.old).place (side T.reading self.old).reading)) }
-        ensures told { listener self.new ≡ listener self.old }
+        ensures reported { listener self.new ≡ listener self.old }
         ensures messages { KeepsMessages (side T.reading self.old).reading (side T.reading self.new).reading }
         ensures interrupt { self.new.interrupt.ghost_name ≡ self.old.interrupt.ghost_name }
     {

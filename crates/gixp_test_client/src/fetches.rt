@@ -4,12 +4,12 @@ use gixp_fetch::consume::CopyPack;
 use gixp_graph::{Find, RefStore};
 use gixp_memory::{StoredObjects, StoredRefs};
 use gixp_progress::NestedProgress;
-use gixp_wire::Transport;
+use gixp_transport::Transport;
 use std::alloc::Global;
 
 /// Separates allocation failures, which end a test, from other errors.
-pub(crate) fn unless_memory<C>(came: Result<C, Error>) -> Result<Result<C, Error>, Error> {
-    match came {
+pub(crate) fn unless_memory<C>(received: Result<C, Error>) -> Result<Result<C, Error>, Error> {
+    match received {
         Ok(value) => Ok(Ok(value)),
         Err(Error::Memory) => Err(Error::Memory),
         Err(e) => Ok(Err(e)),

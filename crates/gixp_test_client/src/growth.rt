@@ -4,7 +4,7 @@ use crate::lines::lines;
 use crate::servers::{GREETING, PACK, REFS};
 use gixp_client::{Error, Listener, Request, Session, Silent, State, over_streams};
 use gixp_doubles::{Device, Paper};
-use gixp_wire::Transport;
+use gixp_transport::Transport;
 use std::alloc::Global;
 
 // Whether a fetch receives its pack.

@@ -12,7 +12,7 @@ use gixp_client::{
     Error, Fetched, Repository, Request, SessionNegotiation, Silent, fetch_once_with,
 };
 use gixp_doubles::Lenient;
-use gixp_fetch::consume::{ConsumePack, CopyPack};
+use gixp_fetch::consume::{ConsumePack, CopyError, CopyPack};
 use gixp_fetch::mapped::NegotiatesMap;
 use gixp_graph::{Find, RefStore};
 use gixp_memory::{StoredObjects, StoredRefs};
@@ -21,7 +21,7 @@ use gixp_progress::Discard;
 use gixp_refmap::RefMap;
 use gixp_shallow::{ShallowMemory, ShallowStore};
 use gixp_sidebands::{Interrupt, NeverInterrupt};
-use gixp_wire::Transport;
+use gixp_transport::Transport;
 use std::alloc::Global;
 use std::io::Write;
 
@@ -34,17 +34,18 @@ fn fetch_leniently<'a, T: Transport + Drop, W: Write>(
     negotiator: &'a mut Lenient,
     pack: &mut CopyPack<W>,
 ) -> Result<(RefMap, Fetched), Error>
-    ensures { IfOk result (λ came. ((came.0.mappings.items ≡ []) × (came.1.outcome ≡ None) × (pack.new ≡ pack.old))
+    ensures { IfOk result (λ received. ((received.0.mappings.items ≡ []) × (received.1.outcome ≡ None) × (pack.new ≡ pack.old))
         ⊎ ((end : Reading) × IsOneRun
         (parties_of ⟦<SessionNegotiation<'a, StoredObjects, StoredRefs, Lenient> as Negotiate>⟧.calls
-        ⟦<ShallowMemory as ShallowStore>⟧.calls ⟦<NeverInterrupt as Interrupt>⟧.says ⟦<CopyPack<W> as ConsumePack<Discard>>⟧.consumes
+        ⟦<ShallowMemory as ShallowStore>⟧.calls ⟦<NeverInterrupt as Interrupt>⟧.polls ⟦<CopyPack<W> as ConsumePack<Discard>>⟧.consumes
         T.is_plain)
+        ⟦<CopyError as Into<Error>>⟧.converts
         ⟦<SessionNegotiation<'a, StoredObjects, StoredRefs, Lenient> as NegotiatesMap>⟧.map_of
         ⟦<SessionNegotiation<'a, StoredObjects, StoredRefs, Lenient> as NegotiatesMap>⟧.knows
-        (client_feature (codes "first/1.0")) [] request.now (T.reading transport) came.0
+        (client_feature (codes "first/1.0")) [] request.now (T.reading transport) received.0
         (session_knowledge request.now (⟦<StoredObjects as Find>⟧.contents repository.entry.objects.now)
         (⟦<StoredRefs as RefStore>⟧.refs repository.entry.refs.now))
-        repository.entry.boundary.now pack.old (Ok came.1.outcome) end pack.new)) }
+        repository.entry.boundary.now pack.old (Ok received.1.outcome) end pack.new)) }
 {
     fetch_once_with(
         alloc,

@@ -1,5 +1,5 @@
 //! Tests of sessions that test vectors can't express: what a session sends and leaves, what listeners show, and the texts of
-//! errors. The crate has only tests.
+//! errors. Also tests of a planner over recorded sessions. All functions are tests or serve tests.
 #![tactic(auto)]
 
 #[cfg(test)]
@@ -12,6 +12,8 @@ mod lenient;
 mod lines;
 #[cfg(test)]
 mod listeners;
+#[cfg(test)]
+mod planner;
 #[cfg(test)]
 mod refusals;
 #[cfg(test)]

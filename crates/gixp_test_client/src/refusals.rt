@@ -11,12 +11,12 @@ use gixp_doubles::{Device, MemoryRefs, Paper};
 use gixp_graph::{ObjectKind, RefStoreError};
 use gixp_hash::ObjectId;
 use gixp_memory::{StoredObjects, StoredRefs};
-use gixp_wire::Connection;
+use gixp_transport::Connection;
 use std::alloc::{AllocError, Global};
 use std::io::ErrorKind;
 
 // The result of a fetch over these responses as a text, and the state of the session.
-fn told(alloc: Global, answers: &[&[&[u8]]]) -> Result<(String, Option<State>), Error> {
+fn reported(alloc: Global, answers: &[&[&[u8]]]) -> Result<(String, Option<State>), Error> {
     let transport = server(alloc, answers)?;
     let mut session = match Session::open(alloc, transport, "first/1.0", Silent) {
         Ok(session) => session,
@@ -47,10 +47,10 @@ const NEW: &[(&[&[&[u8]]], &str, Option<State>)] = &[
         "pack false of 0 bytes",
         Some(State::AtStop),
     ),
-    (&[DENIED], "the server said: access denied", None),
+    (&[DENIED], "the server reported: access denied", None),
     (
         &[GREETING, DENIED],
-        "the server said: access denied",
+        "the server reported: access denied",
         Some(State::Ended),
     ),
     (
@@ -65,7 +65,7 @@ const NEW: &[(&[&[&[u8]]], &str, Option<State>)] = &[
     ),
     (
         &[GREETING, REFS, DENIED],
-        "the server said: access denied",
+        "the server reported: access denied",
         Some(State::Ended),
     ),
     (
@@ -74,17 +74,17 @@ const NEW: &[(&[&[&[u8]]], &str, Option<State>)] = &[
             REFS,
             &[b"packfile\n", b"\x01PA", b"ERR access denied\n"],
         ],
-        "the server said: access denied",
+        "the server reported: access denied",
         Some(State::Ended),
     ),
     (
         &[GREETING, REFS, REPORTED],
-        "the server said: disk full",
+        "the server reported: disk full",
         Some(State::Ended),
     ),
     (
         &[GREETING, REFS, UNPACKED],
-        "no pack came after 1 round(s) of the negotiation",
+        "the negotiation ended without a pack after 1 round(s)",
         Some(State::AtStop),
     ),
     (&[&[]], "the connection ended within the handshake", None),
@@ -105,7 +105,7 @@ const NEW: &[(&[&[&[u8]]], &str, Option<State>)] = &[
     ),
     (
         &[GREETING, REFS, &[b"elsewhere\n", b""]],
-        "an answer can't be read: UnknownSectionHeader { header: \"elsewhere\\n\" }",
+        "a response can't be read: UnknownSectionHeader { header: \"elsewhere\\n\" }",
         Some(State::Broken),
     ),
 ];
@@ -120,12 +120,12 @@ const FORMER: &[(&[&[&[u8]]], &str, Option<State>)] = &[
     ),
     (
         &[OLD, DENIED],
-        "the server said: access denied",
+        "the server reported: access denied",
         Some(State::Ended),
     ),
     (
         &[OLD, &[b"NAK\n"]],
-        "no pack came after 1 round(s) of the negotiation",
+        "the negotiation ended without a pack after 1 round(s)",
         Some(State::Ended),
     ),
     (
@@ -136,14 +136,14 @@ const FORMER: &[(&[&[&[u8]]], &str, Option<State>)] = &[
 ];
 
 #[test]
-fn says_what_was_refused(rt: HostRuntime) -> Result<(), Error> {
+fn reports_what_was_refused(rt: HostRuntime) -> Result<(), Error> {
     for (answers, sentence, state) in NEW {
-        let (text, stands) = told(rt.alloc(), answers)?;
+        let (text, stands) = reported(rt.alloc(), answers)?;
         assert_eq!(rt; text.as_str(), *sentence);
         assert!(rt; stands == *state, "{sentence}");
     }
     for (answers, sentence, state) in FORMER {
-        let (text, stands) = told(rt.alloc(), answers)?;
+        let (text, stands) = reported(rt.alloc(), answers)?;
         assert_eq!(rt; text.as_str(), *sentence);
         assert!(rt; stands == *state, "{sentence}");
     }
@@ -180,15 +180,15 @@ fn written(alloc: Global, bytes: &[u8], goes_on: bool) -> Result<Option<Vec<u8>>
 }
 
 #[test]
-fn writes_nothing_behind_an_error(rt: HostRuntime) -> Result<(), Error> {
+fn writes_nothing_after_an_error(rt: HostRuntime) -> Result<(), Error> {
     let alloc = rt.alloc();
     let mut stream = lines(alloc, GREETING)?;
     stream.extend_from_slice(&lines(alloc, REFS)?)?;
     stream.extend_from_slice(&lines(alloc, PACK)?)?;
     for count in 0..stream.len() {
         let refused = written(alloc, &stream[..count], false)?;
-        let behind = written(alloc, &stream[..count], true)?;
-        assert!(rt; refused == behind, "after {count} bytes");
+        let following = written(alloc, &stream[..count], true)?;
+        assert!(rt; refused == following, "after {count} bytes");
     }
     Ok(())
 }
@@ -202,8 +202,8 @@ fn refs_that_cannot_be_read_send_nothing(rt: HostRuntime) -> Result<(), Error> {
     let objects = StoredObjects::new(alloc);
     let mut refs = MemoryRefs::new(alloc);
     refs.error = Some(RefStoreError::Io(ErrorKind::PermissionDenied));
-    let came = unless_memory(fetch_into(alloc, &mut session, &request, &objects, &mut refs))?;
-    assert!(rt; matches!(came, Err(Error::LocalRefs(_))));
+    let received = unless_memory(fetch_into(alloc, &mut session, &request, &objects, &mut refs))?;
+    assert!(rt; matches!(received, Err(Error::LocalRefs(_))));
     assert!(rt; session.state() == State::AtStop);
     fetch(alloc, &mut session, &request)?;
     Ok(())
@@ -219,7 +219,7 @@ fn unreadable(alloc: Global) -> Result<Unreadable, AllocError> {
 }
 
 #[test]
-fn objects_that_cannot_be_read_leave_what_the_server_said(rt: HostRuntime) -> Result<(), Error> {
+fn unreadable_objects_leave_the_server_messages(rt: HostRuntime) -> Result<(), Error> {
     let alloc = rt.alloc();
     let transport = server(alloc, &[OLD_SHALLOW, OLD_PACK])?;
     let mut session = Session::open(alloc, transport, "first/1.0", Silent)?;
@@ -227,11 +227,11 @@ fn objects_that_cannot_be_read_leave_what_the_server_said(rt: HostRuntime) -> Re
     request.rejects_shallow = true;
     let objects = unreadable(alloc)?;
     let mut refs = StoredRefs::new(alloc);
-    let came = unless_memory(fetch_into(alloc, &mut session, &request, &objects, &mut refs))?;
-    assert!(rt; matches!(came, Err(Error::Objects(_))));
+    let received = unless_memory(fetch_into(alloc, &mut session, &request, &objects, &mut refs))?;
+    assert!(rt; matches!(received, Err(Error::Objects(_))));
     assert!(rt; session.state() == State::AtStop);
-    let came = unless_memory(fetch(alloc, &mut session, &request))?;
-    assert!(rt; matches!(came, Err(Error::ShallowServer)));
+    let received = unless_memory(fetch(alloc, &mut session, &request))?;
+    assert!(rt; matches!(received, Err(Error::ShallowServer)));
     Ok(())
 }
 
@@ -243,8 +243,8 @@ fn objects_that_cannot_be_read_leave_a_stop(rt: HostRuntime) -> Result<(), Error
     let request = branches(alloc)?;
     let objects = unreadable(alloc)?;
     let mut refs = StoredRefs::new(alloc);
-    let came = unless_memory(fetch_into(alloc, &mut session, &request, &objects, &mut refs))?;
-    assert!(rt; matches!(came, Err(Error::Objects(_))));
+    let received = unless_memory(fetch_into(alloc, &mut session, &request, &objects, &mut refs))?;
+    assert!(rt; matches!(received, Err(Error::Objects(_))));
     assert!(rt; session.state() == State::AtStop);
     fetch(alloc, &mut session, &request)?;
     Ok(())
@@ -257,8 +257,8 @@ fn a_filter_that_is_not_offered_sends_nothing(rt: HostRuntime) -> Result<(), Err
     let mut session = Session::open(alloc, transport, "first/1.0", Silent)?;
     let mut request = branches(alloc)?;
     request.set_filter("blob:none")?;
-    let came = unless_memory(fetch(alloc, &mut session, &request))?;
-    assert!(rt; matches!(came, Err(Error::MissingFeature { .. })));
+    let received = unless_memory(fetch(alloc, &mut session, &request))?;
+    assert!(rt; matches!(received, Err(Error::MissingFeature { .. })));
     request.filter = None;
     fetch(alloc, &mut session, &request)?;
     assert!(rt; session.state() == State::Ended);

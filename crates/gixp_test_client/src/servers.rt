@@ -1,7 +1,7 @@
 //! Recorded servers.
 use crate::lines::{DELIMITER, lines};
 use bstr::BString;
-use gixp_wire::{Bodies, Body};
+use gixp_transport::{Bodies, Body};
 use std::alloc::{AllocError, Global};
 
 /// The capability advertisement of a server of version 2.

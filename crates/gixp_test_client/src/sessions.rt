@@ -2,7 +2,7 @@
 use crate::fetches::{branches, fetch, unless_memory};
 use crate::servers::{GREETING, PACK, REFS, REPORTED, UNPACKED, server};
 use gixp_client::{Error, LocalChange, Session, Silent, State, local_changes};
-use gixp_doubles::Told;
+use gixp_doubles::ProgressLog;
 use gixp_handshake::credentials::{self, Action};
 use gixp_memory::{StoredRefs, TextError};
 
@@ -27,7 +27,7 @@ fn fetches_a_pack(rt: HostRuntime) -> Result<(), Error> {
 }
 
 #[test]
-fn goes_on_behind_an_answer_without_a_pack(rt: HostRuntime) -> Result<(), Error> {
+fn goes_on_after_an_answer_without_a_pack(rt: HostRuntime) -> Result<(), Error> {
     let alloc = rt.alloc();
     let transport = server(alloc, &[GREETING, REFS, UNPACKED, REFS, PACK])?;
     let mut session = Session::open(alloc, transport, "first/1.0", Silent)?;
@@ -57,7 +57,7 @@ fn goes_on_though_the_server_reports_an_error(rt: HostRuntime) -> Result<(), Err
 }
 
 #[test]
-fn tells_a_progress_reporter(rt: HostRuntime) -> Result<(), Error> {
+fn reports_to_a_progress_reporter(rt: HostRuntime) -> Result<(), Error> {
     let alloc = rt.alloc();
     let transport = server(alloc, &[GREETING, REFS, PACK])?;
     let mut session = Session::open_with(
@@ -67,7 +67,7 @@ fn tells_a_progress_reporter(rt: HostRuntime) -> Result<(), Error> {
         Silent,
         |_: Action| -> Result<Option<credentials::Outcome>, credentials::Error> { Ok(None) },
         Vec::new(alloc),
-        Told::new(alloc),
+        ProgressLog::new(alloc),
     )?;
     let request = branches(alloc)?;
     fetch(alloc, &mut session, &request)?;
@@ -79,7 +79,7 @@ fn tells_a_progress_reporter(rt: HostRuntime) -> Result<(), Error> {
 }
 
 #[test]
-fn tells_local_changes(rt: HostRuntime) -> Result<(), Error> {
+fn reports_local_changes(rt: HostRuntime) -> Result<(), Error> {
     let alloc = rt.alloc();
     let transport = server(alloc, &[GREETING, REFS])?;
     let mut session = Session::open(alloc, transport, "first/1.0", Silent)?;

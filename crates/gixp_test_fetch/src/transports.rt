@@ -2,7 +2,7 @@
 use bstr::BString;
 use gixp_doubles::Device;
 use gixp_packetline::Protocol;
-use gixp_wire::{Bodies, Body, Connection, Opening};
+use gixp_transport::{Bodies, Body, Connection, Opening};
 use std::alloc::{AllocError, Global};
 use std::io::{ErrorKind, Write};
 

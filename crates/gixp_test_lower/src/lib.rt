@@ -1,5 +1,5 @@
-//! Tests of the crates up to requests, the commit graph and refspecs, for what neither test vectors nor clauses can
-//! say. It has no function outside its tests.
+//! Tests of the crates up to requests, the commit graph with its negotiators and repositories in memory, and refspecs, for what
+//! neither test vectors nor clauses can say. All functions are tests or serve tests.
 #![tactic(auto)]
 
 #[cfg(test)]
@@ -7,7 +7,19 @@ mod fetch;
 #[cfg(test)]
 mod graph;
 #[cfg(test)]
+mod memory;
+#[cfg(test)]
+mod negotiators;
+#[cfg(test)]
+mod packfile_uris;
+#[cfg(test)]
+mod pieces;
+#[cfg(test)]
+mod plain_responses;
+#[cfg(test)]
 mod refspecs;
+#[cfg(test)]
+mod response_end;
 #[cfg(test)]
 mod shown;
 #[cfg(test)]

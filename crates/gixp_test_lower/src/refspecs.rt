@@ -31,7 +31,7 @@ fn refusal(text: &[u8]) -> Option<Error> {
 }
 
 // Whether a text is a refspec with this instruction.
-fn stands_for(text: &[u8], instruction: &Instruction<'_>) -> bool {
+fn is_parsed_as(text: &[u8], instruction: &Instruction<'_>) -> bool {
     match read(text) {
         Some(spec) => spec.instruction() == *instruction,
         None => false,
@@ -43,14 +43,14 @@ fn instructions(rt: HostRuntime) {
     let head = Instruction::Fetch(Fetch::Only {
         src: BStr::new(b"HEAD"),
     });
-    assert!(rt; stands_for(b"+", &head) && stands_for(b":", &head));
+    assert!(rt; is_parsed_as(b"+", &head) && is_parsed_as(b":", &head));
     assert!(rt; read(b"+") != read(b":"));
     let update = Instruction::Fetch(Fetch::AndUpdate {
         src: BStr::new(b"a"),
         dst: BStr::new(b"refs/heads/b"),
         allow_non_fast_forward: true,
     });
-    assert!(rt; stands_for(b"+a:refs/heads/b", &update));
+    assert!(rt; is_parsed_as(b"+a:refs/heads/b", &update));
 }
 
 fn check_copy<T: Clone + PartialEq>(rt: &impl Abort, value: &T) -> Result<(), AllocError> {

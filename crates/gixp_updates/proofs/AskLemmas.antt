@@ -1,38 +1,20 @@
 -- Which ids were read.
-use Rattle.std.proofs.Common.{◌≡◌, ◌∙◌, ◌⊎◌, inl, inr, ⊎_elim, Bool, true, false, true≢false, List, [], ◌∷◌, ◌++◌, append_assoc, None, refl, sym, ap, subst}
+use Rattle.std.proofs.Common.{◌≡◌, ◌∙◌, ⊎_elim, true, false, true≢false, List, None, sym, ap, subst}
 use Rattle.std.specs.Ordering.{eq_by_cmp}
-use Rattle.std.proofs.lemmas.Cmp.{eq_by_cmp_equiv}
-use Rattle.std.proofs.lemmas.Map.Keys.{IsDistinct-push}
-use Rattle.std.proofs.lemmas.List.Folds.{list_any_none}
-use Rattle.std.proofs.lemmas.List.Elements.{All-push, All-weaker}
 use Rattle.std.specs.FinMap as finite
 use Rattle.gixp_hash.specs.declared.object_id.ObjectId.{ObjectId}
 use Rattle.gixp_hash.specs.ObjectId.{id_cmp}
 use Rattle.gixp_graph.specs.GraphData.{GraphData}
 use Rattle.gixp_graph.specs.Asked.{AsksWhere, AsksEach}
 use Rattle.gixp_graph.specs.GraphLaws.{same_from}
-use Rattle.gixp_hash.specs.IdLaws.{ids_total}
-use Rattle.gixp_graph.proofs.AskedLemmas.{asks_weaker}
+use Rattle.gixp_graph.proofs.AskedLemmas.{asks_weaker, asks_more}
+use Rattle.gixp_graph.proofs.MarkLemmas.{true_or_false}
 use Rattle.gixp_updates.specs.Search.{Search, LooksUp, KeepsAsked}
 use Rattle.gixp_updates.proofs.LookLemmas.{looks_on}
-
-asks_more : (P Q : ObjectId → Type 0) → ((q : ObjectId) → P q → Q q) → (id : ObjectId) → Q id → ((q : ObjectId) → P q
-    → eq_by_cmp id_cmp id q ≡ false) → (old mid new : List ObjectId) → new ≡ mid ++ id ∷ [] → AsksEach P old mid → AsksEach Q old new
-asks_more P Q weaker id own apart old mid new e a = record {
-  ids = a.ids ++ id ∷ [];
-  appended = e ∙ ap (λ l. l ++ id ∷ []) a.appended ∙ append_assoc old a.ids (id ∷ []);
-  distinct = IsDistinct-push (eq_by_cmp_equiv ids_total) a.ids id a.distinct
-      (list_any_none (eq_by_cmp id_cmp id) a.ids (All-weaker P (λ q. eq_by_cmp id_cmp id q ≡ false) apart a.ids a.each));
-  each = All-push Q a.ids id (All-weaker P Q weaker a.ids a.each) own;
-}
 
 -- a commit that isn't held wasn't held before
 unheld : (first g : GraphData) → LooksUp first g → (id : ObjectId) → finite.get g.held id ≡ None → finite.get first.held id ≡ None
 unheld first g l id u = ⊎_elim (λ e. sym e ∙ u) (λ e. e.0) (l.held id)
-
-true_or_false : (b : Bool) → (b ≡ true) ⊎ (b ≡ false)
-true_or_false true = inl refl
-true_or_false false = inr refl
 
 -- nothing more was read
 pub asked_same : (g : GraphData) (old new : Search) → ((q : ObjectId) → old.seen q ≡ true → new.seen q ≡ true)

@@ -2,6 +2,6 @@ mod LookLemmas
 mod AskLemmas
 mod SearchLemmas
 mod ModeLemmas
-mod NamedLemmas
+pub mod NamedLemmas
 mod NoteLemmas
 mod LimitLemmas

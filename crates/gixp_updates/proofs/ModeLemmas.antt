@@ -7,13 +7,13 @@ use Rattle.gixp_graph.specs.declared.objects.ObjectError.TheVariants.{Memory as 
 use Rattle.gixp_graph.specs.Object.{Objects}
 use Rattle.gixp_hash.specs.Failures.{HasRisen}
 use Rattle.gixp_graph.specs.GraphData.{GraphValue}
-use Rattle.gixp_graph.specs.Refusals.{TellsRefusal, writing}
+use Rattle.gixp_graph.specs.Refusals.{ErrorIsRefusal, writing}
 use Rattle.gixp_updates.specs.declared.refs.error.Error.{Error}
 use Rattle.gixp_updates.specs.declared.refs.error.Error.TheVariants.{FindObject, TooManyCommits, Memory}
 use Rattle.gixp_updates.specs.declared.refs.mode.Wanted.{Wanted}
 use Rattle.gixp_updates.specs.declared.refs.edit.Update.{Update}
 use Rattle.gixp_updates.specs.Modes.{LocalSide, IsUpdate}
-use Rattle.gixp_updates.specs.UpdateError.{TellsIfRefused, Consults}
+use Rattle.gixp_updates.specs.UpdateError.{ErrorIsCausedIfRefused, Consults}
 use Rattle.gixp_updates.proofs.LookLemmas.{looks_none, looks_on}
 
 pub on_true : (b : Bool) (P Q : Type 0) → b ≡ true → P → MatchBool b P Q
@@ -30,11 +30,11 @@ risen_on a b c l h = ⊎_elim (λ e. inl (omega (arith, e))) (λ e. inr e) h
 
 -- an error has the same cause from a state on after which no call failed
 tells_on : {T : Type 0} (limit : Option ℕ) (r : Result T Error) (a b c : GraphValue) → b.refusals ≡ a.refusals → a.failures ≤ b.failures
-    → TellsIfRefused limit r b c → TellsIfRefused limit r a c
+    → ErrorIsCausedIfRefused limit r b c → ErrorIsCausedIfRefused limit r a c
 tells_on limit (Ok x) a b c e l t = t ∙ e
 tells_on limit (Err (FindObject x)) a b c e l t = (t.0, t.1 ∙ ap (λ w. writing w x) e, risen_on a.failures b.failures c.failures l t.2)
 tells_on limit (Err TooManyCommits) a b c e l t = (t.0, t.1 ∙ e)
-tells_on limit (Err Memory) a b c e l t = subst (λ w. TellsRefusal no_memory w c.refusals) e t
+tells_on limit (Err Memory) a b c e l t = subst (λ w. ErrorIsRefusal no_memory w c.refusals) e t
 
 -- two look-ups in a row
 pub consults_on : {S T : Type 0} (limit : Option ℕ) (x : S) (r : Result T Error) (a b c : GraphValue)
@@ -42,20 +42,20 @@ pub consults_on : {S T : Type 0} (limit : Option ℕ) (x : S) (r : Result T Erro
 consults_on limit x r a b c m n = record {
   looks = looks_on a.graph b.graph c.graph m.looks n.looks;
   failures = omega (arith, m.failures, n.failures);
-  tells = tells_on limit r a b c m.tells m.failures n.tells;
+  reports = tells_on limit r a b c m.reports m.failures n.reports;
 }
 
 pub consults_as : {S T : Type 0} (limit : Option ℕ) (x : S) (y : T) (a b : GraphValue) → Consults {T = S} limit (Ok x) a b
     → Consults {T = T} limit (Ok y) a b
-consults_as limit x y a b m = record { looks = m.looks; failures = m.failures; tells = m.tells }
+consults_as limit x y a b m = record { looks = m.looks; failures = m.failures; reports = m.reports }
 
 pub consults_err : {S T : Type 0} (limit : Option ℕ) (e : Error) (a b : GraphValue) → Consults {T = S} limit (Err e) a b
     → Consults {T = T} limit (Err e) a b
-consults_err limit e a b m = record { looks = m.looks; failures = m.failures; tells = m.tells }
+consults_err limit e a b m = record { looks = m.looks; failures = m.failures; reports = m.reports }
 
 -- nothing is looked up
 pub consults_none : {T : Type 0} (limit : Option ℕ) (x : T) (a : GraphValue) → Consults {T = T} limit (Ok x) a a
-consults_none limit x a = record { looks = looks_none a.graph; failures = omega arith; tells = refl }
+consults_none limit x a = record { looks = looks_none a.graph; failures = omega arith; reports = refl }
 
 pub ok_weaker : {T : Type 0} (r : Result T Error) (P Q : T → Type 0) → ((x : T) → P x → Q x) → IfOk r P → IfOk r Q
 ok_weaker (Ok x) P Q f p = f x p

@@ -111,15 +111,16 @@ short_match name refs names has =
 pub no_names : (text : List ℕ) (names : BTreeSet (Bor (List ℕ))) → names.keys ≡ [] → has_text names text ≡ false
 no_names text names e = ap (λ keys. list_any (is_at (λ (key : Bor (List ℕ)). slice_cmp nat_cmp text key.now)) keys) e
 
--- a step of a loop that adds the name of each ref
-pub names_more : (refs : List Ref) (i : ℕ) (r : Ref) (now new : BTreeSet (Bor (List ℕ))) → r ≡ get_or refs i r → i < length refs
-    → ((text : List ℕ) → has_text now text ≡ list_any (is_named text) (take i refs))
-    → ((text : List ℕ) → has_text new text ≡ (has_text now text || is_named text r))
-    → (text : List ℕ) → has_text new text ≡ list_any (is_named text) (take (i + 1) refs)
-names_more refs i r now new e l kept step text =
-    step text ∙ ap (λ b. b || is_named text r) (kept text)
-    ∙ ap (λ x. list_any (is_named text) (take i refs) || is_named text x) e
-    ∙ sym (list_any_more (is_named text) refs i r l)
+-- a step of a loop that adds the name of each ref that passes
+pub names_more : (passes : List ℕ → Ref → Bool) (refs : List Ref) (i : ℕ) (r : Ref) (now new : BTreeSet (Bor (List ℕ)))
+    → r ≡ get_or refs i r → i < length refs
+    → ((text : List ℕ) → has_text now text ≡ list_any (passes text) (take i refs))
+    → ((text : List ℕ) → has_text new text ≡ (has_text now text || passes text r))
+    → (text : List ℕ) → has_text new text ≡ list_any (passes text) (take (i + 1) refs)
+names_more passes refs i r now new e l kept step text =
+    step text ∙ ap (λ b. b || passes text r) (kept text)
+    ∙ ap (λ x. list_any (passes text) (take i refs) || passes text x) e
+    ∙ sym (list_any_more (passes text) refs i r l)
 
 -- ---- the matches of each kind of source
 

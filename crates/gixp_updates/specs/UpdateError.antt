@@ -4,7 +4,7 @@ use Rattle.gixp_graph.specs.declared.objects.ObjectError.{ObjectError}
 use Rattle.gixp_graph.specs.declared.objects.ObjectError.TheVariants.{Io, Corrupt, Memory as no_memory}
 use Rattle.gixp_hash.specs.Failures.{HasRisen}
 use Rattle.gixp_graph.specs.GraphData.{GraphValue}
-use Rattle.gixp_graph.specs.Refusals.{TellsRefusal, writing}
+use Rattle.gixp_graph.specs.Refusals.{ErrorIsRefusal, writing}
 use Rattle.gixp_updates.specs.LookUps.{LooksUp}
 use Rattle.gixp_updates.specs.declared.refs.error.Error.{Error}
 use Rattle.gixp_updates.specs.declared.refs.error.Error.TheVariants.{FindObject, TooManyCommits, Memory}
@@ -17,17 +17,17 @@ from_object no_memory = Memory
 
 -- the cause of each error: the objects recorded it, and counted a failure; or no call of the objects failed, and the
 -- caller set a limit; or an allocation failed, in the objects or not
-abbrev pub TellsError : Option ℕ → Error → GraphValue → GraphValue → Type 0
-TellsError limit (FindObject e) old new = (e ≢ no_memory) × (new.refusals ≡ writing old.refusals e) × HasRisen old.failures new.failures
-TellsError limit TooManyCommits old new = IsSome limit × (new.refusals ≡ old.refusals)
-TellsError limit Memory old new = TellsRefusal no_memory old.refusals new.refusals
+abbrev pub ErrorIsCaused : Option ℕ → Error → GraphValue → GraphValue → Type 0
+ErrorIsCaused limit (FindObject e) old new = (e ≢ no_memory) × (new.refusals ≡ writing old.refusals e) × HasRisen old.failures new.failures
+ErrorIsCaused limit TooManyCommits old new = IsSome limit × (new.refusals ≡ old.refusals)
+ErrorIsCaused limit Memory old new = ErrorIsRefusal no_memory old.refusals new.refusals
 
-abbrev pub TellsIfRefused : {T : Type 0} → Option ℕ → Result T Error → GraphValue → GraphValue → Type 0
-TellsIfRefused limit (Ok x) old new = new.refusals ≡ old.refusals
-TellsIfRefused limit (Err e) old new = TellsError limit e old new
+abbrev pub ErrorIsCausedIfRefused : {T : Type 0} → Option ℕ → Result T Error → GraphValue → GraphValue → Type 0
+ErrorIsCausedIfRefused limit (Ok x) old new = new.refusals ≡ old.refusals
+ErrorIsCausedIfRefused limit (Err e) old new = ErrorIsCaused limit e old new
 
 -- commits were looked up; if a look-up failed, the error shows why
 pub record Consults {T : Type 0} (limit : Option ℕ) (r : Result T Error) (old new : GraphValue) : Type 0 where
   pub looks : LooksUp old.graph new.graph
   pub failures : old.failures ≤ new.failures
-  pub tells : TellsIfRefused limit r old new
+  pub reports : ErrorIsCausedIfRefused limit r old new

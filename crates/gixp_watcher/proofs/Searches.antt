@@ -71,5 +71,5 @@ module _ {X K V : Type 0} {R : K → K → Ordering} (o : IsTotalOrder R) (key :
         let parts = parted (searchable_from_sorted o key xs q (sorted o key xs h)) in
         finite.get-from_entries o (map entry xs) q ∙ find_none xs q (λ k d within. elim (cases_lt k i) [
           | inl before ↦ ap is_eq (o.antisymm q _ ∙ ap ordering_reverse (parts.0 k d (omega arith) before))
-          | inr behind ↦ ap is_eq (o.antisymm q _ ∙ ap ordering_reverse (parts.1 k d behind within))
+          | inr following ↦ ap is_eq (o.antisymm q _ ∙ ap ordering_reverse (parts.1 k d following within))
         ])

@@ -7,19 +7,19 @@ mod objects;
 mod pack;
 mod promised;
 mod refs;
+mod row;
 mod rows;
 mod status;
 #[cfg(test)]
 mod tests;
 mod watch;
-mod words;
 
 pub use listener::Counted;
 pub use objects::SortedObjects;
 pub use pack::{LimitedPack, PackTooLarge};
 pub use promised::promised_fetch;
 pub use refs::SortedRefs;
+pub use row::ReadError;
 pub use rows::{ObjectRow, RefRow};
 pub use status::exit_status;
 pub use watch::{Fetches, fetch_twice};
-pub use words::ReadError;

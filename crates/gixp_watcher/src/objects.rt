@@ -7,8 +7,8 @@ ghost use Rattle.gix_protocol.specs.Object.{commit_of};
 ghost use Rattle.gixp_watcher.specs.declared.rows.ObjectRow.{ObjectRow};
 ghost use Rattle.gixp_watcher.specs.Sorted.{Rises, IsAboveLast};
 
+use crate::row::{ReadError, object_in};
 use crate::rows::ObjectRow;
-use crate::words::{ReadError, object_in};
 use gix_protocol::ObjectId;
 use gix_protocol::fetch::negotiate::{CommitData, Find, ObjectError, ObjectKind};
 use std::alloc::Global;

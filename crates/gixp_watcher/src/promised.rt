@@ -7,7 +7,7 @@ ghost use Rattle.gix_protocol.specs.ClientNames.{client_feature};
 ghost use Rattle.gix_protocol.specs.ClientPromise.{IsOneRun};
 
 use crate::objects::SortedObjects;
-use crate::pack::LimitedPack;
+use crate::pack::{LimitedPack, PackTooLarge};
 use crate::refs::SortedRefs;
 use gix_protocol::client::{
     Error, Fetched, Repository, Request, SessionNegotiation, Silent, fetch_once,
@@ -27,17 +27,18 @@ pub fn promised_fetch<'a, T: Transport + Drop, W: Write>(
     repository: Repository<'a, SortedObjects, SortedRefs>,
     pack: &mut LimitedPack<W>,
 ) -> Result<(RefMap, Fetched), Error>
-    ensures { IfOk result (λ came. ((came.0.mappings.items ≡ []) × (came.1.outcome ≡ None) × (pack.new ≡ pack.old))
+    ensures { IfOk result (λ received. ((received.0.mappings.items ≡ []) × (received.1.outcome ≡ None) × (pack.new ≡ pack.old))
         ⊎ ((end : Reading) × IsOneRun
         (parties_of ⟦<SessionNegotiation<'a, SortedObjects, SortedRefs, AnyNegotiator> as Negotiate>⟧.calls
-        ⟦<ShallowMemory as ShallowStore>⟧.calls ⟦<NeverInterrupt as Interrupt>⟧.says ⟦<LimitedPack<W> as ConsumePack<Discard>>⟧.consumes
+        ⟦<ShallowMemory as ShallowStore>⟧.calls ⟦<NeverInterrupt as Interrupt>⟧.polls ⟦<LimitedPack<W> as ConsumePack<Discard>>⟧.consumes
         T.is_plain)
+        ⟦<PackTooLarge as Into<Error>>⟧.converts
         ⟦<SessionNegotiation<'a, SortedObjects, SortedRefs, AnyNegotiator> as NegotiatesMap>⟧.map_of
         ⟦<SessionNegotiation<'a, SortedObjects, SortedRefs, AnyNegotiator> as NegotiatesMap>⟧.knows
-        (client_feature (codes "watcher/1.0")) [] request.now (T.reading transport) came.0
+        (client_feature (codes "watcher/1.0")) [] request.now (T.reading transport) received.0
         (session_knowledge request.now (⟦<SortedObjects as Find>⟧.contents repository.entry.objects.now)
         (⟦<SortedRefs as RefStore>⟧.refs repository.entry.refs.now))
-        repository.entry.boundary.now pack.old (Ok came.1.outcome) end pack.new)) }
+        repository.entry.boundary.now pack.old (Ok received.1.outcome) end pack.new)) }
 {
     fetch_once(
         alloc,

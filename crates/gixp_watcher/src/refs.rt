@@ -6,8 +6,8 @@ ghost use Rattle.std.specs.Prelude.{◌≡◌, true, IfOk};
 ghost use Rattle.gix_protocol.specs.Changes.{listed_value};
 ghost use Rattle.gixp_watcher.specs.Sorted.{Rises, IsAboveLast, name_of, name_and_id};
 
+use crate::row::{ReadError, ref_in};
 use crate::rows::RefRow;
-use crate::words::{ReadError, ref_in};
 use bstr::{BStr, BString};
 use gix_protocol::ObjectId;
 use gix_protocol::client::ListedRefs;

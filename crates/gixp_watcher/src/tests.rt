@@ -78,7 +78,7 @@ fn rejects_a_pack_that_is_too_large(rt: HostRuntime) -> Result<(), Fail> {
             let text = format!(in alloc; "{e}")?;
             assert_eq!(rt;
                 text.as_str(),
-                "the pack is refused: it has more bytes than the limit"
+                "the consumer refused the pack: it has more bytes than the limit"
             );
         }
     }

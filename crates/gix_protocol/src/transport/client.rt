@@ -2,4 +2,4 @@
 pub use gixp_capabilities::client::Error;
 pub use gixp_capabilities::{Capabilities, Capability, CapabilityIter};
 pub use gixp_packetline::{ExtendedBufRead, MessageKind};
-pub use gixp_wire::{Account, SetServiceResponse, Transport};
+pub use gixp_transport::{Account, SetServiceResponse, Transport};

@@ -4,13 +4,13 @@ ghost use Rattle.std.specs.List.{list_all};
 ghost use Rattle.gixp_matching.specs.Apart.{parts, key_parts};
 ghost use Rattle.gixp_matching.specs.Digest.{number_parts, parts_digest, with_digest};
 ghost use Rattle.gixp_matching.specs.Mappings.{firsts};
-ghost use Rattle.gixp_matching.specs.Firsts.{first_flags, flagged, TellsFirsts};
+ghost use Rattle.gixp_matching.specs.Firsts.{first_flags, flagged, FlagsFirsts};
 ghost use Rattle.gixp_matching.specs.Placed.{placed, placed_from};
 
 use crate::match_group::digest::key_digest;
 use crate::match_group::key::{AsMapping, Key};
 use crate::match_group::sorted::{are_distinct, rises};
-use gixp_repeats::first_flags;
+use gixp_utils::first_flags;
 use std::alloc::{AllocError, Global};
 
 // A source and a local name after their hash, so that mostly only hashes are compared.
@@ -96,7 +96,7 @@ fn rows_of<'k, 'a>(
 // For each mapping, whether it is the first with its source and local name. None where their order or their hashes
 // show that each is; no list of keys is made then.
 fn flags_of<M: AsMapping>(alloc: Global, mappings: &[M]) -> Result<Option<Vec<bool>>, AllocError>
-    ensures { IfOk result (TellsFirsts (map M.mapped mappings.now)) }
+    ensures { IfOk result (FlagsFirsts (map M.mapped mappings.now)) }
 {
     if are_in_order(mappings) {
         return Ok(None);

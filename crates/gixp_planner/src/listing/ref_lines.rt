@@ -6,7 +6,7 @@ ghost use Rattle.gixp_refs.specs.ParseError.{object_of};
 
 use gixp_hash::ObjectId;
 use gixp_refs::handshake::Ref;
-use gixp_text::append;
+use gixp_utils::append;
 use std::alloc::AllocError;
 
 fn append_symbolic(

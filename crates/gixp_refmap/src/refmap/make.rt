@@ -78,7 +78,7 @@ fn items<'a>(
 fn places_of(alloc: Global, group: &MatchGroup<'_>, refs: &[Ref]) -> Result<Vec<Place>, AllocError>
     ensures places { IfOk result (λ places. map place_value places.items
         ≡ map place_of (repeated (group_specs group.now) (value_names (map ref_value refs.now)))) }
-    ensures told { IfOk result (λ _. AllByRecursion (FollowsFromPlace (group_specs group.now) (value_names (map ref_value refs.now)))
+    ensures reported { IfOk result (λ _. AllByRecursion (FollowsFromPlace (group_specs group.now) (value_names (map ref_value refs.now)))
         (repeated (group_specs group.now) (value_names (map ref_value refs.now)))) }
     ensures there { IfOk result (λ places. AllByRecursion (IsThere (length refs.now) (group_specs group.now)) places.items) }
 {

@@ -11,7 +11,7 @@ use bstr::{BStr, BString};
 use gixp_capabilities::client::Error;
 use gixp_hash::ObjectId;
 use gixp_packetline::Protocol;
-use gixp_wire::Transport;
+use gixp_transport::Transport;
 use std::alloc::{AllocError, Global};
 use std::marker::Model;
 
@@ -67,7 +67,7 @@ impl Arguments {
     ghost use Rattle.gixp_requests.specs.Request.{SendsValues, request, request_fits, request_values, sent_off};
     ghost use Rattle.gixp_requests.specs.Line.{line_text};
     ghost use Rattle.gixp_packetline.specs.FrameText.{texts_of};
-    ghost use Rattle.gixp_wire.specs.Transport.{Sends};
+    ghost use Rattle.gixp_transport.specs.Transport.{Sends};
 
     /// A new request. Under version 2 it has the lines of the table that are sent with these features.
     ///
@@ -124,14 +124,14 @@ impl Arguments {
         if self.version == Protocol::V2 || self.wanted {
             return Ok(Line::Want(*id));
         }
-        let behind = features_text(
+        let following = features_text(
             self.alloc,
             &self.features,
             self.include_tag,
             self.deepen_relative,
             &self.added,
         )?;
-        Ok(Line::Text(want_line(self.alloc, id, &behind)?))
+        Ok(Line::Text(want_line(self.alloc, id, &following)?))
     }
 
     /// Requests an object, by the line `want <id>`.

@@ -1,6 +1,5 @@
 //! The meaning of a banded line.
 ghost use Rattle.std.specs.Prelude.{◌≡◌};
-ghost use Rattle.std.specs.Io.BufRead.{strip_last};
 ghost use Rattle.gixp_sidebands.specs.Bands.{band_of};
 
 /// The meaning of a line to a sideband reader.
@@ -26,14 +25,5 @@ pub(crate) fn band_of(line: &[u8]) -> Band
         [2, ..] => Band::Text(false),
         [3, ..] => Band::Text(true),
         [band, ..] => Band::Unknown(*band),
-    }
-}
-
-pub(crate) fn without_line_end(text: &[u8]) -> &[u8]
-    ensures { result.now ≡ strip_last 10 text.now }
-{
-    match text {
-        [front @ .., b'\n'] => front,
-        _ => text,
     }
 }

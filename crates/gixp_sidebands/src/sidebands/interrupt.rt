@@ -6,11 +6,11 @@ use std::cell::Cell;
 /// Decides whether to stop reading.
 pub trait Interrupt {
     // What a call may return, and what it leaves.
-    ghost says: { Self → Bool → Self → Type 0 };
+    ghost polls: { Self → Bool → Self → Type 0 };
 
     /// Whether to stop reading. It is called after each packet of bands 2 and 3.
     fn is_interrupted(&mut self) -> bool
-        ensures { says self.old result self.new };
+        ensures { polls self.old result self.new };
 }
 
 /// An interrupt that never stops.
@@ -18,7 +18,7 @@ pub trait Interrupt {
 pub struct NeverInterrupt;
 
 impl Interrupt for NeverInterrupt {
-    ghost says = { λ old answer new. answer ≡ false };
+    ghost polls = { λ old answer new. answer ≡ false };
 
     fn is_interrupted(&mut self) -> bool {
         false
@@ -39,7 +39,7 @@ impl<'a> InterruptFlag<'a> {
 }
 
 impl Interrupt for InterruptFlag<'_> {
-    ghost says = { λ old answer new. new ≡ old };
+    ghost polls = { λ old answer new. new ≡ old };
 
     fn is_interrupted(&mut self) -> bool {
         self.flag.get()

@@ -13,19 +13,19 @@ use std::test::Fail;
 // Records its names, and the names and ids of its parts. It may fail to add a part.
 #[derive(Drop)]
 struct Family<'a> {
-    said: &'a mut Vec<u8>,
+    sent: &'a mut Vec<u8>,
     refuses: bool,
 }
 
 impl Family<'_> {
     fn say(&mut self, text: &[u8]) {
-        let _ = self.said.extend_from_slice(text);
-        let _ = self.said.push(b'\n');
+        let _ = self.sent.extend_from_slice(text);
+        let _ = self.sent.push(b'\n');
     }
 }
 
 impl Progress for Family<'_> {
-    ghost told = { λ old call new. ⊤ };
+    ghost reported = { λ old call new. ⊤ };
 
     ghost name_of = { λ p. None };
 
@@ -62,15 +62,15 @@ impl NestedProgress for Family<'_> {
 }
 
 // The result of a fetch of depth 1, whose reporter records these lines.
-fn fetch_told(
+fn fetch_and_log(
     alloc: Global,
     answers: &[&[u8]],
     refuses: bool,
-    said: &mut Vec<u8>,
+    sent: &mut Vec<u8>,
 ) -> Result<String, AllocError> {
     let mut transport = memory(alloc, answers)?;
     let mut store = ShallowMemory::new(Vec::new(alloc));
-    let mut family = Family { said, refuses };
+    let mut family = Family { sent, refuses };
     run(
         alloc,
         &mut transport,
@@ -83,11 +83,11 @@ fn fetch_told(
 }
 
 // The recorded lines, then the result of the fetch.
-fn told(alloc: Global, answers: &[&[u8]], refuses: bool) -> Result<Vec<u8>, AllocError> {
-    let mut said = Vec::with_capacity(alloc, 1000)?;
-    let text = fetch_told(alloc, answers, refuses, &mut said)?;
-    said.extend_from_slice(text.as_bytes())?;
-    Ok(said)
+fn reported(alloc: Global, answers: &[&[u8]], refuses: bool) -> Result<Vec<u8>, AllocError> {
+    let mut sent = Vec::with_capacity(alloc, 1000)?;
+    let text = fetch_and_log(alloc, answers, refuses, &mut sent)?;
+    sent.extend_from_slice(text.as_bytes())?;
+    Ok(sent)
 }
 
 const ROUNDS: &str = "handshake\nlist refs\n\
@@ -97,10 +97,10 @@ const ROUNDS: &str = "handshake\nlist refs\n\
 fn one_part_where_bands_begin_with_the_pack(rt: HostRuntime) -> Result<(), Fail> {
     let [greeting, refs, answer, last] = V2;
     let answers = [greeting, refs, answer, answer, last];
-    let said = told(rt.alloc(), &answers, false)?;
-    let said = str::from_utf8(&said)?;
+    let sent = reported(rt.alloc(), &answers, false)?;
+    let sent = str::from_utf8(&sent)?;
     assert_eq!(rt;
-        said.strip_suffix("3 rounds"),
+        sent.strip_suffix("3 rounds"),
         Some(ROUNDS),
         "without an AllocError"
     );
@@ -111,10 +111,10 @@ fn one_part_where_bands_begin_with_the_pack(rt: HostRuntime) -> Result<(), Fail>
 fn no_round_needs_a_part(rt: HostRuntime) -> Result<(), Fail> {
     let [greeting, refs, answer, last] = V2;
     let answers = [greeting, refs, answer, answer, last];
-    let said = told(rt.alloc(), &answers, true)?;
-    let said = str::from_utf8(&said)?;
+    let sent = reported(rt.alloc(), &answers, true)?;
+    let sent = str::from_utf8(&sent)?;
     assert_eq!(rt;
-        said.strip_suffix("Memory"),
+        sent.strip_suffix("Memory"),
         Some(ROUNDS),
         "without an AllocError"
     );
@@ -134,19 +134,19 @@ fn a_part_for_each_banded_round(rt: HostRuntime) -> Result<(), Fail> {
     let [_, refs, ..] = V2;
     let [greeting, answer, last] = BANDED;
     let answers = [greeting, refs, answer, answer, last];
-    let said = told(rt.alloc(), &answers, false)?;
+    let sent = reported(rt.alloc(), &answers, false)?;
     let want = "handshake\nlist refs\n\
         negotiate (round 1)\nremote\nFERP\nnegotiate (round 2)\nremote\nFERP\n\
         negotiate (round 3)\nremote\nFERP\nreceiving pack\n3 rounds";
-    assert_eq!(rt; str::from_utf8(&said)?, want, "without an AllocError");
+    assert_eq!(rt; str::from_utf8(&sent)?, want, "without an AllocError");
     Ok(())
 }
 
 #[test]
 fn no_part_where_nothing_is_asked_for(rt: HostRuntime) -> Result<(), Fail> {
     let [greeting, ..] = V2;
-    let said = told(rt.alloc(), &[greeting, b"0000"], false)?;
+    let sent = reported(rt.alloc(), &[greeting, b"0000"], false)?;
     let want = "handshake\nlist refs\nnothing";
-    assert_eq!(rt; str::from_utf8(&said)?, want, "without an AllocError");
+    assert_eq!(rt; str::from_utf8(&sent)?, want, "without an AllocError");
     Ok(())
 }

@@ -12,7 +12,7 @@ use std::io::{ErrorKind, Read};
 
 /// What a consumer does after its byte.
 #[derive(Clone, Copy)]
-pub(crate) enum Says {
+pub(crate) enum ConsumerAnswer {
     ReadOn,
     Leave,
     Refuse,
@@ -21,7 +21,7 @@ pub(crate) enum Says {
 /// Takes one byte of the pack.
 #[derive(Drop)]
 pub(crate) struct Taste {
-    pub(crate) says: Says,
+    pub(crate) polls: ConsumerAnswer,
     pub(crate) byte: [u8; 1],
 }
 
@@ -40,10 +40,10 @@ impl<P> ConsumePack<P> for Taste {
             Ok(_) => {}
             Err(e) => return Err(CopyError::Read(read::Error::Io(e.kind()))),
         }
-        match self.says {
-            Says::ReadOn => Ok(true),
-            Says::Leave => Ok(false),
-            Says::Refuse => Err(CopyError::Write(ErrorKind::Other)),
+        match self.polls {
+            ConsumerAnswer::ReadOn => Ok(true),
+            ConsumerAnswer::Leave => Ok(false),
+            ConsumerAnswer::Refuse => Err(CopyError::Write(ErrorKind::Other)),
         }
     }
 

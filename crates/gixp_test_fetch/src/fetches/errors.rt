@@ -7,7 +7,7 @@ use gixp_negotiate::negotiate;
 use gixp_packetline::read;
 use gixp_response::fetch::response;
 use gixp_shallow::ShallowError;
-use gixp_wire::IsSpuriousError;
+use gixp_transport::IsSpuriousError;
 use std::alloc::{AllocError, Global};
 use std::fmt::Display;
 use std::io::ErrorKind;
@@ -122,7 +122,7 @@ fn which_may_pass(kind: ErrorKind) -> [bool; 5] {
 }
 
 #[test]
-fn says_which_may_pass(rt: HostRuntime) {
+fn reports_which_may_pass(rt: HostRuntime) {
     assert_eq!(rt;
         which_may_pass(ErrorKind::TimedOut),
         [true, true, false, true, false]

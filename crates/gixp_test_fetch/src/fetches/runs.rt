@@ -20,7 +20,7 @@ use gixp_requests::agent_feature;
 use gixp_requests::command::CommandTable;
 use gixp_shallow::{Shallow, ShallowStore};
 use gixp_sidebands::NeverInterrupt;
-use gixp_wire::{Service, Transport};
+use gixp_transport::{Service, Transport};
 use std::alloc::{AllocError, Global};
 
 /// The stream of a server of version 2: its capabilities, its refs, a response without a pack, and one with it.

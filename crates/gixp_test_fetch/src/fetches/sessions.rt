@@ -1,16 +1,16 @@
 //! Whole fetches over bodies and connections, and their failures.
-use crate::fetches::consumers::{Says, Taste};
+use crate::fetches::consumers::{ConsumerAnswer, Taste};
 use crate::fetches::repository::{Repository, sound};
 use crate::fetches::runs::{V1, V2, joined, run};
 use crate::transports;
 use crate::transports::memory;
-use gixp_doubles::{Device, Paper, Told};
+use gixp_doubles::{Device, Paper, ProgressLog};
 use gixp_fetch::consume::{ConsumePack, CopyError, CopyPack, ReadToEnd};
 use gixp_graph::{ObjectError, RefStoreError};
 use gixp_packetline::{ExtendedBufRead, MessageKind, Protocol};
 use gixp_progress::Discard;
 use gixp_shallow::{Shallow, ShallowMemory, ShallowStore};
-use gixp_wire::{Connection, Transport};
+use gixp_transport::{Connection, Transport};
 use std::alloc::{AllocError, Global};
 use std::io::ErrorKind;
 use std::num::NonZeroU32;
@@ -114,7 +114,7 @@ fn fetches_over_connections(rt: HostRuntime) -> Result<(), Fail> {
 }
 
 // Whether a text has this error, and no lock is held.
-fn tells_of(text: &str, error: &str) -> bool {
+fn reports_of(text: &str, error: &str) -> bool {
     text.contains(error) && !text.contains("locked true")
 }
 
@@ -125,23 +125,23 @@ fn count_reads(alloc: Global, answers: &[&[u8]]) -> Result<u64, AllocError> {
 }
 
 #[test]
-fn tells_of_each_read_that_fails(rt: HostRuntime) -> Result<(), Fail> {
+fn reports_each_read_that_fails(rt: HostRuntime) -> Result<(), Fail> {
     for answers in [V1.as_slice(), V2.as_slice()] {
         for reads in 0..count_reads(rt.alloc(), answers)? {
             let text = fetch_over(rt.alloc(), answers, reads, u64::MAX)?;
-            assert!(rt; tells_of(text.as_str(), "TimedOut"), "{reads}: {text}");
+            assert!(rt; reports_of(text.as_str(), "TimedOut"), "{reads}: {text}");
         }
     }
     Ok(())
 }
 
 #[test]
-fn tells_of_each_write_that_fails(rt: HostRuntime) -> Result<(), Fail> {
+fn reports_each_write_that_fails(rt: HostRuntime) -> Result<(), Fail> {
     for answers in [V1.as_slice(), V2.as_slice()] {
         for writes in 0..60u64 {
             let text = fetch_over(rt.alloc(), answers, u64::MAX, writes)?;
             assert!(rt;
-                tells_of(text.as_str(), "Io(BrokenPipe)"),
+                reports_of(text.as_str(), "Io(BrokenPipe)"),
                 "{writes}: {text}"
             );
         }
@@ -154,25 +154,25 @@ fn taste(
     alloc: Global,
     answers: &[&[u8]],
     repository: Repository,
-    says: Says,
+    polls: ConsumerAnswer,
 ) -> Result<(String, Option<MessageKind>, [u8; 1]), AllocError> {
-    let mut consumer = Taste { says, byte: [0] };
+    let mut consumer = Taste { polls, byte: [0] };
     let (text, stop) = fetch_bodies(alloc, answers, repository, &mut consumer)?;
     Ok((text, stop, consumer.byte))
 }
 
 #[test]
 fn leaves_what_a_consumer_leaves(rt: HostRuntime) -> Result<(), Fail> {
-    for (says, want, stop) in [
-        (Says::ReadOn, DONE, Some(MessageKind::Flush)),
-        (Says::Leave, DONE, None),
+    for (polls, want, stop) in [
+        (ConsumerAnswer::ReadOn, DONE, Some(MessageKind::Flush)),
+        (ConsumerAnswer::Leave, DONE, None),
         (
-            Says::Refuse,
+            ConsumerAnswer::Refuse,
             "ConsumePack(Write(Other)), 0 at the boundary, locked false",
             None,
         ),
     ] {
-        let (text, stopped_at, byte) = taste(rt.alloc(), &V2, sound(rt.alloc(), 20)?, says)?;
+        let (text, stopped_at, byte) = taste(rt.alloc(), &V2, sound(rt.alloc(), 20)?, polls)?;
         assert_eq!(rt; text.as_str(), want);
         assert_eq!(rt; byte, [b'P']);
         assert_eq!(rt; stopped_at, stop);
@@ -184,20 +184,23 @@ fn leaves_what_a_consumer_leaves(rt: HostRuntime) -> Result<(), Fail> {
 const REFUSED: &[u8] = b"000dpackfile\n0007\x01PA0011ERR no access0006\x01C0000";
 
 #[test]
-fn tells_what_stands_behind_a_consumer(rt: HostRuntime) -> Result<(), Fail> {
+fn reports_what_follows_a_consumer(rt: HostRuntime) -> Result<(), Fail> {
     let [greeting, refs, ..] = V2;
-    for (says, want) in [
+    for (polls, want) in [
         (
-            Says::ReadOn,
+            ConsumerAnswer::ReadOn,
             "ReadRemainingBytes(Server { message: \"no access\" }), 0 at the boundary, locked false",
         ),
-        (Says::Leave, "1 rounds, 0 at the boundary, locked false"),
+        (
+            ConsumerAnswer::Leave,
+            "1 rounds, 0 at the boundary, locked false",
+        ),
     ] {
         let (text, _, _) = taste(
             rt.alloc(),
             &[greeting, refs, REFUSED],
             sound(rt.alloc(), 0)?,
-            says,
+            polls,
         )?;
         assert_eq!(rt; text.as_str(), want);
     }
@@ -214,7 +217,7 @@ fn fetch_to_paper(alloc: Global, fails: u64) -> Result<String, AllocError> {
 }
 
 #[test]
-fn tells_of_a_writer_that_takes_no_pack(rt: HostRuntime) -> Result<(), Fail> {
+fn reports_a_writer_that_takes_no_pack(rt: HostRuntime) -> Result<(), Fail> {
     for fails in 0..2u64 {
         let text = fetch_to_paper(rt.alloc(), fails)?;
         let want = "ConsumePack(Write(BrokenPipe)), 0 at the boundary, locked false";
@@ -277,7 +280,7 @@ fn fetch_failing(alloc: Global, part: usize, number: u64) -> Result<String, Allo
 }
 
 #[test]
-fn tells_of_each_call_of_the_repository_that_fails(rt: HostRuntime) -> Result<(), Fail> {
+fn reports_each_call_of_the_repository_that_fails(rt: HostRuntime) -> Result<(), Fail> {
     for (part, calls, want) in [
         (0usize, 2u64, "Negotiate(LookupCommitInGraph(Io(TimedOut)))"),
         (1, 22, "Negotiate(LookupCommitInGraph(Corrupt))"),
@@ -285,9 +288,9 @@ fn tells_of_each_call_of_the_repository_that_fails(rt: HostRuntime) -> Result<()
     ] {
         for number in 0..calls {
             let text = fetch_failing(rt.alloc(), part, number)?;
-            let is_told = text.as_str().starts_with(want)
+            let is_logged = text.as_str().starts_with(want)
                 && text.as_str().ends_with(" 0 at the boundary, locked false");
-            assert!(rt; is_told, "{part}, {number}: {text}");
+            assert!(rt; is_logged, "{part}, {number}: {text}");
         }
     }
     Ok(())
@@ -298,7 +301,7 @@ const CALLS: &str = "steps\nhandshake\nstep\nstep\nlist refs\n\
     step\nnegotiate (round 1)\nstep\nnegotiate (round 2)\nstep\nnegotiate (round 3)\nstep\nreceiving pack\n";
 
 // The result of a fetch of three rounds, with this progress reporter.
-fn fetch_told(alloc: Global, told: &mut Told) -> Result<String, AllocError> {
+fn fetch_and_log(alloc: Global, reported: &mut ProgressLog) -> Result<String, AllocError> {
     let [greeting, refs, answer, last] = V2;
     let mut transport = memory(alloc, &[greeting, refs, answer, answer, last])?;
     let mut store = ShallowMemory::new(Vec::new(alloc));
@@ -307,20 +310,23 @@ fn fetch_told(alloc: Global, told: &mut Told) -> Result<String, AllocError> {
         &mut transport,
         sound(alloc, 50)?,
         &mut ReadToEnd,
-        told,
+        reported,
         &mut store,
         depth(),
     )
 }
 
 #[test]
-fn tells_each_round(rt: HostRuntime) -> Result<(), Fail> {
-    let mut told = Told::new(rt.alloc());
-    assert_eq!(rt; fetch_told(rt.alloc(), &mut told)?.as_str(), "3 rounds");
+fn reports_each_round(rt: HostRuntime) -> Result<(), Fail> {
+    let mut reported = ProgressLog::new(rt.alloc());
+    assert_eq!(rt;
+        fetch_and_log(rt.alloc(), &mut reported)?.as_str(),
+        "3 rounds"
+    );
     // If a name of the handshake can't be allocated, only its step is reported. For a name of a round or of the pack
     // the result is `Memory`.
     assert_eq!(rt;
-        told.lines(rt.alloc())?.as_str(),
+        reported.lines(rt.alloc())?.as_str(),
         CALLS,
         "without an AllocError"
     );

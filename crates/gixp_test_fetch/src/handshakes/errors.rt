@@ -10,7 +10,7 @@ use gixp_refmap::ls_refs;
 use gixp_refmap::refmap::init;
 use gixp_refs::handshake::refs::parse;
 use gixp_requests::command::validate_argument_prefixes;
-use gixp_wire::IsSpuriousError;
+use gixp_transport::IsSpuriousError;
 use std::alloc::AllocError;
 use std::io::ErrorKind;
 use std::test::Fail;

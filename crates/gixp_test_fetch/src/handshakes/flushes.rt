@@ -4,7 +4,7 @@ use gixp_capabilities::client;
 use gixp_doubles::{Device, Paper};
 use gixp_handshake::{SendFlushOnDrop, indicate_end_of_interaction};
 use gixp_packetline::Protocol;
-use gixp_wire::{Connection, Transport};
+use gixp_transport::{Connection, Transport};
 use std::alloc::{AllocError, Global};
 use std::io::{ErrorKind, Write};
 use std::test::Fail;

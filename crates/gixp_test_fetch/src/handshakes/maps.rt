@@ -2,7 +2,7 @@
 use crate::shown::shown;
 use crate::transports::{connection, memory, opening, text};
 use bstr::{BStr, BString};
-use gixp_doubles::{Device, Paper, Told};
+use gixp_doubles::{Device, Paper, ProgressLog};
 use gixp_handshake::Handshake;
 use gixp_handshake::handshake::{obtain, obtain_mappings};
 use gixp_packetline::Protocol;
@@ -14,7 +14,7 @@ use gixp_refspec::RefSpec;
 use gixp_refspec::parse::{Operation, parse};
 use gixp_requests::agent_feature;
 use gixp_requests::command::CommandTable;
-use gixp_wire::Transport;
+use gixp_transport::Transport;
 use std::alloc::{AllocError, Global};
 use std::io::ErrorKind;
 use std::test::Fail;
@@ -48,7 +48,7 @@ fn listed<T: Transport>(
 ) -> Result<RefMap, Error> {
     let agent = agent_feature(alloc, "x")?;
     let mut shaken = Handshake::empty(alloc);
-    let mut progress = Told::new(alloc);
+    let mut progress = ProgressLog::new(alloc);
     obtain(
         alloc,
         &mut shaken,
@@ -68,7 +68,7 @@ fn listed_mappings<T: Transport>(
 ) -> Result<RefMap, Error> {
     let agent = agent_feature(alloc, "x")?;
     let mut shaken = Handshake::empty(alloc);
-    let mut progress = Told::new(alloc);
+    let mut progress = ProgressLog::new(alloc);
     obtain_mappings(
         alloc,
         &mut shaken,
@@ -91,11 +91,11 @@ fn listed_over_broken(alloc: Global, fails: u64) -> Result<String, Fail> {
 }
 
 #[test]
-fn tells_of_each_write_of_a_request_that_fails(rt: HostRuntime) -> Result<(), Fail> {
+fn reports_each_write_of_a_request_that_fails(rt: HostRuntime) -> Result<(), Fail> {
     for fails in 0..6u64 {
-        let said = listed_over_broken(rt.alloc(), fails)?;
+        let sent = listed_over_broken(rt.alloc(), fails)?;
         assert_eq!(rt;
-            said.as_str(),
+            sent.as_str(),
             "Err(ListRefs(Transport(Io(BrokenPipe))))",
             "{fails}"
         );
@@ -145,7 +145,7 @@ fn count_issues(listed: Result<RefMap, Error>) -> Result<usize, Fail> {
 }
 
 #[test]
-fn tells_of_a_conflict(rt: HostRuntime) -> Result<(), Fail> {
+fn reports_a_conflict(rt: HostRuntime) -> Result<(), Fail> {
     let context = context(rt.alloc(), b"main:refs/x")?;
     let issues = count_issues(listed_over_memory(rt.alloc(), context))?;
     assert_eq!(rt; issues, 1);
@@ -176,16 +176,16 @@ const FRONTS: [&str; 4] = [
     "[\"HEAD\", \"main\", \"refs/tags\"]",
 ];
 
-fn is_front(said: &str) -> bool {
-    FRONTS.iter().any(|front| *front == said)
+fn is_front(sent: &str) -> bool {
+    FRONTS.iter().any(|front| *front == sent)
 }
 
 #[test]
 fn keeps_the_prefixes_in_front(rt: HostRuntime) -> Result<(), Fail> {
-    let (said, added) = extended(rt.alloc())?;
-    assert!(rt; is_front(said.as_str()));
+    let (sent, added) = extended(rt.alloc())?;
+    assert!(rt; is_front(sent.as_str()));
     added?;
-    assert_eq!(rt; said.as_str(), FRONTS[3]);
+    assert_eq!(rt; sent.as_str(), FRONTS[3]);
     Ok(())
 }
 

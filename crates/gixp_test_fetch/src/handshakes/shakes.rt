@@ -1,12 +1,12 @@
 //! Handshakes over devices that fail, and with credentials.
 use crate::shown::shown;
 use crate::transports::{connection, denying, opening, text};
-use gixp_doubles::{Device, Paper, Told};
+use gixp_doubles::{Device, Paper, ProgressLog};
 use gixp_handshake::Handshake;
 use gixp_handshake::credentials::{self, Account, Action, NextAction, Outcome};
 use gixp_handshake::handshake::{Error, handshake};
 use gixp_packetline::Protocol;
-use gixp_wire::{Bodies, Service, Transport};
+use gixp_transport::{Bodies, Service, Transport};
 use std::alloc::{AllocError, Global};
 use std::io::ErrorKind;
 use std::test::Fail;
@@ -22,7 +22,7 @@ fn no_account(_action: Action) -> Result<Option<Outcome>, credentials::Error> {
 
 // A handshake of a client without credentials.
 fn shake<T: Transport>(alloc: Global, transport: &mut T) -> Result<Handshake, Error> {
-    let mut progress = Told::new(alloc);
+    let mut progress = ProgressLog::new(alloc);
     handshake(
         alloc,
         transport,
@@ -56,7 +56,7 @@ fn with_account(alloc: Global) -> Result<Option<Outcome>, credentials::Error> {
 }
 
 // The result of a handshake over a connection whose read with this number fails.
-fn said(alloc: Global, fails: u64) -> Result<String, AllocError> {
+fn sent(alloc: Global, fails: u64) -> Result<String, AllocError> {
     let device = Device::failing(REFS, 7, fails, ErrorKind::TimedOut);
     let paper = Paper::new(alloc, 16);
     let opening = opening(alloc)?;
@@ -65,22 +65,22 @@ fn said(alloc: Global, fails: u64) -> Result<String, AllocError> {
 }
 
 #[test]
-fn tells_of_each_read_that_fails(rt: HostRuntime) -> Result<(), Fail> {
+fn reports_each_read_that_fails(rt: HostRuntime) -> Result<(), Fail> {
     for fails in 0..(REFS.len() as u64).div_ceil(7) {
-        let said = said(rt.alloc(), fails)?;
+        let sent = sent(rt.alloc(), fails)?;
         // The capability advertisement ends with byte 92.
         let want = if fails * 7 < 92 {
             "Err(Transport(Io(TimedOut)))"
         } else {
             "Err(ParseRefs(Io(TimedOut)))"
         };
-        assert_eq!(rt; said.as_str(), want, "{fails}");
+        assert_eq!(rt; sent.as_str(), want, "{fails}");
     }
     Ok(())
 }
 
 // The results of two handshakes over a connection whose write with this number fails.
-fn said_twice(alloc: Global, fails: u64) -> Result<[String; 2], AllocError> {
+fn sent_twice(alloc: Global, fails: u64) -> Result<[String; 2], AllocError> {
     let device = Device::new(REFS, usize::MAX);
     let paper = Paper::failing(alloc, 16, fails, ErrorKind::BrokenPipe);
     let opening = opening(alloc)?;
@@ -91,11 +91,11 @@ fn said_twice(alloc: Global, fails: u64) -> Result<[String; 2], AllocError> {
 }
 
 #[test]
-fn tells_of_each_write_that_fails(rt: HostRuntime) -> Result<(), Fail> {
+fn reports_each_write_that_fails(rt: HostRuntime) -> Result<(), Fail> {
     let want = "Err(Transport(Io(BrokenPipe)))";
     // The opening has 38 bytes.
     for fails in 0..3u64 {
-        let [first, second] = said_twice(rt.alloc(), fails)?;
+        let [first, second] = sent_twice(rt.alloc(), fails)?;
         assert_eq!(rt; (first.as_str(), second.as_str()), (want, want), "{fails}");
     }
     Ok(())
@@ -106,13 +106,13 @@ fn tells_of_each_write_that_fails(rt: HostRuntime) -> Result<(), Fail> {
 struct Shaken {
     found: Handshake,
     transport: Bodies,
-    progress: Told,
+    progress: ProgressLog,
 }
 
 // A handshake of a client that has credentials, with a server that requires them.
 fn shake_with_account(alloc: Global) -> Result<Shaken, Error> {
     let mut transport = denying(alloc, &[REFS])?;
-    let mut progress = Told::new(alloc);
+    let mut progress = ProgressLog::new(alloc);
     let found = handshake(
         alloc,
         &mut transport,

@@ -63,7 +63,7 @@ fn decide<O: Objects>(
 }
 
 #[test]
-fn marks_all_behind_a_look_that_failed(rt: HostRuntime) -> Result<(), Fail> {
+fn marks_all_after_a_failed_lookup(rt: HostRuntime) -> Result<(), Fail> {
     let alloc = rt.alloc();
     let map = ref_map(alloc, &[2, 9])?;
     let mut refs = MemoryRefs::new(alloc);

@@ -5,7 +5,7 @@ use gixp_hash::ObjectId;
 use gixp_packetline::Protocol;
 use gixp_requests::command::CommandTable;
 use gixp_requests::fetch::Arguments;
-use gixp_wire::{Bodies, Body};
+use gixp_transport::{Bodies, Body};
 use std::alloc::{AllocError, Global};
 use std::io::ErrorKind;
 use std::test::Fail;

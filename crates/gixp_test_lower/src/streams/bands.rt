@@ -11,18 +11,20 @@ use std::test::Fail;
 // Records each text, as `[2:text]` or `[3:text]`.
 #[derive(Drop)]
 struct Notes<'a> {
-    said: &'a mut String,
+    reported_text: &'a mut String,
 }
 
 impl BandText for Notes<'_> {
-    ghost hears = { λ old is_error text new. Unit {0} };
+    ghost receives = { λ old is_error text new. Unit {0} };
 
     ghost spares = { λ old is_error text new. Unit {0} };
 
     fn band_text(&mut self, is_error: bool, text: &[u8]) -> Result<(), AllocError> {
-        self.said.push_str(if is_error { "[3:" } else { "[2:" })?;
-        self.said.push_str(str::from_utf8(text).unwrap_or("?"))?;
-        self.said.push_str("]")
+        self.reported_text
+            .push_str(if is_error { "[3:" } else { "[2:" })?;
+        self.reported_text
+            .push_str(str::from_utf8(text).unwrap_or("?"))?;
+        self.reported_text.push_str("]")
     }
 }
 
@@ -41,7 +43,13 @@ fn two_reads<T: ExtendedBufRead>(
     texts: &mut String,
 ) -> (bool, [Result<usize, ErrorKind>; 2]) {
     let mut flag = InterruptFlag::new(flag);
-    let mut reader = WithSidebands::new(lines, Notes { said: texts }, &mut flag);
+    let mut reader = WithSidebands::new(
+        lines,
+        Notes {
+            reported_text: texts,
+        },
+        &mut flag,
+    );
     let interrupted = reader.interrupted();
     (
         interrupted,
@@ -91,7 +99,13 @@ fn leaves<T: ExtendedBufRead>(
     want: &[u8],
 ) -> Result<bool, Fail> {
     let mut never = NeverInterrupt;
-    let mut reader = WithSidebands::new(lines, Notes { said: texts }, &mut never);
+    let mut reader = WithSidebands::new(
+        lines,
+        Notes {
+            reported_text: texts,
+        },
+        &mut never,
+    );
     read_some(&mut reader, size, peeks)?;
     Ok(reader.into_transport().readline()? == Some(want))
 }

@@ -5,7 +5,7 @@ use gixp_capabilities::client;
 use gixp_hash::{ObjectId, decode};
 use gixp_packetline::PacketError;
 use gixp_packetline::read::Error as ReadError;
-use gixp_wire::{Account, Opening};
+use gixp_transport::{Account, Opening};
 use std::io::ErrorKind;
 use std::test::Fail;
 

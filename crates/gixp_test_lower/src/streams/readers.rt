@@ -21,14 +21,14 @@ pub(crate) fn read_all<R: ExtendedBufRead>(
     reader: &mut R,
     calls: usize,
 ) -> Result<String, AllocError> {
-    let mut said = String::new(alloc);
+    let mut reported_text = String::new(alloc);
     for _ in 0..calls {
-        said.push_str(word(alloc, reader)?.as_str())?;
+        reported_text.push_str(word(alloc, reader)?.as_str())?;
     }
-    Ok(said)
+    Ok(reported_text)
 }
 
-fn said(
+fn reported_text(
     alloc: Global,
     mut device: Device<'_>,
     version: Protocol,
@@ -43,7 +43,7 @@ fn said(
 #[test]
 fn takes_a_failure_of_that_kind_for_the_end(rt: HostRuntime) -> Result<(), Fail> {
     let device = Device::failing(b"0006a\n0000", 2, 3, ErrorKind::UnexpectedEof);
-    let got = said(rt.alloc(), device, Protocol::V2, 3)?;
+    let got = reported_text(rt.alloc(), device, Protocol::V2, 3)?;
     assert!(rt; got.as_str() == "2 Io(UnexpectedEof) Io(UnexpectedEof) ");
     Ok(())
 }

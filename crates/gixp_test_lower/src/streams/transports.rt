@@ -1,9 +1,9 @@
 //! Transports over failing devices, failing responses, and a caller over any transport.
 ghost use Rattle.std.specs.Prelude.{◌≡◌, [], IfOk, Ok};
 ghost use Rattle.gixp_packetline.specs.FrameText.{texts_of};
-ghost use Rattle.gixp_wire.specs.Message.{command_frames};
+ghost use Rattle.gixp_transport.specs.Message.{command_frames};
 ghost use Rattle.gixp_packetline.specs.Reading.{Reading, Reads};
-ghost use Rattle.gixp_wire.specs.Transport.{SentBy};
+ghost use Rattle.gixp_transport.specs.Transport.{SentBy};
 
 use crate::streams::readers::read_all;
 use bstr::BString;
@@ -11,7 +11,7 @@ use gixp_capabilities::client::Error;
 use gixp_doubles::{Device, Paper};
 use gixp_packetline::read::ExtendedBufRead;
 use gixp_packetline::{MessageKind, Protocol};
-use gixp_wire::{Bodies, Body, Connection, Message, Service, Transport};
+use gixp_transport::{Bodies, Body, Connection, Message, Service, Transport};
 use std::alloc::{AllocError, Global};
 use std::io::ErrorKind;
 use std::test::Fail;
@@ -127,7 +127,7 @@ fn refuses(alloc: Global, paper: Paper, kind: ErrorKind) -> Result<bool, AllocEr
 }
 
 #[test]
-fn tells_of_a_writer_that_refuses(rt: HostRuntime) -> Result<(), Fail> {
+fn reports_a_writer_that_refuses(rt: HostRuntime) -> Result<(), Fail> {
     let a = rt.alloc();
     assert!(rt;
         refuses(a, Paper::new(a, 0), ErrorKind::WriteZero)?,
@@ -168,18 +168,18 @@ fn asked(
 }
 
 // The result of each call of a client that sends four requests. What it writes before the second one is dropped.
-fn told_of_requests(alloc: Global, memory: &mut Bodies) -> Result<String, Fail> {
-    let mut told = read_all(alloc, memory, 2)?;
-    told.push_str(asked(alloc, memory, Message::Flush, 1)?.as_str())?;
+fn requests_text(alloc: Global, memory: &mut Bodies) -> Result<String, Fail> {
+    let mut reported = read_all(alloc, memory, 2)?;
+    reported.push_str(asked(alloc, memory, Message::Flush, 1)?.as_str())?;
     memory.write_text(b"dropped")?;
     for (message, calls) in [
         (Message::Line(b"x"), 1),
         (Message::Flush, 3),
         (Message::Flush, 2),
     ] {
-        told.push_str(asked(alloc, memory, message, calls)?.as_str())?;
+        reported.push_str(asked(alloc, memory, message, calls)?.as_str())?;
     }
-    Ok(told)
+    Ok(reported)
 }
 
 // Whether four requests were sent, the second of which is this one.
@@ -193,9 +193,9 @@ fn sent_second(memory: &Bodies, request: &[u8]) -> bool {
 #[test]
 fn takes_a_body_for_each_request(rt: HostRuntime) -> Result<(), Fail> {
     let mut memory = three_bodies(rt.alloc())?;
-    let told = told_of_requests(rt.alloc(), &mut memory)?;
+    let reported = requests_text(rt.alloc(), &mut memory)?;
     assert!(rt;
-        told.as_str()
+        reported.as_str()
             == "Io(UnexpectedEof) Io(UnexpectedEof) \
             Ok(()) 2 \
             Err(Io(TimedOut)) Io(UnexpectedEof) \
@@ -208,16 +208,16 @@ fn takes_a_body_for_each_request(rt: HostRuntime) -> Result<(), Fail> {
 
 // Sends a command and takes the first line of its response; true if there is one. It relies only on the contract of `Transport`.
 fn ask<T: Transport>(alloc: Global, transport: &mut T, command: &str) -> Result<bool, Error>
-    ensures { IfOk result (λ came. (mid : Reading)
+    ensures { IfOk result (λ received. (mid : Reading)
         × SentBy (T.reading transport.old).held.persists (T.reading transport.old) mid (texts_of (command_frames command.now [] []))
-        × Reads mid (T.reading transport.new) (Ok came)) }
+        × Reads mid (T.reading transport.new) (Ok received)) }
 {
     match transport.invoke(alloc, command, &[], &[]) {
         Ok(()) => {}
         Err(e) => return Err(e),
     }
     match transport.next_line() {
-        Ok(came) => Ok(came),
+        Ok(received) => Ok(received),
         Err(e) => Err(Error::from(e)),
     }
 }

@@ -7,7 +7,7 @@ ghost use Rattle.gixp_graph.specs.Object.{commit_at};
 ghost use Rattle.gixp_updates.specs.Ancestors.{IsAncestor, IsReachedFrom, ReachesMore, IsBeyond};
 ghost use Rattle.gixp_updates.specs.Limits.{AsksWithin};
 ghost use Rattle.gixp_updates.specs.LookUps.{LooksUp};
-ghost use Rattle.gixp_updates.specs.UpdateError.{TellsError};
+ghost use Rattle.gixp_updates.specs.UpdateError.{ErrorIsCaused};
 ghost use Rattle.gixp_updates.specs.declared.refs.error.Error.TheVariants.{TooManyCommits};
 
 use crate::refs::error::Error;
@@ -57,7 +57,7 @@ pub fn is_ancestor<O: Objects>(
     ensures limited { result ≡ Err TooManyCommits → (most : ℕ) × (most_commits ≡ Some most)
         × ReachesMore (commit_at graph.old.graph.objects) new.now most }
     ensures unrefused { OnOk result (graph.new.refusals ≡ graph.old.refusals) }
-    ensures failed { IfErr result (λ e. TellsError most_commits e graph.old graph.new) }
+    ensures failed { IfErr result (λ e. ErrorIsCaused most_commits e graph.old graph.new) }
     ensures failures { graph.old.failures ≤ graph.new.failures }
 {
     let mut walk = Walk::new(alloc);

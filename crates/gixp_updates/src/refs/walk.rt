@@ -10,7 +10,7 @@ ghost use Rattle.gixp_hash.specs.ObjectId.{id_cmp};
 ghost use Rattle.gixp_graph.specs.declared.objects.ObjectError.TheVariants.{Memory};
 ghost use Rattle.gixp_graph.specs.Object.{Commit, commit_at};
 ghost use Rattle.gixp_hash.specs.Failures.{HasRisen};
-ghost use Rattle.gixp_graph.specs.Refusals.{TellsRefusal};
+ghost use Rattle.gixp_graph.specs.Refusals.{ErrorIsRefusal};
 ghost use Rattle.gixp_updates.specs.Search.{search_of, waits_in, waiting_len, LooksUp, SeesMore, Explores, HoldsWaiting, KeepsAsked, WaitByTime};
 
 use crate::refs::heap::{Heap, Pending};
@@ -101,7 +101,7 @@ impl Walk {
         ensures graph { LooksUp graph.old.graph graph.new.graph }
         ensures asked { KeepsAsked graph.old.graph (search_of self.old) (search_of self.new) graph.old.asked graph.new.asked }
         ensures unrefused { OnOk result (graph.new.refusals ≡ graph.old.refusals) }
-        ensures refused { IfErr result (λ e. TellsRefusal e graph.old.refusals graph.new.refusals) }
+        ensures refused { IfErr result (λ e. ErrorIsRefusal e graph.old.refusals graph.new.refusals) }
         ensures failures { graph.old.failures ≤ graph.new.failures }
         ensures failed { IfErr result (λ e. (e ≡ Memory) ⊎ HasRisen graph.old.failures graph.new.failures) }
     {
@@ -132,7 +132,7 @@ impl Walk {
         ensures graph { LooksUp graph.old.graph graph.new.graph }
         ensures asked { KeepsAsked graph.old.graph (search_of self.old) (search_of self.new) graph.old.asked graph.new.asked }
         ensures unrefused { OnOk result (graph.new.refusals ≡ graph.old.refusals) }
-        ensures refused { IfErr result (λ e. TellsRefusal e graph.old.refusals graph.new.refusals) }
+        ensures refused { IfErr result (λ e. ErrorIsRefusal e graph.old.refusals graph.new.refusals) }
         ensures failures { graph.old.failures ≤ graph.new.failures }
         ensures failed { IfErr result (λ e. (e ≡ Memory) ⊎ HasRisen graph.old.failures graph.new.failures) }
     {

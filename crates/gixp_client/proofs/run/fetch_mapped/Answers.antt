@@ -10,11 +10,11 @@ use Rattle.gixp_client.proofs.run.fetch_mapped.Goals as goal
 pub returns-clause-fetched : goal.returns-clause-fetched
 returns-clause-fetched g c =
     let n = c.new-negotiation.ensures in
-    let f = c.fetch_over-came.ensures.fetched in
-    let e = ap (λ w. w.negotiation.negotiation) c.new-watched.ensures.negotiation
+    let f = c.fetch_over-received.ensures.fetched in
+    let e = ap (λ w. w.negotiation.negotiation) c.new-unshallow_check.ensures.negotiation
     ∙ (ap (λ w. w.negotiation) c.new-filtered.ensures.negotiation ∙ c.new-windowed.ensures.negotiation) in (
       record {
-        first = c.new-watched.result;
+        first = c.new-unshallow_check.result;
         last = _;
         negotiates = ap (λ m. m.ref_map.now) e ∙ n.ref_map;
         knowing = same_knowledge _ _ _ _ _ _ _ _ _ _ (ap (λ m. m.tags) e ∙ n.tags) (ap (λ m. m.shallow.now) e ∙ n.shallow)
@@ -23,13 +23,13 @@ returns-clause-fetched g c =
             (ap (λ m. g.F.Find.contents m.context.objects.now.objects.now) e ∙ ap (λ x. g.F.Find.contents x.objects.now.objects.now) n.context
             ∙ ap g.F.Find.contents c.new-shared.ensures.objects)
             (ap (λ m. g.R.RefStore.refs m.context.refs.now) e ∙ ap (λ x. g.R.RefStore.refs x.refs.now) n.context);
-        came = f.came;
-        tells = record {
-          watches = λ id. ap (λ b. contains id_cmp b id) c.new-watched.ensures.boundary;
-          unnoted = c.new-watched.ensures.unknown;
-          owned = c.fetch_over-came.result;
-          owns = f.tells;
-          tells = c.known_alone-told.ensures.checked ∙ ap (known_alone _ _) c.unknown.ensures;
+        received = f.received;
+        reports = record {
+          watches = λ id. ap (λ b. contains id_cmp b id) c.new-unshallow_check.ensures.boundary;
+          unnoted = c.new-unshallow_check.ensures.unknown;
+          owned = c.fetch_over-received.result;
+          owns = f.reports;
+          reports = c.known_alone-report.ensures.checked ∙ ap (known_alone _ _) c.unknown.ensures;
         };
         holds = f.holds;
         unsent = λ h. unsent_fetch _ (λ w. w.negotiated) (λ w s a p r d v t b goes. goes.3) (λ w s a p e v t b fails. fails.1)

@@ -6,21 +6,21 @@ use Rattle.gixp_client.proofs.run.fetch_over.Goals as goal
 
 pub returns-clause-fetched : goal.returns-clause-fetched
 returns-clause-fetched g c = record {
-  came = c.fetch_with_features-came.result;
-  tells = c.told.ensures;
+  received = c.fetch_with_features-received.result;
+  reports = c.report.ensures;
   holds = record {
     interrupt = _;
     interrupt' = _;
     progress = _;
     carries = as_session _ _ _ _ _ _ c.args.peer.shaken.now c.args.request.now _ _ _ _
-        c.table.ensures c.named.ensures c.in-Ok.ensures c.fetch_with_features-came.ensures.fetched;
+        c.table.ensures c.named.ensures c.in-Ok.ensures c.fetch_with_features-received.ensures.fetched;
   };
 }
 
 pub returns-in_default-clause-fetched : goal.returns-in_default-clause-fetched
 returns-in_default-clause-fetched g c = record {
-  came = Err Memory;
-  tells = refl;
+  received = Err Memory;
+  reports = refl;
   holds = record {
     interrupt = record {};
     interrupt' = record {};

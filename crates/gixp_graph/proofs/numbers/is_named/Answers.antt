@@ -14,9 +14,9 @@ returns-in-Some c =
     let l : c.args.number < length (ids_of c.args.nodes.now) = omega (arith, length_ids c.args.nodes.now, m) in
     let own : id_at (ids_of c.args.nodes.now) c.args.number ≡ c.in-Some.node.now.id =
     id_of_node c.args.nodes.now c.args.number _ m ∙ ap (λ (x : Node). x.id) (sym c.in-Some.ensures.lookup.1) in
-    let tells = slice_eq-Decides Decides-eqb _ _ _ c.eq.ensures in (
-      (λ t. (l, own ∙ ap (λ bytes. record { bytes = bytes }) (tells.0 t))),
-      (λ h. tells.1 (ap (λ (i : ObjectId). i.bytes) (sym own ∙ h.1))),
+    let reports = slice_eq-Decides Decides-eqb _ _ _ c.eq.ensures in (
+      (λ t. (l, own ∙ ap (λ bytes. record { bytes = bytes }) (reports.0 t))),
+      (λ h. reports.1 (ap (λ (i : ObjectId). i.bytes) (sym own ∙ h.1))),
     )
 
 pub returns-in-None : goal.returns-in-None

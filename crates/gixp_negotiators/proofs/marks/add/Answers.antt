@@ -1,6 +1,7 @@
 use Rattle.std.proofs.Common.{◌≡◌, subst, sym, true}
 use Rattle.gixp_graph.specs.GraphData.{GraphData}
-use Rattle.gixp_negotiators.specs.Marks.{COMMON, COMMON_REF, SEEN, POPPED, Grows, SeesNone, SeesOnly, SettlesNone, SettlesOnly, ListsNone, ListsOnly, PopsNone, PopsOnly, has_mark}
+use Rattle.gixp_negotiators.specs.Marks.{COMMON, COMMON_REF, SEEN, POPPED, has_mark}
+use Rattle.gixp_negotiators.specs.AddedMarks.{Grows, SeesNone, SeesOnly, MarksNoCommon, MarksCommonOnly, ListsNone, ListsOnly, PopsNone, PopsOnly}
 use Rattle.gixp_negotiators.specs.MarkLaws.{grows_left}
 use Rattle.gixp_negotiators.proofs.GrowLemmas.{grows_flagged, has_flagged, only_flagged, none_flagged}
 use Rattle.gixp_negotiators.proofs.marks.add.Goals as goal
@@ -30,11 +31,11 @@ returns-clause-common g c = grows_left COMMON c.args.graph.now.graph c.insert_fl
     (sym c.insert_flags.ensures.flagged) (grows_flagged c.args.graph.now.graph c.args.id.now c.args.marks c.requires))
 
 pub returns-clause-settles : goal.returns-clause-settles
-returns-clause-settles g c apart = subst (SettlesNone c.args.graph.now.graph) (sym c.insert_flags.ensures.flagged)
+returns-clause-settles g c apart = subst (MarksNoCommon c.args.graph.now.graph) (sym c.insert_flags.ensures.flagged)
     (none_flagged COMMON c.args.graph.now.graph c.args.id.now c.args.marks apart)
 
-pub returns-clause-settles_only : goal.returns-clause-settles_only
-returns-clause-settles_only g c = subst (SettlesOnly c.args.id.now c.args.graph.now.graph) (sym c.insert_flags.ensures.flagged)
+pub returns-clause-marks_common_only : goal.returns-clause-marks_common_only
+returns-clause-marks_common_only g c = subst (MarksCommonOnly c.args.id.now c.args.graph.now.graph) (sym c.insert_flags.ensures.flagged)
     (only_flagged COMMON c.args.graph.now.graph c.args.id.now c.args.marks)
 
 pub returns-clause-lists : goal.returns-clause-lists

@@ -1,4 +1,4 @@
-use Rattle.gixp_packfile_uris.specs.declared.place.Place.TheVariants.{SectionStart}
+use Rattle.gixp_packfile_uris.specs.declared.place.LinePlace.TheVariants.{SectionStart}
 use Rattle.gixp_packfile_uris.proofs.FrameLemmas.{frames_are}
 use Rattle.gixp_packfile_uris.proofs.laws.packet_lines_are_without_the_section.Goals as goal
 

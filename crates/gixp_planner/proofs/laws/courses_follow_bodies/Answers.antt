@@ -36,4 +36,4 @@ returns g c = λ bodies specs haves objects others graph another e f.
       takes = λ c s p finished d t q takes. (takes.1.3, takes.1.1.ending);
       refuses = λ c s p x d t q refuses z. (refused-by-stream s t x refuses z).0;
     })
-    ((λ i j says. true≢false says), refl) bodies specs
+    ((λ i j polls. true≢false polls), refl) bodies specs

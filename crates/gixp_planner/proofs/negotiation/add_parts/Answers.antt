@@ -2,7 +2,7 @@
 use Rattle.std.proofs.Common.{◌≡◌, [], false, true, codes, drop, length, reverse, rules, ap, sym, ◌∙◌, subst}
 use Rattle.std.proofs.lemmas.Result.{err_from_is_err_and}
 use Rattle.gixp_requests.specs.Arguments.{can_use}
-use Rattle.gixp_negotiate.specs.Wants.{wishes, Adding}
+use Rattle.gixp_negotiate.specs.Wants.{request_lines, Adding}
 use Rattle.gixp_negotiate.proofs.WantLemmas.{adding_all}
 use Rattle.gixp_planner.specs.Printed.{left_of}
 use Rattle.gixp_planner.proofs.PrintedLemmas.{left_printed, part_added, part_refused, some_added}
@@ -46,14 +46,14 @@ returns-then-not-branch-clause-added g c =
     (reverse before.later.items) c.parts.rest.now c.parts.invariant.0 _ c.is_any-any.result c.known_after-rest.result.now
     (c.in_ok-more.ensures.added (λ _. false) (λ m b r. search rules)) c.is_any-any.ensures
     (c.known_after-rest.ensures ∙ ap (λ ms. drop (length ms) c.parts.rest.now) c.deref.ensures.value))
-    (ap (λ ms. wishes (λ _. false) (g.O.Objects.contents c.args.objects.now) (can_use (codes "ref-in-want") c.args.arguments.now) true ms
+    (ap (λ ms. request_lines (λ _. false) (g.O.Objects.contents c.args.objects.now) (can_use (codes "ref-in-want") c.args.arguments.now) true ms
     c.known_after-rest.result.now) none)
 
 pub parts-preserved : goal.parts-preserved
 parts-preserved g c =
     let before = c.parts.printed in
     let printed = c.print_part.new.self in
-    let lines = wishes (λ _. false) (g.O.Objects.contents c.args.objects.now) (can_use (codes "ref-in-want") c.args.arguments.now) true in
+    let lines = request_lines (λ _. false) (g.O.Objects.contents c.args.objects.now) (can_use (codes "ref-in-want") c.args.arguments.now) true in
     let left : left_of printed ≡ reverse before.later.items =
     left_printed before printed c.in_ok-print_part.ensures.taken c.in_ok-print_part.ensures.later in (
       subst (λ ms. Adding (lines (left_of c.args.printed.now) c.args.known.now) (lines ms c.known_after-rest.result.now)

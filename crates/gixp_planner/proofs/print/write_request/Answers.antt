@@ -1,7 +1,7 @@
 use Rattle.std.proofs.Common.{◌++◌, ◌∷◌, [], ◌∙◌, inr, sym, ap, codes, flat_map}
 use Rattle.std.proofs.lemmas.Result.{err_from_is_err_and}
 use Rattle.gixp_packetline.specs.Frames.{frames_of}
-use Rattle.gixp_text.specs.Pieces.{joined}
+use Rattle.gixp_utils.specs.Pieces.{joined}
 use Rattle.gixp_planner.specs.Text.{frame_shown}
 use Rattle.gixp_planner.proofs.PrintLemmas.{written_none, then-fails, then-rest}
 use Rattle.gixp_planner.proofs.print.write_request.Goals as goal

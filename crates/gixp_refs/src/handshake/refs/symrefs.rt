@@ -7,7 +7,7 @@ ghost use Rattle.gixp_capabilities.specs.Capability.{capability_value};
 ghost use Rattle.gixp_refs.specs.RefLine.{malformed_symref};
 ghost use Rattle.gixp_refs.specs.ParseError.{AnswersRefs, IsParseRefusal};
 ghost use Rattle.gixp_capabilities.specs.Cut.{cut};
-ghost use Rattle.gixp_refs.specs.RefAdvertisement.{symref_in, symref_by, made_symref, symref_named, told_target, TellAlike, symref_table};
+ghost use Rattle.gixp_refs.specs.RefAdvertisement.{symref_in, symref_by, made_symref, symref_named, reported_target, TellAlike, symref_table};
 ghost use Rattle.gixp_refs.specs.V1Refs.{symref_value, symref_values, name_cmp};
 
 use crate::handshake::refs::line::is_null;
@@ -76,13 +76,17 @@ pub(crate) fn by_name(alloc: Global, mut symrefs: Vec<Symref>) -> Result<Targets
 {
     let mut targets = BTreeMap::new(alloc);
     while let Some((name, target)) = symrefs.pop() {
-        put(&mut targets, name, target)?;
+        insert_target(&mut targets, name, target)?;
     }
     Ok(targets)
 }
 
 // Inserts a target under a name, in place of an earlier one.
-fn put(targets: &mut Targets, name: BString, target: Option<BString>) -> Result<(), AllocError>
+fn insert_target(
+    targets: &mut Targets,
+    name: BString,
+    target: Option<BString>,
+) -> Result<(), AllocError>
     ensures { OnOk result (targets.new.entries ≡ insert_entry name_cmp targets.old.entries name target) }
 {
     targets.insert(name, target)?;
@@ -92,7 +96,7 @@ fn put(targets: &mut Targets, name: BString, target: Option<BString>) -> Result<
 // The target of the symref of this name, if there is one and the server sent its target.
 pub(crate) fn target_of<'a>(targets: &'a Targets, name: &BString) -> Option<&'a BString>
     ensures { option_map (λ s. bstring_bytes s.now) result
-        ≡ told_target (symref_named (symref_values targets.now.entries) (bstring_bytes name.now)) }
+        ≡ reported_target (symref_named (symref_values targets.now.entries) (bstring_bytes name.now)) }
 {
     match targets.get(name) {
         Some(target) => target.as_ref(),

@@ -1,11 +1,11 @@
 //! The messages of a fetch request.
 ghost use Rattle.std.specs.Prelude.{◌≡◌, ◌<◌, false, [], ◌∷◌, ◌++◌, length, codes, map, OnOk, IfOk};
 ghost use Rattle.bstr.specs.Owned.{bstring_bytes};
-ghost use Rattle.gixp_wire.specs.Message.{text, flush, delimiter, message_value, command_lines, command_values};
+ghost use Rattle.gixp_transport.specs.Message.{text, flush, delimiter, message_value, command_lines, command_values};
 ghost use Rattle.gixp_requests.specs.Feature.{feature_value, feature_values};
 ghost use Rattle.gixp_requests.specs.Command.{texts};
 ghost use Rattle.gixp_requests.specs.Line.{line_text, have_text};
-ghost use Rattle.gixp_requests.specs.Request.{SendsValues, sent_features, done_lines, done_value, fetch_arguments, flush_behind, upload_values};
+ghost use Rattle.gixp_requests.specs.Request.{SendsValues, sent_features, done_lines, done_value, fetch_arguments, flush_after, upload_values};
 
 use crate::command::Feature;
 use crate::fetch::arguments::line::{Line, exchange, first_want};
@@ -14,7 +14,7 @@ use crate::fetch::arguments::text::push_feature;
 use bstr::BString;
 use gixp_capabilities::client::Error;
 use gixp_hash::ObjectId;
-use gixp_wire::{Message, Transport};
+use gixp_transport::{Message, Transport};
 use std::alloc::{AllocError, Global};
 
 // Appends the line of a feature if it has a value.
@@ -125,8 +125,8 @@ pub(crate) fn send_command<T: Transport>(
 }
 
 // A flush packet, if there are lines.
-fn flush_behind(lines: &[Line]) -> &'static [Message<'static>]
-    ensures { map message_value result.now ≡ flush_behind (map line_text lines.now) }
+fn flush_after(lines: &[Line]) -> &'static [Message<'static>]
+    ensures { map message_value result.now ≡ flush_after (map line_text lines.now) }
 {
     if lines.is_empty() {
         return &[];
@@ -156,7 +156,7 @@ pub(crate) fn send_upload<T: Transport>(
     ensures same { lines.new ≡ lines.old }
 {
     let place = first_want(lines);
-    let flush = flush_behind(lines);
+    let flush = flush_after(lines);
     exchange(lines, place);
     let sent = send(
         transport,

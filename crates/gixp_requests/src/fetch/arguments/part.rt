@@ -2,15 +2,15 @@
 ghost use Rattle.std.specs.Prelude.{◌≡◌, true, None, map};
 ghost use Rattle.std.specs.List.{list_all};
 ghost use Rattle.gixp_packetline.specs.FrameText.{frame_text, texts_of};
-ghost use Rattle.gixp_wire.specs.Message.{fits, line_frame, all_fit, value_frame, value_fits};
-ghost use Rattle.gixp_wire.specs.Transport.{Writes, WritesAll};
+ghost use Rattle.gixp_transport.specs.Message.{fits, line_frame, all_fit, value_frame, value_fits};
+ghost use Rattle.gixp_transport.specs.Transport.{Writes, WritesAll};
 ghost use Rattle.gixp_requests.specs.Line.{line_text, have_text, all_lines_fit, all_line_frames, all_haves_fit, have_frames, part_values, parts_values};
 ghost use Rattle.gixp_requests.specs.Request.{SendsValues};
 
 use crate::fetch::arguments::line::{Line, id_line};
 use gixp_capabilities::client::Error;
 use gixp_hash::ObjectId;
-use gixp_wire::{Message, Transport, fits_line};
+use gixp_transport::{Message, Transport, fits_line};
 
 /// A part of a request.
 #[derive(Clone, Copy)]

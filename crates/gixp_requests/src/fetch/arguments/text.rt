@@ -3,7 +3,7 @@ ghost use Rattle.std.specs.Prelude.{◌≡◌, [], ◌∷◌, ◌++◌, map, OnO
 ghost use Rattle.bstr.specs.Owned.{bstring_bytes};
 ghost use Rattle.gixp_requests.specs.Feature.{feature_value, feature_values, feature_text};
 ghost use Rattle.gixp_requests.specs.Command.{texts};
-ghost use Rattle.gixp_requests.specs.Arguments.{id_text, is_on, texts_on, spaced, behind_blank};
+ghost use Rattle.gixp_requests.specs.Arguments.{id_text, is_on, texts_on, spaced, after_blank};
 
 use crate::command::Feature;
 use bstr::BString;
@@ -126,7 +126,7 @@ pub(crate) fn features_text(
     added: &[BString],
 ) -> Result<Vec<u8>, AllocError>
     ensures { IfOk result (λ text. text.items
-        ≡ behind_blank (texts_on include_tag deepen_relative (feature_values features.now) ++ map bstring_bytes added.now)) }
+        ≡ after_blank (texts_on include_tag deepen_relative (feature_values features.now) ++ map bstring_bytes added.now)) }
 {
     let text = spaced_features(alloc, features, include_tag, deepen_relative, added)?;
     if text.is_empty() {
@@ -135,12 +135,16 @@ pub(crate) fn features_text(
     Ok(text)
 }
 
-pub(crate) fn want_line(alloc: Global, id: &ObjectId, behind: &[u8]) -> Result<BString, AllocError>
-    ensures { IfOk result (λ line. bstring_bytes line ≡ codes "want " ++ (id_text id.now ++ behind.now)) }
+pub(crate) fn want_line(
+    alloc: Global,
+    id: &ObjectId,
+    following: &[u8],
+) -> Result<BString, AllocError>
+    ensures { IfOk result (λ line. bstring_bytes line ≡ codes "want " ++ (id_text id.now ++ following.now)) }
 {
     let mut line = Vec::new(alloc);
     line.extend_from_slice(b"want ")?;
     line.extend_from_slice(&id.to_hex())?;
-    line.extend_from_slice(behind)?;
+    line.extend_from_slice(following)?;
     Ok(BString::new(line))
 }

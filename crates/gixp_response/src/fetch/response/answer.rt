@@ -16,7 +16,7 @@ use crate::fetch::response::line::{Acknowledgement, WantedRef};
 use crate::fetch::response::sections::read_sections;
 use gixp_packetline::{ExtendedBufRead, Protocol};
 use gixp_shallow::ShallowUpdate;
-use gixp_wire::Feature;
+use gixp_transport::Feature;
 use std::alloc::{AllocError, Global};
 use std::marker::Model;
 

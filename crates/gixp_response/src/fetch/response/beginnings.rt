@@ -2,7 +2,7 @@
 ghost use Rattle.std.specs.Prelude.{◌≡◌, ◌⊎◌, MatchResult, OnOk, Some, not, ◌&&◌, ◌||◌};
 ghost use Rattle.gixp_packetline.specs.Reading.{refusal_of};
 ghost use Rattle.gixp_packetline.specs.declared.protocol.Protocol.TheVariants.{V0, V1};
-ghost use Rattle.gixp_response.specs.Beginnings.{expected, is_at_end, is_ready, is_nak, line_item, item_said, said_with, acknowledged, v1_answer};
+ghost use Rattle.gixp_response.specs.Beginnings.{expected, is_at_end, is_ready, is_nak, line_item, line_item_of, answer_with, acknowledged, v1_answer};
 ghost use Rattle.gixp_response.specs.RepeatedCommons.{AreNoted, without_repeats};
 ghost use Rattle.gixp_response.specs.ResponseError.{is_interrupted_answer};
 ghost use Rattle.gixp_response.specs.AnswerReading.{Answered, AnswerFails};
@@ -19,23 +19,23 @@ use std::io::ErrorKind;
 
 // The meaning of a line before the pack.
 #[derive(Clone, Copy)]
-pub(crate) enum Said {
+pub(crate) enum ResponseLine {
     Acknowledgement(Acknowledgement),
     ShallowUpdate(ShallowUpdate),
 }
 
 // The meaning of a line; `None` where it begins the pack.
-fn read_said(line: &[u8]) -> Option<Said>
-    ensures { item_said result ≡ line_item line.now }
+fn read_response_line(line: &[u8]) -> Option<ResponseLine>
+    ensures { line_item_of result ≡ line_item line.now }
 {
     if text_of(line).is_none() {
         return None;
     }
     if let Some(found) = read_acknowledgement(line) {
-        return Some(Said::Acknowledgement(found));
+        return Some(ResponseLine::Acknowledgement(found));
     }
     match read_shallow_update(line) {
-        Some(found) => Some(Said::ShallowUpdate(found)),
+        Some(found) => Some(ResponseLine::ShallowUpdate(found)),
         None => None,
     }
 }
@@ -59,59 +59,64 @@ pub(crate) fn read_beginning<R: ExtendedBufRead>(
     reader.reset(version);
     let mut answer = Response::empty(alloc);
     let mut repeats = Repeats::new(alloc);
-    let mut came_ready = false;
-    let mut behind_stop = false;
+    let mut received_ready = false;
+    let mut follows_stop = false;
     loop {
         match reader.peek_line() {
             Ok(true) => {}
             Ok(false) => {
-                if behind_stop {
+                if follows_stop {
                     return Ok(finished(answer, repeats));
                 }
-                behind_stop = true;
+                follows_stop = true;
                 reader.reset(version);
                 continue;
             }
             Err(e) => {
-                if ends_answer(&e, behind_stop) {
+                if ends_answer(&e, follows_stop) {
                     return Ok(finished(answer, repeats));
                 }
                 return Err(Error::from(e));
             }
         }
-        let said = match read_said(reader.line()) {
-            Some(said) => said,
+        let response_line = match read_response_line(reader.line()) {
+            Some(response_line) => response_line,
             None => return Ok(finished(answer, repeats).with_pack()),
         };
         let _ = reader.next_line();
-        behind_stop = false;
-        keep(&mut answer, &mut repeats, said)?;
-        came_ready = ready_by(said, came_ready);
-        if ends_by_nak(said, expects_pack, negotiates, came_ready) {
+        follows_stop = false;
+        keep(&mut answer, &mut repeats, response_line)?;
+        received_ready = ready_by(response_line, received_ready);
+        if ends_by_nak(response_line, expects_pack, negotiates, received_ready) {
             return Ok(finished(answer, repeats));
         }
     }
 }
 
 // Whether an error is the end of the stream, and not right after a flush packet.
-fn ends_answer(e: &read::Error, behind_stop: bool) -> bool
-    ensures { result ≡ (is_at_end (refusal_of e.now) && not behind_stop) }
+fn ends_answer(e: &read::Error, follows_stop: bool) -> bool
+    ensures { result ≡ (is_at_end (refusal_of e.now) && not follows_stop) }
 {
-    is_end(e) && !behind_stop
+    is_end(e) && !follows_stop
 }
 
 // Whether a `ready` came, in this line or before.
-fn ready_by(said: Said, came_ready: bool) -> bool
-    ensures { result ≡ (is_ready (item_said (Some said)) || came_ready) }
+fn ready_by(response_line: ResponseLine, received_ready: bool) -> bool
+    ensures { result ≡ (is_ready (line_item_of (Some response_line)) || received_ready) }
 {
-    is_ready(said) || came_ready
+    is_ready(response_line) || received_ready
 }
 
 // Whether this line is a `NAK` that ends the response.
-fn ends_by_nak(said: Said, expects_pack: bool, negotiates: bool, came_ready: bool) -> bool
-    ensures { result ≡ ((is_nak (item_said (Some said)) && negotiates) && not (expects_pack && came_ready)) }
+fn ends_by_nak(
+    response_line: ResponseLine,
+    expects_pack: bool,
+    negotiates: bool,
+    received_ready: bool,
+) -> bool
+    ensures { result ≡ ((is_nak (line_item_of (Some response_line)) && negotiates) && not (expects_pack && received_ready)) }
 {
-    is_nak(said) && negotiates && !(expects_pack && came_ready)
+    is_nak(response_line) && negotiates && !(expects_pack && received_ready)
 }
 
 // Whether an error is the end of the stream.
@@ -124,33 +129,37 @@ fn is_end(e: &read::Error) -> bool
     }
 }
 
-fn is_ready(said: Said) -> bool
-    ensures { result ≡ is_ready (item_said (Some said)) }
+fn is_ready(response_line: ResponseLine) -> bool
+    ensures { result ≡ is_ready (line_item_of (Some response_line)) }
 {
-    match said {
-        Said::Acknowledgement(Acknowledgement::Ready) => true,
+    match response_line {
+        ResponseLine::Acknowledgement(Acknowledgement::Ready) => true,
         _ => false,
     }
 }
 
-fn is_nak(said: Said) -> bool
-    ensures { result ≡ is_nak (item_said (Some said)) }
+fn is_nak(response_line: ResponseLine) -> bool
+    ensures { result ≡ is_nak (line_item_of (Some response_line)) }
 {
-    match said {
-        Said::Acknowledgement(Acknowledgement::Nak) => true,
+    match response_line {
+        ResponseLine::Acknowledgement(Acknowledgement::Nak) => true,
         _ => false,
     }
 }
 
 // Adds the meaning of a line, even if it names a commit again.
-fn keep(answer: &mut Response, repeats: &mut Repeats, said: Said) -> Result<(), AllocError>
+fn keep(
+    answer: &mut Response,
+    repeats: &mut Repeats,
+    response_line: ResponseLine,
+) -> Result<(), AllocError>
     requires { AreNoted answer.old.acknowledgements repeats.old }
-    ensures ok { OnOk result (without_repeats answer.new ≡ said_with (without_repeats answer.old) (item_said (Some said))) }
+    ensures ok { OnOk result (without_repeats answer.new ≡ answer_with (without_repeats answer.old) (line_item_of (Some response_line))) }
     ensures noted { OnOk result (AreNoted answer.new.acknowledgements repeats.new) }
 {
-    match said {
-        Said::ShallowUpdate(found) => answer.push_shallow_update(found),
-        Said::Acknowledgement(found) => keep_acknowledgement(answer, repeats, found),
+    match response_line {
+        ResponseLine::ShallowUpdate(found) => answer.push_shallow_update(found),
+        ResponseLine::Acknowledgement(found) => keep_acknowledgement(answer, repeats, found),
     }
 }
 
@@ -160,7 +169,7 @@ fn keep_acknowledgement(
     found: Acknowledgement,
 ) -> Result<(), AllocError>
     requires { AreNoted answer.old.acknowledgements repeats.old }
-    ensures ok { OnOk result (without_repeats answer.new ≡ said_with (without_repeats answer.old) (acknowledged found)) }
+    ensures ok { OnOk result (without_repeats answer.new ≡ answer_with (without_repeats answer.old) (acknowledged found)) }
     ensures noted { OnOk result (AreNoted answer.new.acknowledgements repeats.new) }
 {
     repeats.note(found)?;

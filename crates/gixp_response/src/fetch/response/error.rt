@@ -4,7 +4,7 @@ ghost use Rattle.std.specs.Prelude.{◌≡◌};
 use bstr::{BStr, BString};
 use gixp_capabilities::client;
 use gixp_packetline::{ServerMessage, read};
-use gixp_wire::IsSpuriousError;
+use gixp_transport::IsSpuriousError;
 use std::alloc::{AllocError, AllocFailed};
 use std::fmt;
 use std::io::ErrorKind;

@@ -1,7 +1,7 @@
 //! Lines of responses (gitprotocol-v2, "fetch"; gitprotocol-pack, "Packfile Negotiation").
 ghost use Rattle.std.specs.Prelude.{◌≡◌, Some, None, Option};
 ghost use Rattle.std.specs.Option.{option_copied};
-ghost use Rattle.gixp_response.specs.AnswerLine.{behind, is_word, described, acknowledged, acknowledgement_line, common_id, shallow_update_line, wanted_ref_line, wanted_value};
+ghost use Rattle.gixp_response.specs.AnswerLine.{following, is_word, described, acknowledged, acknowledgement_line, common_id, shallow_update_line, wanted_ref_line, wanted_value};
 ghost use Rattle.gixp_response.specs.ResponseError.{IsAnswerRefusal, unknown_line, ReadsLine, ReadsOwned};
 
 use crate::fetch::response::error::Error;
@@ -117,8 +117,8 @@ fn unknown_line(alloc: Global, line: &str) -> Error
 }
 
 // The text after this word, if the text begins with it.
-fn behind<'a>(text: &'a [u8], word: &[u8]) -> Option<&'a [u8]>
-    ensures { option_copied result ≡ behind word.now text.now }
+fn following<'a>(text: &'a [u8], word: &[u8]) -> Option<&'a [u8]>
+    ensures { option_copied result ≡ following word.now text.now }
 {
     text.strip_prefix(word)
 }
@@ -127,7 +127,7 @@ fn behind<'a>(text: &'a [u8], word: &[u8]) -> Option<&'a [u8]>
 fn is_word(text: &[u8], word: &[u8]) -> bool
     ensures { result ≡ is_word word.now text.now }
 {
-    match behind(text, word) {
+    match following(text, word) {
         Some([]) => true,
         Some([next, ..]) => *next == b' ',
         None => false,
@@ -170,7 +170,7 @@ pub(crate) fn read_acknowledgement(line: &[u8]) -> Option<Acknowledgement>
     } else if is_word(text, b"NAK") {
         Some(Acknowledgement::Nak)
     } else {
-        match behind(text, b"ACK ") {
+        match following(text, b"ACK ") {
             Some(rest) => read_acknowledged(rest),
             None => None,
         }
@@ -181,13 +181,13 @@ pub(crate) fn read_shallow_update(line: &[u8]) -> Option<ShallowUpdate>
     ensures { result ≡ shallow_update_line line.now }
 {
     let text = line.trim_end();
-    if let Some(digits) = behind(text, b"shallow ") {
+    if let Some(digits) = following(text, b"shallow ") {
         return match ObjectId::from_hex(digits) {
             Ok(id) => Some(ShallowUpdate::Shallow(id)),
             Err(_) => None,
         };
     }
-    match behind(text, b"unshallow ") {
+    match following(text, b"unshallow ") {
         Some(digits) => match ObjectId::from_hex(digits) {
             Ok(id) => Some(ShallowUpdate::Unshallow(id)),
             Err(_) => None,

@@ -3,12 +3,12 @@ ghost use Rattle.std.specs.Prelude.{List, length, ◌≡◌, ◌∷◌, ◌++◌
 ghost use Rattle.std.specs.List.Sorted.{IsPermutation, IsSorted};
 ghost use Rattle.gixp_hash.specs.ObjectId.{id_cmp};
 ghost use Rattle.gixp_response.specs.RepeatedCommons.{AreNoted, front_of, named_from, row_cmp};
-ghost use Rattle.gixp_repeats.specs.Repeats.{is_repeat, marked, tested_from};
+ghost use Rattle.gixp_utils.specs.Repeats.{is_repeat, marked, tested_from};
 ghost use Rattle.gixp_response.specs.declared.fetch.response.line.Acknowledgement.{Acknowledgement as AcknowledgementData};
 
 use crate::fetch::response::line::Acknowledgement;
 use gixp_hash::ObjectId;
-use gixp_repeats::mark;
+use gixp_utils::mark;
 use std::alloc::{AllocError, Global};
 use std::cmp::Ordering;
 

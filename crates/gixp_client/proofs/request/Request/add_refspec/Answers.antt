@@ -4,5 +4,5 @@ pub returns-in_ok-push-in-Ok-clause-added : goal.returns-in_ok-push-in-Ok-clause
 returns-in_ok-push-in-Ok-clause-added c = record {
   added = c.in_ok-spec-in-Ok.spec;
   value = cc (c.new.ensures, c.in-Ok.ensures, c.in_ok-spec-in-Ok.ensures);
-  behind = c.in_ok-push-in-Ok.ensures.items;
+  following = c.in_ok-push-in-Ok.ensures.items;
 }

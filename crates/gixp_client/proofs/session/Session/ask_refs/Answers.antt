@@ -16,6 +16,6 @@ returns-in-Err-clause-refused g c = inr (
   as_lists _ _ _ _ _ _ _ _ _ _ c.git-table.ensures c.in_ok-name.ensures
       c.in_ok-command.ensures refl c.invoke_blocking-listed.ensures.lists,
   refused_by _ _ _ _ c.in-Err.ensures.whole c.is_at_flush.ensures,
-  c.behind_refusal-self.ensures,
+  c.state_after_refusal-self.ensures,
   refl,
 )

@@ -1,5 +1,5 @@
 use Rattle.std.proofs.Common.{inr, refl}
-use Rattle.gixp_client.proofs.MapLemmas.{state_behind_map, unmapped_by, whole_by}
+use Rattle.gixp_client.proofs.MapLemmas.{state_after_map_same, unmapped_by, whole_by}
 use Rattle.gixp_client.proofs.RunLemmas.{as_obtained}
 use Rattle.gixp_client.proofs.session.Session.map.Goals as goal
 
@@ -25,5 +25,5 @@ returns-in-Err-clause-refused g c = inr (
         refl c.obtain-made.ensures.map;
   },
   unmapped_by _ _ _ _ _ _ c.in-Err.ensures.whole c.are_whole.ensures c.has_refs-is_here.ensures,
-  state_behind_map _ _ _ _ _ _ c.behind_map-self.ensures c.has_refs-is_here.ensures refl,
+  state_after_map_same _ _ _ _ _ _ c.state_after_map-self.ensures c.has_refs-is_here.ensures refl,
 )

@@ -1,6 +1,6 @@
 use Rattle.std.proofs.Common.{refl, ap, ◌∙◌, inr, ◌++◌}
 use Rattle.std.proofs.lemmas.Result.{err_from_is_err_and}
-use Rattle.gixp_fetch.specs.FetchRounds.{before_request, at_request, behind_request, at_answer, behind_answer}
+use Rattle.gixp_fetch.specs.FetchRounds.{before_request, at_request, after_request, at_answer, after_answer}
 use Rattle.gixp_fetch.proofs.session.FetchSession.turn.Goals as goal
 
 pub returns-in_err-push-clause-err : goal.returns-in_err-push-clause-err
@@ -25,7 +25,7 @@ returns-in_err-so_far-clause-err g c =
       done = c.in_ok-round.done;
       window = c.one_round.new.state;
       negotiated = c.in_ok-round.ensures.went;
-      breaks = behind_request c.in_ok-send.ensures.sent (c.in_err-so_far.ensures.refused, refl);
+      breaks = after_request c.in_ok-send.ensures.sent (c.in_err-so_far.ensures.refused, refl);
       asks = refl;
     }))
 
@@ -67,7 +67,7 @@ returns-in_err-extend_from_slice-clause-err g c =
       window = c.one_round.new.state;
       negotiated = c.in_ok-round.ensures.went;
       breaks =
-          behind_answer (g.T.ExtendedBufRead.reading c.send.new.transport) c.in_ok-send.ensures.sent c.in_ok-response.response
+          after_answer (g.T.ExtendedBufRead.reading c.send.new.transport) c.in_ok-send.ensures.sent c.in_ok-response.response
           c.in_ok-response.ensures.read c.in_ok-response.ensures.held refl;
       asks = c.in_ok-response.ensures.asks;
     }))
@@ -77,10 +77,10 @@ returns-clause-ok g c = record {
   round = c.in_ok-round.round;
   asked = c.one_round.new.arguments;
   sent = g.T.ExtendedBufRead.reading c.send.new.transport;
-  told = c.in_ok-push.ensures.items;
+  reported = c.in_ok-push.ensures.items;
   gathered = c.in_ok-extend_from_slice.ensures.items ∙ ap (λ x. c.args.so_far.now.updates.items ++ x) c.shallow_updates.ensures;
-  turn = λ start said. record {
-    asks = (c.args.self.now.interrupt.now, said, c.in_ok-response.ensures.asks);
+  turn = λ start polled. record {
+    asks = (c.args.self.now.interrupt.now, polled, c.in_ok-response.ensures.asks);
     negotiated = c.in_ok-round.ensures.went;
     sends = c.in_ok-send.ensures.sent;
     rest = c.in_ok-send.ensures.ok;

@@ -15,14 +15,14 @@ loop-number-preserved c n l =
     let named : k < length (ids_of nodes) = omega (arith, length_ids nodes, m) in
     ⊎_elim
     (λ (less : n < k).
-    c.put.ensures.kept (id_at (ids_of nodes) n) n (λ e.
+    c.insert_number.ensures.kept (id_at (ids_of nodes) n) n (λ e.
     let same : n ≡ k = c.requires.once n k (omega (arith, less, named)) named (e ∙ sym (id_of_node nodes k _ m)) in
     omega (arith, less))
     (c.loop-number.invariant n less))
     (λ (more : k ≤ n).
     let same : k ≡ n = omega (arith, l) in
-    subst (λ i. IsReached c.put.new.self (id_at (ids_of nodes) i) i) same
-    (subst (λ id. IsReached c.put.new.self id k) (sym (id_of_node nodes k _ m)) c.in_ok-put.ensures.reached))
+    subst (λ i. IsReached c.insert_number.new.self (id_at (ids_of nodes) i) i) same
+    (subst (λ id. IsReached c.insert_number.new.self id k) (sym (id_of_node nodes k _ m)) c.in_ok-insert_number.ensures.reached))
     (cases_lt n k)
 
 pub returns : goal.returns

@@ -3,7 +3,7 @@ use Rattle.std.proofs.Common.{◌∙◌, ℤ, ◌∷◌, ◌++◌, sym, ap, subs
 use Rattle.std.specs.List.Sorted.{IsPermutation}
 use Rattle.std.proofs.lemmas.Int.{to_z-of_z}
 use mir.Syntax.{w64}
-use Rattle.gixp_graph.specs.Queue.{entry_at, first_of, StandsFirst}
+use Rattle.gixp_graph.specs.Queue.{entry_at, first_of, IsNewest}
 use Rattle.gixp_graph.proofs.TimesLemmas.{pushed_beside, newest_beside}
 use Rattle.gixp_graph.proofs.queue.TimeQueue.push.Goals as goal
 
@@ -11,7 +11,7 @@ pub invariant_of-self-2 : goal.invariant_of-self-2
 invariant_of-self-2 c =
     newest_beside _ c.in-Some.newest c.newer_first.result.0 c.newer_first.result.1 c.self.inside.others c.push-2.new.self
     c.newer_first.ensures.both c.in_ok-push.ensures c.newer_first.ensures.newer
-    (subst (λ o. StandsFirst o c.self.inside.others) c.in-Some.is c.self.invariant)
+    (subst (λ o. IsNewest o c.self.inside.others) c.in-Some.is c.self.invariant)
 
 pub returns : goal.returns
 returns c =

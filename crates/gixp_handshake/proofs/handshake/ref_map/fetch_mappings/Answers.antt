@@ -10,7 +10,7 @@ returns-in-Ok-clause-map g c =
     c.capabilities-capabilities.result.now c.in-Ok.ensures.lists c.capabilities-capabilities.ensures c.make_mappings.result
     c.make_mappings.ensures
 
-pub returns-in-Ok-clause-told : goal.returns-in-Ok-clause-told
-returns-in-Ok-clause-told g c =
-    moved_told g.P.Progress.told c.args.progress.now c.invoke_blocking.new.progress c.capabilities-capabilities.result.now c.args.context
-    c.in-Ok.refs.items c.make_mappings.result c.in-Ok.ensures.told c.make_mappings.ensures
+pub returns-in-Ok-clause-reported : goal.returns-in-Ok-clause-reported
+returns-in-Ok-clause-reported g c =
+    moved_told g.P.Progress.reported c.args.progress.now c.invoke_blocking.new.progress c.capabilities-capabilities.result.now c.args.context
+    c.in-Ok.refs.items c.make_mappings.result c.in-Ok.ensures.reported c.make_mappings.ensures

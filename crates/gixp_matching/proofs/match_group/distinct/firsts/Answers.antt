@@ -3,7 +3,7 @@ use Rattle.std.proofs.Common.{◌≡◌, ◌∙◌, [], ap, sym, subst, true, le
 use Rattle.std.specs.List.{list_all}
 use Rattle.std.proofs.lemmas.List.{length-map}
 use Rattle.std.proofs.lemmas.Result.{IfOk-weaker}
-use Rattle.gixp_matching.specs.Firsts.{TellsFirsts, first_flags, flagged}
+use Rattle.gixp_matching.specs.Firsts.{FlagsFirsts, first_flags, flagged}
 use Rattle.gixp_matching.proofs.FirstLemmas.{values_from_flags, firsts_flagged, length-first_flags, all_flagged}
 use Rattle.gixp_matching.proofs.match_group.distinct.firsts.Goals as goal
 
@@ -11,13 +11,13 @@ pub returns-in_default-clause-flags : goal.returns-in_default-clause-flags
 returns-in_default-clause-flags g c =
     let f = g.M.AsMapping.mapped in
     firsts_flagged f c.args.mappings.items c.deref.result.now c.deref.ensures.value
-    (subst (TellsFirsts (map f c.deref.result.now)) c.in_default.is c.in_ok-flags.ensures)
+    (subst (FlagsFirsts (map f c.deref.result.now)) c.in_default.is c.in_ok-flags.ensures)
 
 pub returns-then-are_all-clause-flags : goal.returns-then-are_all-clause-flags
 returns-then-are_all-clause-flags g c =
     let f = g.M.AsMapping.mapped in
     let ms = map f c.deref.result.now in
-    let marks = subst (TellsFirsts ms) c.in-Some.is c.in_ok-flags.ensures in
+    let marks = subst (FlagsFirsts ms) c.in-Some.is c.in_ok-flags.ensures in
     let long : length c.in-Some.flags.items ≡ length c.args.mappings.items =
     ap length marks ∙ length-first_flags [] ms ∙ length-map c.deref.result.now f ∙ ap length c.deref.ensures.value in
     let all : list_all (λ flag. flag) c.in-Some.flags.items ≡ true =
@@ -28,7 +28,7 @@ returns-then-are_all-clause-flags g c =
 pub returns-clause-flags : goal.returns-clause-flags
 returns-clause-flags g c =
     let f = g.M.AsMapping.mapped in
-    let marks = subst (TellsFirsts (map f c.deref.result.now)) c.in-Some.is c.in_ok-flags.ensures in
+    let marks = subst (FlagsFirsts (map f c.deref.result.now)) c.in-Some.is c.in_ok-flags.ensures in
     IfOk-weaker c.flagged.result _ _
     (λ kept h. h ∙ ap (flagged c.args.mappings.items) (marks ∙ ap (λ ys. first_flags [] (map f ys)) c.deref.ensures.value))
     c.flagged.ensures

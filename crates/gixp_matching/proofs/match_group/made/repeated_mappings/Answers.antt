@@ -11,5 +11,5 @@ returns c =
     let names = names c.args.items.now in
     IfOk-weaker c.mappings_at.result _ _
     (λ made h. h ∙ ap (made_of specs names) (ap (map place_value) c.deref.ensures.value ∙ c.in_ok-places.ensures.places)
-    ∙ remade_all specs names (repeated specs names) c.in_ok-places.ensures.told)
+    ∙ remade_all specs names (repeated specs names) c.in_ok-places.ensures.reported)
     c.mappings_at.ensures

@@ -1,7 +1,7 @@
-use Rattle.std.proofs.Common.{◌≡◌, ◌+◌, ◌-◌, ◌∙◌, arith, ap, map, refl}
+use Rattle.std.proofs.Common.{◌∙◌, ap, map}
 use Rattle.bstr.specs.BStr.{bstr_bytes}
 use Rattle.gixp_memory.specs.Repository.{kind_line}
-use Rattle.gixp_memory.proofs.TextLemmas.{read_more, read_some, line_unread}
+use Rattle.gixp_memory.proofs.TextLemmas.{read_more, stops_at_line, stops_between}
 use Rattle.gixp_memory.proofs.stored_objects.StoredObjects.read_kinds.Goals as goal
 
 pub loop-line-preserved : goal.loop-line-preserved
@@ -12,21 +12,14 @@ loop-line-preserved c =
 
 pub returns-in-Ok-false : goal.returns-in-Ok-false
 returns-in-Ok-false c =
-    let lines = ap (map bstr_bytes) c.deref-line-items.ensures.value ∙ c.in-Ok.ensures in
     let unread = c.in-Ok-false.ensures.unread c.in-Ok-false.field-0-test in
-    let k : c.loop-line.number + 1 - 1 ≡ c.loop-line.line-index = omega (arith, c.loop-line.invariant.count) in (
-      omega arith,
-      read_some kind_line bstr_bytes c.deref-line-items.result.now c.args.self.now c.args.text.now lines c.loop-line.line-index
-          c.loop-line.number _ c.loop-line.self c.add_kind_line.new.self c.loop-line.invariant unread.1 k,
-      line_unread kind_line bstr_bytes c.deref-line-items.result.now c.args.self.now c.args.text.now lines c.loop-line.line-index _
-          c.as_bytes.result.now _ c.loop-line.self c.add_kind_line.new.self c.loop-line-test.true c.as_bytes.ensures unread.0 unread.1
-          k,
-    )
+    stops_at_line kind_line bstr_bytes c.deref-line-items.result.now c.args.self.now c.args.text.now
+    (ap (map bstr_bytes) c.deref-line-items.ensures.value ∙ c.in-Ok.ensures) c.loop-line.line-index c.loop-line.number
+    c.as_bytes.result.now _ c.loop-line.self c.add_kind_line.new.self
+    c.loop-line.invariant c.loop-line-test.true c.as_bytes.ensures unread.0 unread.1
 
 pub returns-in-Err : goal.returns-in-Err
 returns-in-Err c =
-    let lines = ap (map bstr_bytes) c.deref-line-items.ensures.value ∙ c.in-Ok.ensures in (
-      c.loop-line.line-index,
-      read_some kind_line bstr_bytes c.deref-line-items.result.now c.args.self.now c.args.text.now lines c.loop-line.line-index
-          c.loop-line.number _ c.loop-line.self c.add_kind_line.new.self c.loop-line.invariant c.in-Err.ensures.err refl,
-    )
+    stops_between kind_line bstr_bytes c.deref-line-items.result.now c.args.self.now c.args.text.now
+    (ap (map bstr_bytes) c.deref-line-items.ensures.value ∙ c.in-Ok.ensures) c.loop-line.line-index c.loop-line.number
+    c.loop-line.self c.add_kind_line.new.self c.loop-line.invariant c.in-Err.ensures.err

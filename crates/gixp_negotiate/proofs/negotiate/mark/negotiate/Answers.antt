@@ -1,6 +1,6 @@
 use Rattle.std.proofs.Common.{inl, ap, ◌∙◌, ◌++◌}
 use Rattle.gixp_negotiate.specs.Marking.{listed}
-use Rattle.gixp_negotiate.specs.Stopped.{telling_stopped}
+use Rattle.gixp_negotiate.specs.Stopped.{learning_stopped}
 use Rattle.gixp_negotiate.proofs.LookLemmas.{telling_same}
 use Rattle.gixp_negotiate.proofs.negotiate.mark.negotiate.Goals as goal
 
@@ -9,7 +9,7 @@ returns-clause-failed g c = inl (c.in-Err-mark_and_tell.e, c.from-in-Err-mark_an
 
 pub returns-clause-stops : goal.returns-clause-stops
 returns-clause-stops g c =
-    telling_stopped c.in-Ok.ensures.listed c.in_ok-list_alternates.ensures.each c.in-Err-mark_and_tell.e
+    learning_stopped c.in-Ok.ensures.listed c.in_ok-list_alternates.ensures.each c.in-Err-mark_and_tell.e
     c.from-in-Err-mark_and_tell.ensures
     (telling_same _ _ _ _ _ _ _ _ _ _ _ _ (c.deref.ensures.value
     ∙ (c.in_ok-list_alternates.ensures.listed ∙ ap (λ l. l

@@ -15,7 +15,7 @@ loop-id-preserved g c = record {
       (get_or c.args.ids.now c.loop-id.id-index
       (record { bytes = [] })) c.args.negotiator.now c.loop-id.negotiator c.known_common.new.self c.args.graph.now.graph
       c.loop-id.graph.graph c.known_common.new.graph.graph
-      c.loop-id.invariant.run c.in_ok-known_common.ensures.told);
+      c.loop-id.invariant.run c.in_ok-known_common.ensures.reported);
   objects = c.known_common.ensures.objects ∙ c.loop-id.invariant.objects;
   failures = omega (arith, c.known_common.ensures.failures, c.loop-id.invariant.failures);
   graph_failures = omega (arith, c.known_common.ensures.graph_failures, c.loop-id.invariant.graph_failures);

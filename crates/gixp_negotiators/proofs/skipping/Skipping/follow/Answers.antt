@@ -1,10 +1,11 @@
 use Rattle.std.proofs.Common.{◌∙◌, refl, sym, ap, subst}
 use Rattle.gixp_negotiators.specs.Marks.{POPPED, has_mark}
-use Rattle.gixp_negotiators.specs.Spread.{AllRead, AllHeld}
+use Rattle.gixp_negotiators.specs.NewlyCommon.{AllRead, AllHeld}
 use Rattle.gixp_negotiators.proofs.FitLemmas.{lacked, counts_all, counts_on}
 use Rattle.gixp_negotiators.proofs.UnreadLemmas.{unread_same, unread_on, read_then}
 use Rattle.gixp_negotiators.specs.Passing.{Skipped, HandsOne}
 use Rattle.gixp_negotiators.proofs.PassingLemmas.{hands_one, hands_taken}
+use Rattle.gixp_negotiators.proofs.LookedLemmas.{looked_on, looked_ok, looked_from}
 use Rattle.gixp_negotiators.proofs.skipping.Skipping.follow.Goals as goal
 
 pub returns-then-is_marked-clause-hands : goal.returns-then-is_marked-clause-hands
@@ -27,12 +28,12 @@ returns-clause-fits g c =
     (AllHeld c.args.self.now.unread c.args.graph.now.graph c.pass.new.graph.graph)
     (AllRead c.push.new.self.unread c.push.new.graph.graph c.pass.new.graph.graph) _ _ _ _ _ _ _ _ _ (λ e. e)
     (read_then c.args.self.now.unread c.push.new.self.unread c.args.graph.now.graph c.push.new.graph.graph c.pass.new.graph.graph
-    c.push.ensures.grows c.in_ok-push.ensures.unread)
+    c.push.ensures.looks.grows c.in_ok-push.ensures.unread)
     (counts_all _ _ _ _ _ _ _ c.in_ok-push.ensures.fits) c.in_ok-pass.ensures.fits
 
 pub returns-clause-left : goal.returns-clause-left
 returns-clause-left g c w = lacked (has_mark POPPED c.pass.new.graph.graph.held c.args.parent.now)
-    (has_mark POPPED c.push.new.graph.graph.held c.args.parent.now) (c.in_ok-pass.ensures.pops c.args.parent.now)
+    (has_mark POPPED c.push.new.graph.graph.held c.args.parent.now) (c.in_ok-pass.ensures.marks.pops c.args.parent.now)
     (sym c.is_marked.ensures.value ∙ c.if-is_marked.false)
 
 pub returns-clause-settles : goal.returns-clause-settles
@@ -42,12 +43,25 @@ pub returns-then-is_marked-clause-lists : goal.returns-then-is_marked-clause-lis
 returns-then-is_marked-clause-lists g c = c.in_ok-push.ensures.lists refl
 
 pub returns-clause-lists : goal.returns-clause-lists
-returns-clause-lists g c q m = c.in_ok-push.ensures.lists refl q (c.in_ok-pass.ensures.lists q m)
+returns-clause-lists g c q m = c.in_ok-push.ensures.lists refl q (c.in_ok-pass.ensures.marks.lists q m)
 
 pub returns-clause-pops : goal.returns-clause-pops
-returns-clause-pops g c q m = c.in_ok-push.ensures.pops q (c.in_ok-pass.ensures.pops q m)
+returns-clause-pops g c q m = c.in_ok-push.ensures.pops q (c.in_ok-pass.ensures.marks.pops q m)
 
 pub returns-clause-unread : goal.returns-clause-unread
 returns-clause-unread g c =
-    unread_on _ _ _ _ _ _ c.push.ensures.grows c.pass.ensures.grows c.in_ok-push.ensures.unread
-    (unread_same _ _ _ _ c.pass.ensures.unread c.in_ok-pass.ensures.pops)
+    unread_on _ _ _ _ _ _ c.push.ensures.looks.grows c.pass.ensures.looks.grows c.in_ok-push.ensures.unread
+    (unread_same _ _ _ _ c.pass.ensures.unread c.in_ok-pass.ensures.marks.pops)
+
+pub returns-clause-looks : goal.returns-clause-looks
+returns-clause-looks g c = looked_ok (looked_on _ c.in_ok-push.ensures.looks c.in_ok-pass.ensures.looks)
+
+pub returns-in_err-pass-clause-looks : goal.returns-in_err-pass-clause-looks
+returns-in_err-pass-clause-looks g c = looked_from _ c.from_residual-in_err-pass.ensures.1
+    (looked_on _ c.in_ok-push.ensures.looks c.in_err-pass.ensures.looks)
+
+pub returns-then-is_marked-clause-looks : goal.returns-then-is_marked-clause-looks
+returns-then-is_marked-clause-looks g c = looked_ok c.in_ok-push.ensures.looks
+
+pub returns-in_err-push-clause-looks : goal.returns-in_err-push-clause-looks
+returns-in_err-push-clause-looks g c = looked_from _ c.from_residual.ensures.1 c.in_err-push.ensures.looks

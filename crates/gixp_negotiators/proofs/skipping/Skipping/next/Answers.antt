@@ -1,13 +1,14 @@
-use Rattle.std.proofs.Common.{◌∙◌, ⊎_elim, ◌+◌, arith, refl, subst, sym, ap}
-use Rattle.gixp_negotiators.specs.Spread.{AllHeld}
+use Rattle.std.proofs.Common.{⊎_elim, ◌+◌, refl, subst}
+use Rattle.gixp_negotiators.specs.NewlyCommon.{AllHeld}
 use Rattle.gixp_negotiators.proofs.UnreadLemmas.{unread_same, unread_on, held_first, held_then}
-use Rattle.gixp_negotiators.specs.Passing.{Skipped, TakesUnoffered}
+use Rattle.gixp_negotiators.specs.Passing.{TakesUnoffered}
 use Rattle.gixp_negotiators.proofs.PassingLemmas.{taken_popped}
 use Rattle.std.specs.BinaryHeap.{heap_items}
-use Rattle.gixp_negotiators.specs.Waiting.{Fits}
-use Rattle.gixp_negotiators.proofs.GrowLemmas.{grows_none, grows_on}
+use Rattle.gixp_negotiators.specs.Queued.{Fits}
+use Rattle.gixp_negotiators.proofs.GrowLemmas.{grows_none}
 use Rattle.gixp_negotiators.proofs.StepLemmas.{offered_since}
 use Rattle.gixp_negotiators.proofs.FitLemmas.{queues_same, queues_on, queues_taken, newest_in, seen_popped, counts_all, counts_on, none_open, none_waits}
+use Rattle.gixp_negotiators.proofs.LookedLemmas.{looked_none, looked_on, looked_ok, looked_from}
 use Rattle.gixp_negotiators.proofs.skipping.Skipping.next.Goals as goal
 
 pub loop-first-init : goal.loop-first-init
@@ -17,9 +18,7 @@ loop-first-init g c = record {
   unread = unread_same _ _ _ _ refl (λ q m. m);
   queues = queues_same _ _ _ refl;
   passes = TakesUnoffered.none;
-  grows = grows_none _;
-  failures = omega arith;
-  unrefused = refl;
+  looks = looked_none _;
 }
 
 pub loop-first-preserved : goal.loop-first-preserved
@@ -28,31 +27,29 @@ loop-first-preserved g c = record {
       counts_on (AllHeld c.args.self.now.unread c.args.graph.now.graph c.take.new.graph.graph)
       (AllHeld c.args.self.now.unread c.args.graph.now.graph c.loop-first.graph.graph)
       (AllHeld c.loop-first.self.unread c.loop-first.graph.graph c.take.new.graph.graph) _ _ _ _ _ _ _ _ _
-      (held_first c.args.self.now.unread c.args.graph.now.graph c.loop-first.graph.graph c.take.new.graph.graph c.take.ensures.grows)
+      (held_first c.args.self.now.unread c.args.graph.now.graph c.loop-first.graph.graph c.take.new.graph.graph c.take.ensures.looks.grows)
       (held_then c.args.self.now.unread c.loop-first.self.unread c.args.graph.now.graph c.loop-first.graph.graph
-      c.take.new.graph.graph c.loop-first.invariant.grows c.loop-first.invariant.unread)
+      c.take.new.graph.graph c.loop-first.invariant.looks.grows c.loop-first.invariant.unread)
       c.loop-first.invariant.fits
       (counts_on (AllHeld c.loop-first.self.unread c.loop-first.graph.graph c.take.new.graph.graph)
       (AllHeld c.loop-first.self.unread c.loop-first.graph.graph c.take.new.graph.graph)
       (AllHeld c.loop-first.self.unread c.loop-first.graph.graph c.take.new.graph.graph) _ _ _ _ _ _ _ _ _ (λ e. e) (λ e. e)
       (counts_all _ _ _ _ _ _ _ (λ lost f. seen_popped lost _ _ _ _ c.in-Some.first c.in-Some.ensures.taken f))
-      (rw (c.pop.ensures.uncommon, c.pop.ensures.unread) at c.in_ok-take.ensures.fits));
+      c.in_ok-take.ensures.fits);
   lists = λ q m. c.loop-first.invariant.lists q (c.in_ok-take.ensures.lists q m);
   unread =
-      unread_on _ _ _ _ _ _ c.loop-first.invariant.grows c.take.ensures.grows c.loop-first.invariant.unread
-      (rw c.pop.ensures.unread at c.in_ok-take.ensures.unread);
-  queues = queues_on _ _ _ _ _ c.loop-first.invariant.grows c.loop-first.invariant.queues
+      unread_on _ _ _ _ _ _ c.loop-first.invariant.looks.grows c.take.ensures.looks.grows c.loop-first.invariant.unread
+      c.in_ok-take.ensures.unread;
+  queues = queues_on _ _ _ _ _ c.loop-first.invariant.looks.grows c.loop-first.invariant.queues
       (queues_on _ _ _ _ _ (grows_none _) (queues_taken _ _ _ c.in-Some.first c.in-Some.ensures.taken) c.in_ok-take.ensures.queues);
   passes = TakesUnoffered.one c.loop-first.invariant.passes
-      (taken_popped _ _ _ _ _ _ _ (ap (λ m. m.entries) c.pop.ensures.skips) c.if-branch.false c.in_ok-take.ensures.takes);
-  grows = grows_on _ _ _ c.loop-first.invariant.grows c.take.ensures.grows;
-  failures = omega (arith, c.loop-first.invariant.failures, c.take.ensures.failures);
-  unrefused = c.in_ok-take.ensures.unrefused ∙ c.loop-first.invariant.unrefused;
+      (taken_popped _ _ _ _ _ _ _ refl c.if-branch.false c.in_ok-take.ensures.takes);
+  looks = looked_ok (looked_on _ c.loop-first.invariant.looks c.in_ok-take.ensures.looks);
 }
 
 pub returns-then-branch-clause-offered : goal.returns-then-branch-clause-offered
 returns-then-branch-clause-offered g c =
-    offered_since c.args.graph.now.graph c.loop-first.graph.graph c.take.new.graph.graph c.in-Some.first.id c.loop-first.invariant.grows
+    offered_since c.args.graph.now.graph c.loop-first.graph.graph c.take.new.graph.graph c.in-Some.first.id c.loop-first.invariant.looks.grows
     (c.in_ok-take.ensures.offered c.if-branch.true)
 
 pub returns-then-branch-clause-fits : goal.returns-then-branch-clause-fits
@@ -60,26 +57,26 @@ returns-then-branch-clause-fits g c =
     counts_on (AllHeld c.args.self.now.unread c.args.graph.now.graph c.take.new.graph.graph)
     (AllHeld c.args.self.now.unread c.args.graph.now.graph c.loop-first.graph.graph)
     (AllHeld c.loop-first.self.unread c.loop-first.graph.graph c.take.new.graph.graph) _ _ _ _ _ _ _ _ _
-    (held_first c.args.self.now.unread c.args.graph.now.graph c.loop-first.graph.graph c.take.new.graph.graph c.take.ensures.grows)
+    (held_first c.args.self.now.unread c.args.graph.now.graph c.loop-first.graph.graph c.take.new.graph.graph c.take.ensures.looks.grows)
     (held_then c.args.self.now.unread c.loop-first.self.unread c.args.graph.now.graph c.loop-first.graph.graph
-    c.take.new.graph.graph c.loop-first.invariant.grows c.loop-first.invariant.unread)
+    c.take.new.graph.graph c.loop-first.invariant.looks.grows c.loop-first.invariant.unread)
     c.loop-first.invariant.fits
     (counts_on (AllHeld c.loop-first.self.unread c.loop-first.graph.graph c.take.new.graph.graph)
     (AllHeld c.loop-first.self.unread c.loop-first.graph.graph c.take.new.graph.graph)
     (AllHeld c.loop-first.self.unread c.loop-first.graph.graph c.take.new.graph.graph) _ _ _ _ _ _ _ _ _ (λ e. e) (λ e. e)
     (counts_all _ _ _ _ _ _ _ (λ lost f. seen_popped lost _ _ _ _ c.in-Some.first c.in-Some.ensures.taken f))
-    (rw (c.pop.ensures.uncommon, c.pop.ensures.unread) at c.in_ok-take.ensures.fits))
+    c.in_ok-take.ensures.fits)
 
 pub returns-then-branch-clause-lists : goal.returns-then-branch-clause-lists
 returns-then-branch-clause-lists g c q m = c.loop-first.invariant.lists q (c.in_ok-take.ensures.lists q m)
 
 pub returns-then-branch-clause-unread : goal.returns-then-branch-clause-unread
 returns-then-branch-clause-unread g c =
-    unread_on _ _ _ _ _ _ c.loop-first.invariant.grows c.take.ensures.grows c.loop-first.invariant.unread
-    (rw c.pop.ensures.unread at c.in_ok-take.ensures.unread)
+    unread_on _ _ _ _ _ _ c.loop-first.invariant.looks.grows c.take.ensures.looks.grows c.loop-first.invariant.unread
+    c.in_ok-take.ensures.unread
 
 pub returns-clause-unread : goal.returns-clause-unread
-returns-clause-unread g c = rw c.pop.ensures.unread c.loop-first.invariant.unread
+returns-clause-unread g c = c.loop-first.invariant.unread
 
 pub returns-clause-none : goal.returns-clause-none
 returns-clause-none g c lost f =
@@ -88,32 +85,40 @@ returns-clause-none g c lost f =
     (λ e. none_open (lost + x.0) (heap_items c.loop-first.self.queue.waiting) c.loop-first.graph.graph
     (subst (λ u. Fits (lost + x.0) u (heap_items c.loop-first.self.queue.waiting) c.loop-first.graph.graph) e x.1.1.fits))
     (λ e. none_waits (lost + x.0) _ _ _ e x.1.1.fits)
-    (rw c.in_default.is at c.pop.ensures.none)
+    (rw c.in_default.is at c.pop_unless_all_common.ensures.none)
 
 pub returns-clause-fits : goal.returns-clause-fits
-returns-clause-fits g c = rw (c.pop.ensures.uncommon, rw c.in_default.is at c.pop.ensures.stays) c.loop-first.invariant.fits
+returns-clause-fits g c = rw (rw c.in_default.is at c.pop_unless_all_common.ensures.stays) c.loop-first.invariant.fits
 
 pub returns-then-branch-clause-newest : goal.returns-then-branch-clause-newest
 returns-then-branch-clause-newest g c =
-    newest_in _ _ _ _ _ _ c.in-Some.first c.loop-first.invariant.grows c.loop-first.invariant.queues c.in-Some.ensures.taken
+    newest_in _ _ _ _ _ _ c.in-Some.first c.loop-first.invariant.looks.grows c.loop-first.invariant.queues c.in-Some.ensures.taken
     c.in-Some.ensures.newest c.in_ok-take.ensures.queues
 
 pub returns-then-branch-clause-queues : goal.returns-then-branch-clause-queues
-returns-then-branch-clause-queues g c = queues_on _ _ _ _ _ c.loop-first.invariant.grows c.loop-first.invariant.queues
+returns-then-branch-clause-queues g c = queues_on _ _ _ _ _ c.loop-first.invariant.looks.grows c.loop-first.invariant.queues
     (queues_on _ _ _ _ _ (grows_none _) (queues_taken _ _ _ c.in-Some.first c.in-Some.ensures.taken) c.in_ok-take.ensures.queues)
 
 pub returns-clause-queues : goal.returns-clause-queues
-returns-clause-queues g c = rw (rw c.in_default.is at c.pop.ensures.stays) c.loop-first.invariant.queues
+returns-clause-queues g c = rw (rw c.in_default.is at c.pop_unless_all_common.ensures.stays) c.loop-first.invariant.queues
 
 pub returns-then-branch-clause-distances : goal.returns-then-branch-clause-distances
 returns-then-branch-clause-distances g c = (
   c.loop-first.self.skips.entries,
   c.loop-first.graph.graph,
   c.loop-first.invariant.passes,
-  taken_popped _ _ _ _ _ _ _ (ap (λ m. m.entries) c.pop.ensures.skips) c.if-branch.true c.in_ok-take.ensures.takes,
+  taken_popped _ _ _ _ _ _ _ refl c.if-branch.true c.in_ok-take.ensures.takes,
 )
 
 pub returns-clause-distances : goal.returns-clause-distances
-returns-clause-distances g c =
-    subst (λ (s : Skipped). TakesUnoffered c.args.self.now.skips.entries c.args.graph.now.graph s c.loop-first.graph.graph)
-    (sym (ap (λ m. m.entries) c.pop.ensures.skips)) c.loop-first.invariant.passes
+returns-clause-distances g c = c.loop-first.invariant.passes
+
+pub returns-in_err-take-clause-looks : goal.returns-in_err-take-clause-looks
+returns-in_err-take-clause-looks g c = looked_from _ c.from_residual.ensures.1
+    (looked_on _ c.loop-first.invariant.looks c.in_err-take.ensures.looks)
+
+pub returns-then-branch-clause-looks : goal.returns-then-branch-clause-looks
+returns-then-branch-clause-looks g c = looked_ok (looked_on _ c.loop-first.invariant.looks c.in_ok-take.ensures.looks)
+
+pub returns-clause-looks : goal.returns-clause-looks
+returns-clause-looks g c = looked_ok c.loop-first.invariant.looks

@@ -1,9 +1,12 @@
-use Rattle.std.proofs.Common.{◌≡◌, ◌+◌, ◌≤◌}
-use Rattle.std.specs.BinaryHeap.{heap_len, heap_items}
-use Rattle.gixp_negotiators.specs.Marks.{SEEN, Grows, ListsNone, left}
-use Rattle.gixp_negotiators.specs.Spread.{AllHeld}
+use Rattle.std.specs.BinaryHeap.{heap_items}
+use Rattle.gixp_negotiators.specs.LooksUpCommits.{LookedUp}
+use Rattle.gixp_negotiators.specs.Work.{to_take}
+use Rattle.gixp_negotiators.specs.AddedMarks.{ListsNone}
+use Rattle.gixp_negotiators.specs.NewlyCommon.{AllHeld}
 use Rattle.gixp_negotiators.specs.Passing.{TakesUnoffered}
-use Rattle.gixp_negotiators.specs.Waiting.{KeepsCount, KeepsUnread, QueuesNew}
+use Rattle.gixp_negotiators.specs.Queued.{KeepsCount}
+use Rattle.gixp_negotiators.specs.Unread.{KeepsUnread}
+use Rattle.gixp_negotiators.specs.Dated.{QueuesNew}
 use Rattle.gixp_negotiators.proofs.skipping.Skipping.next.Given as goal
 
 abbrev pub invariant-loop-first : goal.invariant-loop-first
@@ -14,11 +17,9 @@ invariant-loop-first g l = record {
   unread : KeepsUnread l.fn.self.unread l.fn.graph.graph l.self.unread l.graph.graph;
   queues : QueuesNew (heap_items l.fn.self.queue.waiting) l.fn.graph.graph (heap_items l.self.queue.waiting);
   passes : TakesUnoffered l.fn.self.skips.entries l.fn.graph.graph l.self.skips.entries l.graph.graph;
-  grows : Grows l.fn.graph.graph l.graph.graph;
-  failures : l.fn.graph.failures ≤ l.graph.failures;
-  unrefused : l.graph.refusals ≡ l.fn.graph.refusals;
+  looks : LookedUp l.fn.graph l.graph;
 }
 
 -- the number of objects that weren't seen, and of queued commits
 abbrev pub decreases-loop-first : goal.decreases-loop-first
-decreases-loop-first g l = left SEEN l.graph.graph + heap_len l.self.queue.waiting
+decreases-loop-first g l = to_take l.self.queue l.graph.graph

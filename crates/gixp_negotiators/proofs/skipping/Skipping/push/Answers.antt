@@ -12,12 +12,14 @@ use Rattle.std.specs.BinaryHeap.{heap_len}
 use Rattle.gixp_graph.specs.Object.{time_at}
 use Rattle.gixp_negotiators.specs.declared.queue.Waiting.{Waiting}
 use Rattle.gixp_negotiators.specs.Waiting.{waiting_at}
-use Rattle.gixp_negotiators.specs.Marks.{SEEN, Claims}
+use Rattle.gixp_negotiators.specs.Marks.{SEEN}
+use Rattle.gixp_negotiators.specs.CommitMarks.{Claims}
 use Rattle.gixp_negotiators.specs.MarkLaws.{held_marked}
 use Rattle.gixp_negotiators.proofs.GrowLemmas.{same_id, has_part}
 use Rattle.gixp_negotiators.proofs.UnreadLemmas.{unread_same, unread_timed}
 use Rattle.gixp_negotiators.proofs.FitLemmas.{seen_grown, fits_admitted, queues_same, queues_pushed, dated_new, shown_some}
 use Rattle.gixp_negotiators.proofs.StepLemmas.{unseen_marked}
+use Rattle.gixp_negotiators.proofs.LookedLemmas.{looked_ok, looked_from, looked_failed, looked_out}
 use Rattle.gixp_negotiators.proofs.skipping.Skipping.push.Goals as goal
 
 -- none of these sets has the mark of a commit that was taken
@@ -29,7 +31,7 @@ apart_two m e = ⊎_elim (λ e. ap (λ n. bit_and n 2) e) (λ e. ap (λ n. bit_a
 
 pub returns-in_default-clause-fits : goal.returns-in_default-clause-fits
 returns-in_default-clause-fits g c lost f =
-    seen_grown lost _ _ _ _ c.claim.ensures.grows (rw c.in_default.is at c.in_ok-time.ensures.absent).0
+    seen_grown lost _ _ _ _ c.claim.ensures.looks.grows (rw c.in_default.is at c.in_ok-time.ensures.absent).0
     (rw c.in_default.is at c.in_ok-time.ensures.kept) (rw c.in_default.is at c.in_ok-time.ensures.unpopped) f
 
 pub returns-clause-fits : goal.returns-clause-fits
@@ -38,7 +40,7 @@ returns-clause-fits g c lost f =
     fits_admitted _ _ _ _ _ _ _ (rw (
       c.time_of.ensures.queue,
       c.admit.ensures.queue,
-    ) at c.in_ok-push.ensures.waits) c.args.id.now refl c.claim.ensures.grows c.claim.ensures.sees_only
+    ) at c.in_ok-push.ensures.waits) c.args.id.now refl c.claim.ensures.looks.grows c.claim.ensures.sees_only
     (c.claim.ensures.pops (apart_pop c.args.marks.0 c.requires)) (c.claim.ensures.settles (apart_two c.args.marks.0 c.requires))
     k.before k.after (c.time_of.ensures.uncommon ∙ c.in_ok-admit.ensures.counted) lost f
 
@@ -126,3 +128,23 @@ returns-clause-queues g c =
     (rw (c.time_of.ensures.queue, c.admit.ensures.queue, to_z-of_z w64 c.in_ok-due.due fits) at c.in_ok-push.ensures.waits)
     (dated_new c.args.graph.now.graph new c.in-Some.time timed (λ e. c.in_ok-due.ensures.read (read ∙ e)
     ∙ to_z-of_z w64 c.in-Some.time held) (λ e. c.in_ok-due.ensures.unread (read ∙ e)))
+
+pub returns-in_default-clause-looks : goal.returns-in_default-clause-looks
+returns-in_default-clause-looks g c = looked_ok c.in_ok-time.ensures.looks
+
+pub returns-clause-looks : goal.returns-clause-looks
+returns-clause-looks g c = looked_ok c.in_ok-time.ensures.looks
+
+pub returns-in_err-time-clause-looks : goal.returns-in_err-time-clause-looks
+returns-in_err-time-clause-looks g c = looked_from _ c.from_residual.ensures.1 c.in_err-time.ensures.looks
+
+pub returns-in_err-admit-clause-looks : goal.returns-in_err-admit-clause-looks
+returns-in_err-admit-clause-looks g c = looked_failed _ _ c.from_residual-in_err-admit.ensures.1 c.in_err-admit.ensures.failed
+    c.in_ok-time.ensures.looks
+
+pub returns-in_err-due-clause-looks : goal.returns-in_err-due-clause-looks
+returns-in_err-due-clause-looks g c = looked_failed _ _ c.from_residual-in_err-due.ensures.1 c.in_err-due.ensures.failed
+    c.in_ok-time.ensures.looks
+
+pub returns-in_err-push-clause-looks : goal.returns-in_err-push-clause-looks
+returns-in_err-push-clause-looks g c = looked_out _ c.from_residual-in_err-push.ensures.1 c.in_ok-time.ensures.looks

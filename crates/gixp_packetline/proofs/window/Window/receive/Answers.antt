@@ -6,7 +6,7 @@ use Rattle.gixp_packetline.proofs.window.Window.receive.Goals as goal
 pub returns-in-Ok : goal.returns-in-Ok
 returns-in-Ok g c =
     let i = c.self.inside in
-    let b = c.read_behind-received in
+    let b = c.read_after-received in
     let is = ap (λ (s : Shown). s.pending) (sym c.self.view_is) in
     let bytes = rw c.in-Ok.is at b.ensures.bytes in
     let cap : length i.bytes.items ≡ 65520 = omega arith in

@@ -6,7 +6,7 @@ use Rattle.gixp_refs.specs.Ref.{ref_value}
 use Rattle.gixp_matching.specs.MatchGroup.{group_specs}
 use Rattle.gixp_refmap.specs.declared.refmap.mapping.Mapping.{Mapping}
 use Rattle.gixp_refmap.specs.Made.{refs_before, IsThere, IsMade}
-use Rattle.gixp_refmap.proofs.MadeLemmas.{all_but_last, there_now, falls_on, falls_of_last, zip_before, made_of_whole, refs_behind, stay_of_all}
+use Rattle.gixp_refmap.proofs.MadeLemmas.{all_but_last, there_now, falls_on, falls_of_last, zip_before, made_of_whole, refs_following, stay_of_all}
 use Rattle.gixp_refmap.proofs.refmap.made.moved.Goals as goal
 
 pub places-init : goal.places-init
@@ -56,7 +56,7 @@ places-preserved c =
     let one = made_of_whole total c.give_back.new.refs.items kept.gone specs p x all c.in_ok-moved_one.ensures.made in
     record {
       done = p ∷ kept.done;
-      gone = refs_behind p.item_index before ++ kept.gone;
+      gone = refs_following p.item_index before ++ kept.gone;
       made = zip_before (IsMade (map ref_value total) specs) kept.done c.places.made.items c.push.new.self.items p x
           c.in_ok-push.ensures.items one kept.made;
       there = (all_but_last (IsThere (length total) specs) places after p split kept.there).0;

@@ -15,12 +15,12 @@ returns c =
     let count = length c.args.explicit.now in
     let specs = joined_specs c.args.explicit.now c.args.extra.now in
     let known = group_specs c.from_fetch_specs-group.result in
-    let told = values c.deref-3.result.now in
+    let reported = values c.deref-3.result.now in
     let P : List Place → Type 0 = λ ps. AllZip (IsMade refs known) ps c.in_ok-made.made.items in
     let h : Maps specs count refs c.finished.result = (
-    maps_of_places specs known told count refs c.in_ok-places.places.items c.in_ok-made.made.items c.finished.result
+    maps_of_places specs known reported count refs c.in_ok-places.places.items c.in_ok-made.made.items c.finished.result
     (c.from_fetch_specs-group.ensures ∙ ap values c.deref.ensures.value ∙ c.in_ok-specs.ensures)
-    (ap values c.deref-3.ensures.value ∙ c.in_ok-specs.ensures) c.in_ok-places.ensures.places c.in_ok-places.ensures.told
+    (ap values c.deref-3.ensures.value ∙ c.in_ok-specs.ensures) c.in_ok-places.ensures.places c.in_ok-places.ensures.reported
     (subst P c.deref-2.ensures.value c.in_ok-made.ensures) c.finished.ensures) in
     record {
       maps = h;

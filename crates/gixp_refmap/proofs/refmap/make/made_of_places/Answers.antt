@@ -25,5 +25,5 @@ returns c =
     let All : Vec Mapping Global → Type 0 = λ made. AllZip (IsUnplaced refs) (repeated specs names) made.items in
     IfOk-weaker c.moved_or_copied.result Made All
     (λ made. unplaced_of_places specs refs places (repeated specs names) made.items
-    (c.in_ok-places.ensures.places ∙ ap (λ ns. map place_of (repeated specs ns)) lent) (subst P lent c.in_ok-places.ensures.told))
+    (c.in_ok-places.ensures.places ∙ ap (λ ns. map place_of (repeated specs ns)) lent) (subst P lent c.in_ok-places.ensures.reported))
     c.moved_or_copied.ensures

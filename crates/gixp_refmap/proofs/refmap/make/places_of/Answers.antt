@@ -14,4 +14,4 @@ returns-clause-there c =
     let same : names c.deref.result.now ≡ wanted = ap names c.deref.ensures.value ∙ c.in_ok-items.ensures.names in
     let P : List (List ℕ) → Type 0 = λ ns. AllByRecursion (FollowsFromPlace specs ns) (repeated specs ns) in
     places_are_there specs c.args.refs.now c.in_ok-places.places.items (repeated specs wanted)
-    (c.in_ok-places.ensures.places ∙ ap (λ ns. map place_of (repeated specs ns)) same) (subst P same c.in_ok-places.ensures.told)
+    (c.in_ok-places.ensures.places ∙ ap (λ ns. map place_of (repeated specs ns)) same) (subst P same c.in_ok-places.ensures.reported)

@@ -9,7 +9,7 @@ use Rattle.gixp_sidebands.proofs.sidebands.WithSidebands.fill.Goals as goal
 pub returns-in-Ok-clause-fills : goal.returns-in-Ok-clause-fills
 returns-in-Ok-clause-fills g c =
     fills_by _ _ c.in-Ok.more (none_of _ (sym c.if-is_open.ensures)) c.in-Ok.ensures.place
-    (ap (option_map refusal_of) c.in-Ok.ensures.fault) c.settle.new.self.front.held c.in-Ok.ensures.first c.in-Ok.ensures.peeks
+    (ap (option_map refusal_of) c.in-Ok.ensures.fault) c.skip_to_content.new.self.front.held c.in-Ok.ensures.first c.in-Ok.ensures.peeks
 
 pub returns-in-Err-clause-fills : goal.returns-in-Err-clause-fills
 returns-in-Err-clause-fills g c =
@@ -19,5 +19,5 @@ returns-in-Err-clause-fills g c =
 pub returns-then-is_open-clause-fills : goal.returns-then-is_open-clause-fills
 returns-then-is_open-clause-fills g c = grind (arith, common_steps)
 
-pub returns-then-is_open-clause-told : goal.returns-then-is_open-clause-told
-returns-then-is_open-clause-told g c = search rules
+pub returns-then-is_open-clause-reported : goal.returns-then-is_open-clause-reported
+returns-then-is_open-clause-reported g c = search rules

@@ -11,7 +11,7 @@ returns-in-Ok g c =
         end = tt;
         after_borrow = tt;
         shown =
-            (c.fill.new.self, record { fills = (c.rest.ensures, h); told = c.in-Ok.ensures.told; interrupt = c.in-Ok.ensures.interrupt });
+            (c.fill.new.self, record { fills = (c.rest.ensures, h); reported = c.in-Ok.ensures.reported; interrupt = c.in-Ok.ensures.interrupt });
       },
     )
 
@@ -24,7 +24,7 @@ returns-in-Err g c = (
     after_borrow = tt;
     shown = (
       c.fill.new.self,
-      record { fills = c.in-Err.ensures.fills; told = c.in-Err.ensures.told; interrupt = c.in-Err.ensures.interrupt },
+      record { fills = c.in-Err.ensures.fills; reported = c.in-Err.ensures.reported; interrupt = c.in-Err.ensures.interrupt },
     );
   },
 )

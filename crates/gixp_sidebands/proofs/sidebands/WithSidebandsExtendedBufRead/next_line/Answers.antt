@@ -7,8 +7,8 @@ use Rattle.gixp_sidebands.proofs.sidebands.WithSidebandsExtendedBufRead.next_lin
 pub returns-clause-asks : goal.returns-clause-asks
 returns-clause-asks g c =
     let reading = g.T.ExtendedBufRead.reading in
-    let s = c.settle.new.self.front in
-    let place = rw c.if-not-branch.false at c.in_ok-settle.ensures.place in
+    let s = c.skip_to_content.new.self.front in
+    let place = rw c.if-not-branch.false at c.in_ok-skip_to_content.ensures.place in
     let h = holds_line 0 (reading s.at.now) (subst (λ p. is_held p (reading s.at.now) ≡ true) place s.held) in
-    let k = c.in_ok-settle.ensures.asks in
-    (below-content g.I.Interrupt.says _ _ _ _ _ _ k.0 h.content h.peeked c.take.ensures.takes, k.1)
+    let k = c.in_ok-skip_to_content.ensures.asks in
+    (below-content g.I.Interrupt.polls _ _ _ _ _ _ k.0 h.content h.peeked c.take.ensures.takes, k.1)

@@ -3,7 +3,7 @@ use Rattle.gixp_packetline.specs.Pieces.{memory, not_utf8}
 use Rattle.gixp_sidebands.specs.Bands.{is_held}
 use Rattle.gixp_sidebands.proofs.BandLemmas.{seen_by, takes_content}
 use Rattle.gixp_sidebands.proofs.ContentLemmas.{holds_line}
-use Rattle.gixp_sidebands.proofs.TellLemmas.{told-content, told-kept}
+use Rattle.gixp_sidebands.proofs.TellLemmas.{reported-content, reported-kept}
 use Rattle.gixp_sidebands.proofs.AskLemmas.{below-content}
 use Rattle.gixp_sidebands.proofs.sidebands.WithSidebandsExtendedBufRead.readline_str.Goals as goal
 
@@ -23,20 +23,20 @@ returns-in_default-clause-text g c =
       refl,
     )
 
-pub returns-in_default-clause-told : goal.returns-in_default-clause-told
-returns-in_default-clause-told g c =
+pub returns-in_default-clause-reported : goal.returns-in_default-clause-reported
+returns-in_default-clause-reported g c =
     let reading = g.T.ExtendedBufRead.reading in
     let s = c.peek_line.new.self.front in
     let place = rw c.if-not-branch.false at c.in_ok-peek_line.ensures.place in
     let h = holds_line 0 (reading s.at.now) (subst (λ p. is_held p (reading s.at.now) ≡ true) place s.held) in
-    told-kept g.P.BandText.hears g.P.BandText.spares g.I.Interrupt.says g.T.ExtendedBufRead.is_plain not_utf8 _ _ _ _ (λ e. cc)
-    (told-content g.P.BandText.hears g.P.BandText.spares g.I.Interrupt.says _ _ _ _ _ c.in_ok-peek_line.ensures.told h.content h.peeked
+    reported-kept g.P.BandText.receives g.P.BandText.spares g.I.Interrupt.polls g.T.ExtendedBufRead.is_plain not_utf8 _ _ _ _ (λ e. cc)
+    (reported-content g.P.BandText.receives g.P.BandText.spares g.I.Interrupt.polls _ _ _ _ _ c.in_ok-peek_line.ensures.reported h.content h.peeked
     c.take.ensures.takes)
 
-pub returns-then-is_err-clause-told : goal.returns-then-is_err-clause-told
-returns-then-is_err-clause-told g c =
-    told-kept g.P.BandText.hears g.P.BandText.spares g.I.Interrupt.says g.T.ExtendedBufRead.is_plain memory _ _ _ _
-    (λ e. cc) c.in_ok-peek_line.ensures.told
+pub returns-then-is_err-clause-reported : goal.returns-then-is_err-clause-reported
+returns-then-is_err-clause-reported g c =
+    reported-kept g.P.BandText.receives g.P.BandText.spares g.I.Interrupt.polls g.T.ExtendedBufRead.is_plain memory _ _ _ _
+    (λ e. cc) c.in_ok-peek_line.ensures.reported
 
 pub returns-in_default-clause-asks : goal.returns-in_default-clause-asks
 returns-in_default-clause-asks g c =
@@ -45,7 +45,7 @@ returns-in_default-clause-asks g c =
     let place = rw c.if-not-branch.false at c.in_ok-peek_line.ensures.place in
     let h = holds_line 0 (reading s.at.now) (subst (λ p. is_held p (reading s.at.now) ≡ true) place s.held) in
     let k = c.in_ok-peek_line.ensures.asks in
-    (below-content g.I.Interrupt.says _ _ _ _ _ _ k.0 h.content h.peeked c.take.ensures.takes, k.1)
+    (below-content g.I.Interrupt.polls _ _ _ _ _ _ k.0 h.content h.peeked c.take.ensures.takes, k.1)
 
 pub returns-clause-asks : goal.returns-clause-asks
 returns-clause-asks g c =
@@ -54,4 +54,4 @@ returns-clause-asks g c =
     let place = rw c.if-not-branch.false at c.in_ok-peek_line.ensures.place in
     let h = holds_line 0 (reading s.at.now) (subst (λ p. is_held p (reading s.at.now) ≡ true) place s.held) in
     let k = c.in_ok-peek_line.ensures.asks in
-    (below-content g.I.Interrupt.says _ _ _ _ _ _ k.0 h.content h.peeked c.take-2.ensures.takes, k.1)
+    (below-content g.I.Interrupt.polls _ _ _ _ _ _ k.0 h.content h.peeked c.take-2.ensures.takes, k.1)

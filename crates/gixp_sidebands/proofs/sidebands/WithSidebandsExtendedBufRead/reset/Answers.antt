@@ -3,4 +3,4 @@ use Rattle.gixp_sidebands.proofs.AskLemmas.{asked-reset}
 use Rattle.gixp_sidebands.proofs.sidebands.WithSidebandsExtendedBufRead.reset.Goals as goal
 
 pub returns-clause-asks : goal.returns-clause-asks
-returns-clause-asks g c = (inl (asked-reset g.I.Interrupt.says c.args.version _ _ _ c.reset.ensures.reset), refl)
+returns-clause-asks g c = (inl (asked-reset g.I.Interrupt.polls c.args.version _ _ _ c.reset.ensures.reset), refl)

@@ -1,6 +1,6 @@
 use Rattle.std.proofs.Common.{ℕ, List, [], refl, subst}
 use Rattle.bstr.specs.Owned.{bstring_bytes}
-use Rattle.gixp_wire.specs.Greeting.{parameters_of}
+use Rattle.gixp_transport.specs.Greeting.{parameters_of}
 use Rattle.gixp_progress.specs.Progress.{set_name}
 use Rattle.gixp_handshake.specs.ShakeProgress.{retrying_calls}
 use Rattle.gixp_handshake.proofs.ShakeLemmas.{not_identified}
@@ -21,8 +21,8 @@ returns-in-Err-clause-turns g c = (
   ),
 )
 
-pub returns-clause-told : goal.returns-clause-told
-returns-clause-told g c =
-    let Named : List ℕ → Type 0 = λ name. g.P.Progress.told c.step.new.self (set_name name) c.set_name.new.self in
-    told_all g.P.Progress.told c.args.progress.now c.set_name.new.self retrying_calls c.tell.result
+pub returns-clause-reported : goal.returns-clause-reported
+returns-clause-reported g c =
+    let Named : List ℕ → Type 0 = λ name. g.P.Progress.reported c.step.new.self (set_name name) c.set_name.new.self in
+    told_all g.P.Progress.reported c.args.progress.now c.set_name.new.self retrying_calls c.tell.result
     (c.step.new.self, c.step.ensures, (c.set_name.new.self, subst Named c.requires.name c.set_name.ensures, refl))

@@ -1,7 +1,7 @@
 use Rattle.std.proofs.Common.{◌≡◌, ℕ, List, [], ◌∷◌, ◌∙◌, sym, ap, refl, subst}
 use Rattle.std.specs.Prelude.{codes}
 use Rattle.bstr.specs.Owned.{bstring_bytes}
-use Rattle.gixp_wire.specs.Greeting.{parameters_of}
+use Rattle.gixp_transport.specs.Greeting.{parameters_of}
 use Rattle.gixp_progress.specs.Progress.{set_name}
 use Rattle.gixp_handshake.specs.declared.credentials.Action.TheVariants.{Get}
 use Rattle.gixp_handshake.specs.Credentials.{get}
@@ -26,11 +26,11 @@ returns-clause-turns g c =
           (bstring_bytes c.in-Ok.found.refused) _ (sym c.is_denied.ensures ∙ c.if-not-is_denied.false) (ap get url) again h.2,
     )
 
-pub returns-clause-told : goal.returns-clause-told
-returns-clause-told g c =
-    let Named : List ℕ → Type 0 = λ name. g.P.Progress.told c.args.progress.now (set_name name) c.set_name.new.self in
-    told_if g.P.Progress.told c.args.progress.now c.log_in_with.new.progress (is_denied c.args.e) c.log_in_with.result
+pub returns-clause-reported : goal.returns-clause-reported
+returns-clause-reported g c =
+    let Named : List ℕ → Type 0 = λ name. g.P.Progress.reported c.args.progress.now (set_name name) c.set_name.new.self in
+    told_if g.P.Progress.reported c.args.progress.now c.log_in_with.new.progress (is_denied c.args.e) c.log_in_with.result
     (sym c.is_denied.ensures ∙ c.if-not-is_denied.false)
-    (told_before g.P.Progress.told c.args.progress.now c.set_name.new.self c.log_in_with.new.progress
+    (told_before g.P.Progress.reported c.args.progress.now c.set_name.new.self c.log_in_with.new.progress
     (set_name (codes "authentication") ∷ []) retrying_calls c.log_in_with.result
-    (c.set_name.new.self, subst Named c.in-Ok.ensures.authentication c.set_name.ensures, refl) c.log_in_with.ensures.told)
+    (c.set_name.new.self, subst Named c.in-Ok.ensures.authentication c.set_name.ensures, refl) c.log_in_with.ensures.reported)

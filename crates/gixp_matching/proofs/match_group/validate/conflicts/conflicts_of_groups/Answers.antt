@@ -2,7 +2,7 @@ use Rattle.std.proofs.Common.{◌++◌, ◌∙◌, [], ap, map, arith, rules}
 use Rattle.std.specs.Prelude.{filter}
 use Rattle.bstr.specs.Owned.{bstring_bytes}
 use Rattle.gixp_matching.specs.Found.{found_among, is_over}
-use Rattle.gixp_matching.specs.Groups.{behind, lent}
+use Rattle.gixp_matching.specs.Groups.{following, lent}
 use Rattle.gixp_matching.specs.Validate.{conflicts_in}
 use Rattle.gixp_matching.proofs.FoundLemmas.{ends_within, ends_at, stands_at, lent_own}
 use Rattle.gixp_matching.proofs.ListLemmas.{gathered_here}
@@ -34,7 +34,7 @@ groups-preserved g c =
     let group = c.group-item.result in (
       (λ name.
           let now = filter (is_over name) (conflicts_in c.groups.issues) in
-          gathered_here (λ one. found_among texts (behind f one.rows.now) name) [] now
+          gathered_here (λ one. found_among texts (following f one.rows.now) name) [] now
           (filter (is_over name) (conflicts_in c.push_conflicts.new.issues)) groups c.groups.group-index group c.groups-test.true
           (c.groups.invariant.0 name)
           (c.in_ok-push_conflicts.ensures name
@@ -42,6 +42,6 @@ groups-preserved g c =
           (stands_at groups c.args.mappings.now c.groups.group-index c.groups.start group c.group-item.is c.groups-test.true c.requires
           c.groups.invariant.1)
           ∙ ap (λ ms. now ++ found_among texts ms name) (lent_own f group)
-          ∙ ap (λ one. now ++ found_among texts (behind f one.rows.now) name) c.group-item.is)),
+          ∙ ap (λ one. now ++ found_among texts (following f one.rows.now) name) c.group-item.is)),
       ends_at groups c.groups.group-index c.groups.start group c.group-item.is c.groups-test.true c.groups.invariant.1,
     )

@@ -8,7 +8,7 @@ pub returns : goal.returns
 returns c =
     let name = c.name_of-name.result.now in
     let rest = take (length name - c.min.result) (drop c.min.result name) in
-    let behind = take_rest name c.min.result ∙ ap (λ m. drop m name) c.min.ensures ∙ drop_min c.args.front name in
+    let following = take_rest name c.min.result ∙ ap (λ m. drop m name) c.min.ensures ∙ drop_min c.args.front name in
     ap (λ l. l ++ drop c.min-count.result (replicate 64 0)) c.copy_from_slice.ensures.after
-    ∙ ap (λ m. take m rest ++ drop m (replicate 64 0)) c.min-count.ensures ∙ padded 64 rest ∙ ap (part 64) behind
+    ∙ ap (λ m. take m rest ++ drop m (replicate 64 0)) c.min-count.ensures ∙ padded 64 rest ∙ ap (part 64) following
     ∙ ap (λ l. part 64 (drop c.args.front l)) c.name_of-name.ensures

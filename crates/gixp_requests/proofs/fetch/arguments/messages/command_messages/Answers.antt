@@ -1,7 +1,7 @@
 use Rattle.std.proofs.Common.{[], ◌∷◌, ◌++◌, map, ap, ◌∙◌}
 use Rattle.std.specs.Prelude.{codes}
 use Rattle.bstr.specs.Owned.{bstring_bytes}
-use Rattle.gixp_wire.specs.Message.{text, delimiter, message_value}
+use Rattle.gixp_transport.specs.Message.{text, delimiter, message_value}
 use Rattle.gixp_requests.proofs.fetch.arguments.messages.command_messages.Goals as goal
 
 pub returns : goal.returns

@@ -1,6 +1,6 @@
 use Rattle.std.proofs.Common.{[], ◌∷◌, ◌++◌, map, ap, ◌∙◌}
 use Rattle.bstr.specs.Owned.{bstring_bytes}
-use Rattle.gixp_wire.specs.Message.{text, message_value}
+use Rattle.gixp_transport.specs.Message.{text, message_value}
 use Rattle.gixp_requests.proofs.AppendLemmas.{joined_read}
 use Rattle.gixp_requests.proofs.RequestLemmas.{texts-append}
 use Rattle.gixp_requests.proofs.fetch.arguments.messages.push_lines.Goals as goal

@@ -1,7 +1,7 @@
 -- The lines so far were appended.
 use Rattle.std.proofs.Common.{◌≡◌, ◌++◌, take, map}
 use Rattle.bstr.specs.Owned.{bstring_bytes}
-use Rattle.gixp_wire.specs.Message.{text, message_value}
+use Rattle.gixp_transport.specs.Message.{text, message_value}
 use Rattle.gixp_requests.proofs.fetch.arguments.messages.push_lines.Given as goal
 
 abbrev pub invariant-loop-line : goal.invariant-loop-line

@@ -1,5 +1,5 @@
 use Rattle.std.proofs.Common.{◌++◌, map, ap, subst, ◌∙◌, append-nil}
-use Rattle.gixp_wire.specs.Message.{text, message_value}
+use Rattle.gixp_transport.specs.Message.{text, message_value}
 use Rattle.gixp_requests.specs.Line.{line_text, have_text}
 use Rattle.gixp_requests.specs.Request.{SendsValues}
 use Rattle.gixp_requests.proofs.fetch.arguments.messages.send_arguments.Goals as goal

@@ -1,7 +1,7 @@
 use Rattle.std.proofs.Common.{◌<◌, ◌≡◌, false, length, map, ap, ◌∙◌, subst, arith}
 use Rattle.std.proofs.lemmas.List.{length-map}
 use Rattle.bstr.specs.Owned.{bstring_bytes}
-use Rattle.gixp_wire.specs.Message.{message_value}
+use Rattle.gixp_transport.specs.Message.{message_value}
 use Rattle.gixp_requests.specs.Line.{line_text, have_text}
 use Rattle.gixp_requests.specs.Request.{SendsValues}
 use Rattle.gixp_requests.proofs.RequestLemmas.{command_joined}

@@ -14,7 +14,7 @@ returns-clause-sends g c =
     let old = g.T.ExtendedBufRead.reading c.args.transport.now in
     let new = g.T.ExtendedBufRead.reading c.send-sent.new.transport in
     subst (λ vs. SendsValues old new vs c.send-sent.result)
-    (upload_joined _ lines (map have_text c.args.haves.now) _ _ c.args.done first c.flush_behind-flush.ensures c.upload_end.ensures)
+    (upload_joined _ lines (map have_text c.args.haves.now) _ _ c.args.done first c.flush_after-flush.ensures c.upload_end.ensures)
     c.send-sent.ensures
 
 pub returns-clause-same : goal.returns-clause-same

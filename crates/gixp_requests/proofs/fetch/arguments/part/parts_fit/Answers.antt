@@ -1,5 +1,5 @@
 use Rattle.std.proofs.Common.{sym, ◌∙◌}
-use Rattle.gixp_wire.specs.Message.{value_fits}
+use Rattle.gixp_transport.specs.Message.{value_fits}
 use Rattle.gixp_requests.specs.Line.{part_values}
 use Rattle.gixp_requests.proofs.PartLemmas.{all_of_flat}
 use Rattle.gixp_requests.proofs.fetch.arguments.part.parts_fit.Goals as goal

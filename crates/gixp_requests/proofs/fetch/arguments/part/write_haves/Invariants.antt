@@ -1,7 +1,7 @@
 -- The haves so far were written.
 use Rattle.std.proofs.Common.{take}
 use Rattle.gixp_packetline.specs.FrameText.{texts_of}
-use Rattle.gixp_wire.specs.Transport.{Wrote}
+use Rattle.gixp_transport.specs.Transport.{Wrote}
 use Rattle.gixp_requests.specs.Line.{have_frames}
 use Rattle.gixp_requests.proofs.fetch.arguments.part.write_haves.Given as goal
 

@@ -1,7 +1,7 @@
 -- The lines so far were written.
 use Rattle.std.proofs.Common.{take}
 use Rattle.gixp_packetline.specs.FrameText.{texts_of}
-use Rattle.gixp_wire.specs.Transport.{Wrote}
+use Rattle.gixp_transport.specs.Transport.{Wrote}
 use Rattle.gixp_requests.specs.Line.{all_line_frames}
 use Rattle.gixp_requests.proofs.fetch.arguments.part.write_lines.Given as goal
 

@@ -2,7 +2,7 @@ use Rattle.std.proofs.Common.{◌≡◌, true, ◌∙◌, sym}
 use Rattle.std.specs.List.{list_all}
 use Rattle.std.proofs.lemmas.List.Elements.{All-get_or}
 use Rattle.std.proofs.lemmas.List.Sums.{AllPass-from_list_all}
-use Rattle.gixp_wire.specs.Message.{value_fits}
+use Rattle.gixp_transport.specs.Message.{value_fits}
 use Rattle.gixp_requests.specs.Line.{part_values}
 use Rattle.gixp_requests.proofs.PartLemmas.{all_of_flat}
 use Rattle.gixp_requests.proofs.fetch.arguments.part.write_parts.Goals as goal

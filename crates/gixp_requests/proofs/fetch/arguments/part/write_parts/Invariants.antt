@@ -1,8 +1,8 @@
 -- The parts so far were written.
 use Rattle.std.proofs.Common.{take, map}
 use Rattle.gixp_packetline.specs.FrameText.{texts_of}
-use Rattle.gixp_wire.specs.Message.{value_frame}
-use Rattle.gixp_wire.specs.Transport.{Wrote}
+use Rattle.gixp_transport.specs.Message.{value_frame}
+use Rattle.gixp_transport.specs.Transport.{Wrote}
 use Rattle.gixp_requests.specs.Line.{parts_values}
 use Rattle.gixp_requests.proofs.fetch.arguments.part.write_parts.Given as goal
 

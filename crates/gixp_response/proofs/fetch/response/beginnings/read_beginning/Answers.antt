@@ -2,7 +2,7 @@ use Rattle.std.proofs.Common.{sym, ap, ◌∙◌, false}
 use Rattle.std.proofs.lemmas.Result.{err_from_is_err_and}
 use Rattle.gixp_response.specs.declared.fetch.response.answer.Response.{Response}
 use Rattle.gixp_response.specs.Beginnings.{line_item}
-use Rattle.gixp_response.proofs.BeginningLemmas.{amid-start, amid-stop, amid-stops, amid-end, amid-fails, amid-pack, amid-line, amid-said, amid-nak, amid-memory}
+use Rattle.gixp_response.proofs.BeginningLemmas.{amid-start, amid-stop, amid-stops, amid-end, amid-fails, amid-pack, amid-line, amid-response_line, amid-nak, amid-memory}
 use Rattle.gixp_response.proofs.InterruptLemmas.{peeked_asks, ended_asks, reader_refused}
 use Rattle.gixp_response.proofs.fetch.response.beginnings.read_beginning.Goals as goal
 
@@ -13,16 +13,16 @@ loop-answer-init g c = (
   c.reset.ensures.asks,
 )
 
-pub returns-then-behind_stop-clause-answers : goal.returns-then-behind_stop-clause-answers
-returns-then-behind_stop-clause-answers g c =
+pub returns-then-follows_stop-clause-answers : goal.returns-then-follows_stop-clause-answers
+returns-then-follows_stop-clause-answers g c =
     let k = rw c.in-Ok-false.field-0-test at c.in-Ok-false.ensures.peeks in
-    let h = rw c.if-behind_stop.true at c.loop-answer.invariant.0 in
+    let h = rw c.if-follows_stop.true at c.loop-answer.invariant.0 in
     rw c.finished.ensures (amid-stops _ c.requires _ _ _ _ _ _ h k)
 
 pub loop-answer-preserved-in-Ok-false : goal.loop-answer-preserved-in-Ok-false
 loop-answer-preserved-in-Ok-false g c =
     let k = rw c.in-Ok-false.field-0-test at c.in-Ok-false.ensures.peeks in
-    let h = rw c.if-behind_stop.false at c.loop-answer.invariant.0 in
+    let h = rw c.if-follows_stop.false at c.loop-answer.invariant.0 in
     let went = g.met.R.ExtendedBufRead.joins _ _ _ false c.loop-answer.invariant.2 c.in-Ok-false.ensures.asks in (
       amid-stop _ _ _ _ _ _ _ _ h k c.reset-in-Ok-false.ensures.reading,
       c.loop-answer.invariant.1,
@@ -48,28 +48,28 @@ returns-in-None-clause-answers g c =
 pub returns-in_err-keep-clause-answers : goal.returns-in_err-keep-clause-answers
 returns-in_err-keep-clause-answers g c =
     let k = rw c.in-Ok-true.field-0-test at c.in-Ok-true.ensures.peeks in
-    let t = amid-line _ _ _ _ _ c.in-Some.said _ _ _ _ _ c.loop-answer.invariant.0 k
+    let t = amid-line _ _ _ _ _ c.in-Some.response_line _ _ _ _ _ c.loop-answer.invariant.0 k
     (c.in-Some.ensures ∙ ap line_item c.line.ensures) c.next_line.ensures.reads in
-    let p = err_from_is_err_and c.from_residual.result c.from_residual.ensures.1 in rw (p.1, p.2) (amid-memory _ _ _ c.in-Some.said _ _ _ t)
+    let p = err_from_is_err_and c.from_residual.result c.from_residual.ensures.1 in rw (p.1, p.2) (amid-memory _ _ _ c.in-Some.response_line _ _ _ t)
 
 pub returns-then-ends_by_nak-clause-answers : goal.returns-then-ends_by_nak-clause-answers
 returns-then-ends_by_nak-clause-answers g c =
     let k = rw c.in-Ok-true.field-0-test at c.in-Ok-true.ensures.peeks in
-    let t = amid-line _ _ _ _ _ c.in-Some.said _ _ _ _ _ c.loop-answer.invariant.0 k
+    let t = amid-line _ _ _ _ _ c.in-Some.response_line _ _ _ _ _ c.loop-answer.invariant.0 k
     (c.in-Some.ensures ∙ ap line_item c.line.ensures) c.next_line.ensures.reads in
-    rw c.finished-then-ends_by_nak.ensures (amid-nak _ c.requires _ _ _ _ _ _ c.in-Some.said _ _ _ c.loop-answer.invariant.0 t
-    c.in_ok-keep.ensures.ok c.ready_by-came_ready.ensures c.if-ends_by_nak.ensures)
+    rw c.finished-then-ends_by_nak.ensures (amid-nak _ c.requires _ _ _ _ _ _ c.in-Some.response_line _ _ _ c.loop-answer.invariant.0 t
+    c.in_ok-keep.ensures.ok c.ready_by-received_ready.ensures c.if-ends_by_nak.ensures)
 
 pub loop-answer-preserved : goal.loop-answer-preserved
 loop-answer-preserved g c =
     let k = rw c.in-Ok-true.field-0-test at c.in-Ok-true.ensures.peeks in
-    let t = amid-line _ _ _ _ _ c.in-Some.said _ _ _ _ _ c.loop-answer.invariant.0 k
+    let t = amid-line _ _ _ _ _ c.in-Some.response_line _ _ _ _ _ c.loop-answer.invariant.0 k
     (c.in-Some.ensures ∙ ap line_item c.line.ensures) c.next_line.ensures.reads in
     let shown = g.met.R.ExtendedBufRead.joins _ _ _ false c.loop-answer.invariant.2 c.in-Ok-true.ensures.asks in
     let went = g.met.R.ExtendedBufRead.joins _ _ _ false shown
     (peeked_asks (λ b. g.R.ExtendedBufRead.asks c.peek_line.new.self b c.next_line.new.self) _ _ _ k.peeked
     c.next_line.ensures.reads c.next_line.ensures.asks) in (
-      amid-said _ _ _ _ _ _ _ c.in-Some.said _ _ _ c.loop-answer.invariant.0 t c.in_ok-keep.ensures.ok c.ready_by-came_ready.ensures
+      amid-response_line _ _ _ _ _ _ _ c.in-Some.response_line _ _ _ c.loop-answer.invariant.0 t c.in_ok-keep.ensures.ok c.ready_by-received_ready.ensures
           c.if-ends_by_nak.ensures,
       c.in_ok-keep.ensures.noted,
       went,

@@ -6,7 +6,7 @@ use Rattle.gixp_response.proofs.fetch.response.beginnings.read_beginning.Given a
 
 abbrev pub invariant-loop-answer : goal.invariant-loop-answer
 invariant-loop-answer g l =
-    Amid l.version (expected l.expects_pack l.negotiates) (without_repeats l.answer) l.came_ready l.behind_stop
+    Amid l.version (expected l.expects_pack l.negotiates) (without_repeats l.answer) l.received_ready l.follows_stop
     (g.R.ExtendedBufRead.reading l.fn.reader) (g.R.ExtendedBufRead.reading l.reader)
     × AreNoted l.answer.acknowledgements l.repeats
     × g.R.ExtendedBufRead.asks l.fn.reader false l.reader
@@ -16,4 +16,4 @@ stops_left true = 0
 stops_left false = 1
 
 abbrev pub decreases-loop-answer : goal.decreases-loop-answer
-decreases-loop-answer g l = 2 * (g.R.ExtendedBufRead.reading l.reader).left + stops_left l.behind_stop
+decreases-loop-answer g l = 2 * (g.R.ExtendedBufRead.reading l.reader).left + stops_left l.follows_stop

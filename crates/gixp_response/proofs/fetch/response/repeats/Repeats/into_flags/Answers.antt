@@ -2,10 +2,10 @@
 use Rattle.std.proofs.Common.{◌∙◌, ap, subst, List, IsPermutation, ℕ}
 use Rattle.gixp_hash.specs.declared.object_id.ObjectId.{ObjectId}
 use Rattle.gixp_hash.specs.ObjectId.{id_cmp}
-use Rattle.gixp_repeats.specs.Repeats.{marked}
+use Rattle.gixp_utils.specs.Repeats.{marked}
 use Rattle.gixp_response.proofs.CommonLemmas.{named_apart}
 use Rattle.gixp_response.proofs.FrontLemmas.{fronts_tie, fronts_total}
-use Rattle.gixp_repeats.proofs.RepeatLemmas.{marked_alike_after_sort}
+use Rattle.gixp_utils.proofs.RepeatLemmas.{marked_alike_after_sort}
 use Rattle.gixp_response.proofs.fetch.response.repeats.Repeats.into_flags.Goals as goal
 
 pub returns : goal.returns

@@ -1,0 +1,31 @@
+-- The list of refs that a session asks for and keeps (gitprotocol-v2, "ls-refs").
+use Rattle.std.specs.Prelude.{◌≡◌, ◌⊎◌, Bool, Some, Vec, Result, Ok, Err}
+use Rattle.std.specs.declared.alloc.Global.{Global}
+use Rattle.gixp_packetline.specs.Reading.{Reading}
+use Rattle.gixp_refs.specs.declared.handshake.Ref.{Ref}
+use Rattle.gixp_response.specs.Sections.{is_flush}
+use Rattle.gixp_refmap.specs.declared.ls_refs.error.Error.{Error as ListError}
+use Rattle.gixp_client.specs.ClientCalls.{ListsInSession}
+use Rattle.gixp_client.specs.ClientNames.{named_by}
+use Rattle.gixp_client.specs.ListEnds.{IsUnasked, whole_refs}
+use Rattle.gixp_client.specs.SessionStates.{state_after_refusal}
+use Rattle.gixp_client.specs.declared.error.Error.{Error}
+use Rattle.gixp_client.specs.declared.session.Session.{Session}
+
+module _ {T L P S : Type 0} (plain : Bool) (reading : T → Reading) where
+  -- the session asked for all refs, with this result
+  abbrev pub AsksForRefs : (old new : Session T L P S) → Result (Vec Ref Global) ListError → Type 0
+  AsksForRefs old new listed =
+      ListsInSession (named_by old.name) old.shaken plain (reading old.transport.inner) (reading new.transport.inner) listed
+
+  -- the session keeps all refs that the server listed
+  abbrev pub KeepsListedRefs : (old new : Session T L P S) → Type 0
+  KeepsListedRefs old new =
+      (refs : Vec Ref Global) × AsksForRefs old new (Ok refs) × (new.shaken ≡ record old.shaken { refs = Some refs })
+
+  -- there are no refs: nothing was sent, or they couldn't be read up to a flush packet
+  abbrev pub ListFailsInSession : (old new : Session T L P S) → Error → Type 0
+  ListFailsInSession old new e = ((new ≡ old) × IsUnasked old.state old.shaken.capabilities e)
+      ⊎ ((listed : Result (Vec Ref Global) ListError) × AsksForRefs old new listed
+      × (whole_refs listed (is_flush (reading new.transport.inner).stopped) ≡ Err e)
+      × (new.state ≡ state_after_refusal old.shaken.server_protocol_version e) × (new.shaken ≡ old.shaken))

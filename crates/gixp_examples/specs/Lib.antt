@@ -1,0 +1,2 @@
+pub mod OneCommit
+pub mod RemoteListing

@@ -1,0 +1,17 @@
+use Rattle.std.specs.Prelude.{slice_range}
+use Rattle.std.proofs.lemmas.List.{take-append-le, take_all}
+use Rattle.std.proofs.Common.{◌≡◌, ◌+◌, ◌++◌, arith, length, take, drop, ap, sym, ◌∙◌}
+use Rattle.gixp_response_end.proofs.AnswersLemmas.{gives_digits, range_parts, range_length}
+use Rattle.gixp_response_end.proofs.place.Answers.give.Goals as goal
+
+pub returns-clause-given : goal.returns-clause-given
+returns-clause-given g c =
+    let s = c.args.self.now in
+    let n = c.min-count.result in
+    let copied = c.copy_from_slice.new.self in
+    let is : copied ≡ slice_range s.digits s.start (s.start + n) = c.copy_from_slice.ensures.after in
+    let len : length copied ≡ n = ap length is ∙ range_length s.digits s.start n (omega arith) in
+    let front : take n (copied ++ drop n c.args.buf.now) ≡ slice_range s.digits s.start (s.start + n) =
+    take-append-le n copied (drop n c.args.buf.now) (omega (arith, len)) ∙ (take_all n copied (omega (arith, len)) ∙ is) in
+    gives_digits (g.R.Read.remaining s.reader) s.advertised s.next _ _ _ c.requires.known
+    (range_parts s.digits s.start n s.end (omega arith) ∙ ap (λ xs. xs ++ slice_range s.digits (s.start + n) s.end) (sym front))

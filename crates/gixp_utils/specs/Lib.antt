@@ -1,0 +1,4 @@
+pub mod Lines
+pub mod Pieces
+pub mod Printable
+pub mod Repeats
