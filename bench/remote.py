@@ -204,9 +204,9 @@ class Bench:
     def large(self):
         self.clone("a clone of 300 MiB", 1.05, self.by_path(self.repository("large", blobs(300))))
 
-    def web(self, action):
+    def web(self, action, **wish):
         """An action over HTTP with a repository of its own."""
-        with web_of(self, web_servers()[0], self.room) as front:
+        with web_of(self, web_servers()[0], self.room, **wish) as front:
             action(lambda server: {"git": f"{front}/{server.name}", "ours": f"gixp::{front}/{server.name}"})
         shutil.rmtree(self.room / "web")
 
@@ -228,6 +228,18 @@ class Bench:
     def web_large(self, urls):
         self.clone("HTTP: a clone of 300 MiB", 1.05, urls(self.repository("web-large", blobs(300))))
 
+    def version_0(self, urls):
+        server = self.repository("web-old", [history(2000, 1, 1_500_000_000)])
+        self.clone("HTTP of version 0: a clone of 2,000 commits", 1.2, urls(server))
+        self.fetch("HTTP of version 0: a fetch with nothing new", 1.5, urls(server), server, lambda server: None)
+        more = history(100, 300_000, 1_500_000_000, "refs/heads/main^0")
+        self.fetch("HTTP of version 0: a fetch of 100 commits", 1.2, urls(server), server, lambda server: self.load(server, [more]))
+
+    def plain_files(self, urls):
+        server = self.repository("web-files", [history(2000, 1, 1_500_000_000)])
+        self.git("update-server-info", at=server)
+        self.clone("HTTP, plain files: a clone of 2,000 commits", 1.2, urls(server))
+
 
 def main():
     parser = argparse.ArgumentParser(description=__doc__.splitlines()[0])
@@ -247,6 +259,8 @@ def main():
             ("HTTP: small", lambda: bench.web(bench.web_small)), ("HTTP: partial", lambda: bench.web(bench.web_partial)),
             ("HTTP: nothing new", lambda: bench.web(bench.web_nothing)), ("HTTP: refs", lambda: bench.web(bench.web_refs)),
             ("HTTP: 300 MiB", lambda: bench.web(bench.web_large)),
+            ("HTTP: version 0", lambda: bench.web(bench.version_0, PLAIN=1)),
+            ("HTTP: plain files", lambda: bench.web(bench.plain_files, FILES=1)),
         ):
             if given.only in name:
                 action()

@@ -100,9 +100,9 @@ def lines_of(data, version):
 
 def id_of(text):
     if len(text) != 40:
-        raise Err("Id", "InvalidLength", len(text))
+        raise Err("Id", Err("InvalidLength", len(text)))
     if any(c not in b"0123456789abcdefABCDEF" for c in text):
-        raise Err("Id", "InvalidDigit")
+        raise Err("Id", Err("InvalidDigit"))
     return bytes.fromhex(text.decode())
 
 

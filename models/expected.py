@@ -48,7 +48,7 @@ def lines_of_files(paths):
             try:
                 lines.append(line_of(vector))
             except Unreadable as e:
-                return lines, "row %d (%s): %s" % (number, vector.name, e)
+                return lines, "test vector %d (%s): %s" % (number, vector.name, e)
         if error:
             return lines, error
     return lines, None

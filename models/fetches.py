@@ -2,7 +2,8 @@
 from definitions import (Arguments, BLANK, GIT, LF, MAX, Err, State, add_wants, boundary_after, decision, default_features,
                          frames_of, id_of, id_text, is_id, name_ok, one_round, unpack, without_lf)
 from vectors import Unreadable
-from values import answer_words, client_err, escaped, parse_err, read_err, response_err, runs, quoted, id_digits
+from errors import error_text
+from values import answer_words, escaped, id_digits, quoted, runs
 from streams import Banded, Source, number, read_answer, required
 from transports import Bodies, Connection, ProgressRecorder, bodies_of
 from listings import HandshakeResult, obtained, spec_of
@@ -18,95 +19,6 @@ DESCRIPTIONS = {
     b"deepen-relative": "the server doesn't support it"}
 
 
-# ---------------------------------------------------------------- errors as Debug shows them
-def char_text(c):
-    return {"\n": "\\n", "\r": "\\r", "\t": "\\t", '"': '\\"', "\\": "\\\\", "\0": "\\0"}.get(c)
-
-
-def string_text(b):
-    """A UTF-8 text in quotes, as Debug shows it."""
-    out = ""
-    for c in b.decode():
-        out += char_text(c) or ("\\u{%x}" % ord(c) if ord(c) < 32 or ord(c) == 127 else c)
-    return '"%s"' % out
-
-
-def bytes_text(b):
-    """Bytes in quotes, with two digits for each byte that is not UTF-8 and for control characters."""
-    out, at = "", 0
-    while at < len(b):
-        for size in (1, 2, 3, 4):
-            try:
-                c = b[at:at + size].decode()
-                break
-            except UnicodeDecodeError:
-                c = None
-        if not c:
-            out += "\\x%02X" % b[at]
-            at += 1
-            continue
-        at += size
-        out += char_text(c) or ("\\x%02x" % ord(c) if ord(c) < 32 or ord(c) == 127 else c)
-    return '"%s"' % out
-
-
-def read_debug(e):
-    if e.name == "Server":
-        return "Server { message: %s }" % bytes_text(e.rest[0])
-    return read_err(e)
-
-
-def client_debug(e):
-    if e.name == "Io" or e.name in ("MissingDelimitingNullByte", "LineTooLong", "AuthenticationUnsupported"):
-        return client_err(e)
-    if e.name == "UnsupportedProtocolVersion":
-        return "UnsupportedProtocolVersion(%s)" % bytes_text(e.rest[0])
-    return "Read(%s)" % read_debug(e)
-
-
-def parse_debug(e):
-    n = e.name
-    if n == "Server":
-        return "UploadPack { message: %s }" % bytes_text(e.rest[0])
-    if n in ("MalformedV1RefLine", "MalformedV2RefLine"):
-        return "%s(%s)" % (n, bytes_text(e.rest[0]))
-    if n == "MalformedSymref":
-        return "MalformedSymref { symref: %s }" % bytes_text(e.rest[0])
-    if n == "UnknownAttribute":
-        return "UnknownAttribute { attribute: %s, line: %s }" % tuple(map(bytes_text, e.rest))
-    if n == "InvariantViolation":
-        return "InvariantViolation { message: %s }" % string_text(e.rest[0].encode())
-    return parse_err(e)
-
-
-def response_debug(e):
-    if e.name == "Server":
-        return "UploadPack { message: %s }" % bytes_text(e.rest[0])
-    if e.name == "UnknownLineType":
-        return "UnknownLineType { line: %s }" % string_text(e.rest[0])
-    if e.name == "UnknownSectionHeader":
-        return "UnknownSectionHeader { header: %s }" % string_text(e.rest[0])
-    if e.name == "MissingServerCapability":
-        return "MissingServerCapability { feature: %s }" % string_text(e.rest[0])
-    return response_err(e)
-
-
-def handshake_debug(e):
-    if e.name == "Transport":
-        return "Transport(%s)" % client_debug(e.rest[0])
-    if e.name == "ParseRefs":
-        return "ParseRefs(%s)" % parse_debug(e.rest[0])
-    return e.name
-
-
-def init_debug(e):
-    if e.name == "UnknownObjectFormat":
-        return "UnknownObjectFormat { format: %s }" % bytes_text(e.rest[0])
-    assert e.name == "ListRefs", e
-    where, inner = e.rest
-    return "ListRefs(%s(%s))" % (where, client_debug(inner) if where == "Transport" else parse_debug(inner))
-
-
 # ---------------------------------------------------------------- the script of a fetch
 class Script:
     def __init__(self, data):
@@ -119,7 +31,7 @@ class Script:
                 break
             word, _, text = line.partition(BLANK)
             if word not in SCRIPT_WORDS:
-                raise Unreadable("a call or a line of a script that its mode doesn't know")
+                raise Unreadable("its mode doesn't know a word of its bytes")
             self.read(word, text)
         self.data = data
         if self.excluded:
@@ -254,12 +166,12 @@ def fetch_rounds(transport, version, args, haves, banded, interrupt):
         try:
             transport.request(args.send(transport.persists, done))
         except Err as e:
-            raise Err("Client(%s)" % client_debug(e))
+            raise Err("Client(%s)" % error_text("client", e, debug=True))
         try:
             previous = read_answer(transport.r, version, done, not done, banded, [], interrupt.questions)
         except Err as e:
             interrupt.ask(transport.r.asked)
-            raise Err("FetchResponse(%s)" % response_debug(e))
+            raise Err("FetchResponse(%s)" % error_text("response", e, debug=True))
         interrupt.ask(transport.r.asked)
         updates += previous["shallows"]
         if previous["pack"]:
@@ -276,7 +188,7 @@ def read_pack(r, interrupt, pack):
         try:
             given = banded.fill()
         except Err as e:
-            raise Err("ConsumePack(Read(%s))" % read_debug(e))
+            raise Err("ConsumePack(Read(%s))" % error_text("read", e, debug=True))
         if not given:
             return
         pack.append(given)
@@ -291,7 +203,7 @@ def fetch(script, transport, shaken, maps, refs, store, pack, agent=b"git/oxide"
     try:
         required(version, features)
     except Err as e:
-        raise Err("FetchResponse(%s)" % response_debug(e))
+        raise Err("FetchResponse(%s)" % error_text("response", e, debug=True))
     args = Arguments(script.table, version, features)
     if script.tags == "included":
         need(args, b"include-tag")
@@ -338,7 +250,7 @@ def fetch_words(vector, data):
         shaken = HandshakeResult(transport, ProgressRecorder())
     except Err as e:
         sent = quoted(transport.sent) if transport.persists else "".join(quoted(x) + " " for x in transport.sent)
-        return "handshake %s %s" % (handshake_debug(e), sent)
+        return "handshake %s %s" % (error_text("handshake", e, debug=True), sent)
     store = Store(script)
     try:
         _, obtain = obtained(shaken, transport, script.table, (b"agent", b"git/oxide"), script.specs, [], ProgressRecorder())
@@ -350,7 +262,7 @@ def fetch_words(vector, data):
             out += "fetch %s " % e.name
         out += quoted(b"".join(pack)) + " " if script.copies else ""
     except Err as e:
-        out += "refs %s " % init_debug(e)
+        out += "refs %s " % error_text("ref_map", e, debug=True)
     out += "locks %d/%d" % (store.locks, store.releases) + "".join(" " + id_digits(i) for i in store.ids) + " "
     out += transport.r.after(shaken.version)
     return out + (quoted(transport.sent) if transport.persists else "".join(quoted(x) + " " for x in transport.sent))

@@ -2,9 +2,10 @@
 from definitions import (BLANK, GIT, LF, Err, all_prefixes, capabilities_of_bytes, capability_words, default_features,
                          frames_of, has_capability, invoke, is_id, mappings_of, name_ok, progress_parts, ref_map, refspec_of,
                          spec_text, validated)
-from values import client_err, parse_err, ref_words, quoted, id_digits, update_words
+from errors import error_text
+from values import conflicts_text, id_digits, quoted, ref_words, source_words, update_words
 from streams import Reader, Source, cap_words, listed
-from transports import Bodies, Connection, ProgressRecorder, bodies_of, handshake_refs, handshake_error, run_handshake
+from transports import Bodies, Connection, ProgressRecorder, bodies_of, handshake_refs, run_handshake
 
 TAGS_SPEC = b"refs/tags/*:refs/tags/*"
 
@@ -43,22 +44,13 @@ def fix_words(fixes):
     return "".join("fix %s%s " % (quoted(name), quoted(spec)) for name, spec in fixes)
 
 
-def source_words(source):
-    return quoted(source[1]) if source[0] == "FullName" else id_digits(source[1])
-
-
-def issue_words(issues):
-    return "".join("%s<%s<%s;" % (quoted(local), "".join(map(quoted, specs)), "".join(map(source_words, sources)))
-                   for local, sources, specs in issues)
-
-
 def matches_vector(vector):
     line, _, names = vector.data.partition(LF)
     specs = specs_of(line)
     try:
         maps, fixes = validated(mappings_of(specs, names.split(LF)), specs)
     except Err as e:
-        return issue_words(e.rest[0])
+        return conflicts_text(e.rest[0])
     return "".join(source_words(m[1]) + (">" + quoted(m[2]) if m[2] is not None else "") + " " for m in maps) + fix_words(fixes)
 
 
@@ -93,18 +85,6 @@ def map_words(found, explicit):
     return out + fix_words(fixes) + ("missing " if is_missing(maps, refs, explicit) else "whole ")
 
 
-def init_err(e):
-    if e.name == "UnknownObjectFormat":
-        return "UnknownObjectFormat(%s) " % quoted(e.rest[0])
-    if e.name == "MappingValidation":
-        return "MappingValidation(%s) " % issue_words(e.rest[0])
-    assert e.name == "ListRefs", e
-    where, inner = e.rest
-    if where == "ArgumentValidation":
-        return "ListRefs(ArgumentValidation(%s)) " % inner
-    return "ListRefs(%s(%s)) " % (where, client_err(inner) if where == "Transport" else parse_err(inner))
-
-
 def ref_map_vector(vector):
     explicit, _, rest = vector.data.partition(LF)
     extra, _, rest = rest.partition(LF)
@@ -123,13 +103,13 @@ def ref_map_vector(vector):
     try:
         refs = listed(Reader(answer))
     except Err as e:
-        return out + parse_err(e)
+        return out + error_text("refs", e)
     if vector["filters"] == "yes":
         refs = [r for r in refs if any(r[1].startswith(x[len(b"ref-prefix "):]) for x in lines)]
     try:
         return out + map_words(ref_map_of(refs, caps, explicit, extra), explicit)
     except Err as e:
-        return out + init_err(e)
+        return out + error_text("ref_map", e) + " "
 
 
 # ---------------------------------------------------------------- handshakes
@@ -155,7 +135,7 @@ def account_vector(vector):
         accepted = ACCEPTED[vector["accepts"]]
         version = found[0]
         if accepted and version not in accepted:
-            raise Err("PolicyViolation", version)
+            raise Err("PolicyViolation", "V%d" % version)
         try:
             refs, updates = handshake_refs(transport, found)
         except Err:
@@ -165,7 +145,7 @@ def account_vector(vector):
         out += "norefs noupdates " if refs is None else \
             "refs " + "".join(map(ref_words, refs)) + "updates " + "".join(map(update_words, updates))
     except Err as e:
-        out = handshake_error(e)
+        out = error_text("handshake", e) + " "
     out = "asked %s " % quoted("".join(asked).encode()) + progress.as_text() + out
     if version is not None:
         out += transport.r.after(version)
@@ -190,20 +170,20 @@ def list_refs(transport, caps, table, agent, lines, progress):
     arguments = table["ls_refs_arguments"] + ([b"unborn"] if b"unborn" in capability_words(caps, b"ls-refs") else []) + lines
     for a in arguments:
         if not any(a.startswith(p) for p in table["ls_refs_prefixes"]):
-            raise Err("ListRefs", "ArgumentValidation", "UnsupportedArgument(ls-refs%s)" % quoted(a))
+            raise Err("ListRefs", Err("ArgumentValidation", "UnsupportedArgument(ls-refs%s)" % quoted(a)))
     for name, _ in features:
         if name != b"agent" and not has_capability(caps, name) and name not in capability_words(caps, b"ls-refs"):
-            raise Err("ListRefs", "ArgumentValidation", "UnsupportedCapability(ls-refs %s)" % name.decode())
+            raise Err("ListRefs", Err("ArgumentValidation", "UnsupportedCapability(ls-refs %s)" % name.decode()))
     progress.step()
     progress.name(b"list refs")
     try:
         transport.request(invoke(b"ls-refs", features, arguments))
     except Err as e:
-        raise Err("ListRefs", "Transport", e)
+        raise Err("ListRefs", Err("Transport", e))
     try:
         return listed(transport.r)
     except Err as e:
-        raise Err("ListRefs", "Parse", e)
+        raise Err("ListRefs", Err("Parse", e))
 
 
 def prepared(shaken, explicit, extra):
@@ -238,12 +218,12 @@ def listing_words(vector, shaken, transport, explicit, extra):
             try:
                 out += "command " if prepared(shaken, explicit, extra) is None else "existing "
             except Err as e:
-                out += init_err(e)
+                out += error_text("ref_map", e) + " "
         word, fetch = obtained(shaken, transport, table, agent, explicit, extra, progress, vector["by"] != "prepare-all")
         out += "" if vector["by"] == "obtain" else word
         out += map_words(fetch(), explicit)
     except Err as e:
-        out += init_err(e)
+        out += error_text("ref_map", e) + " "
     return out + progress.as_text() + ("taken " if shaken.refs is None else "kept ")
 
 
@@ -267,7 +247,7 @@ def listing_vector(vector):
         shaken = HandshakeResult(transport, ProgressRecorder())
         out = listing_words(vector, shaken, transport, explicit, extra) + transport.r.after(shaken.version)
     except Err as e:
-        out = handshake_error(e)
+        out = error_text("handshake", e) + " "
     if transport.persists:
         return out + sent_words(transport.sent)
     return out + "".join(map(sent_words, transport.sent))

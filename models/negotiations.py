@@ -22,7 +22,7 @@ class History:
             if line:
                 word, _, rest = line.partition(BLANK)
                 if word not in WORDS:
-                    raise Unreadable("a call or a line of a script that its mode doesn't know")
+                    raise Unreadable("its mode doesn't know a word of its bytes")
                 self.add(word.decode(), rest)
 
     def add_object(self, word, rest):

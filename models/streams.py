@@ -5,8 +5,8 @@ from definitions import (Arguments, BLANK, GIT, LF, MAX, Err, acknowledgement, a
                          v1_answer, v1_class, v1_ref_list, v2_answer, v2_ref, v2_ref_list, wanted_ref, without_lf)
 from request_table import CALLS, FEATURES, WORDS
 from vectors import Unreadable
-from values import (ack_words, answer_words, client_err, id_err, parse_err, read_err, ref_words, response_err, runs, quoted, id_digits,
-                   messages_text, update_words)
+from errors import error_text
+from values import ack_words, answer_words, id_digits, messages_text, quoted, ref_words, runs, update_words
 
 
 # ---------------------------------------------------------------- a place in a stream
@@ -124,7 +124,7 @@ class Reader:
         try:
             it = self.next(banded, peek, messages)
         except Err as r:
-            return read_err(r) + " "
+            return error_text("read", r) + " "
         return "| " if it[0] == "stop" else quoted(it[1]) + " "
 
     def lines(self):
@@ -156,7 +156,7 @@ def calls_of(line, known):
     for word in line.decode().split(" "):
         name, _, times = word.partition("*")
         if name not in known:
-            raise Unreadable("a call or a line of a script that its mode doesn't know")
+            raise Unreadable("its mode doesn't know a word of its bytes")
         out += [name] * int(times or 1)
     return out
 
@@ -183,7 +183,7 @@ def line_call(r, call):
         try:
             return text_call(lambda peek: r.next(peek=peek))
         except Err as e:
-            return read_err(e) + " "
+            return error_text("read", e) + " "
     if call == "stopped_at":
         return r.stop_word()
     r.reset(int(call[-1]))
@@ -276,7 +276,7 @@ class Banded:
                 return text_call(self.next)
             item = self.next(call.startswith("peek"))
         except Err as e:
-            return read_err(e) + " "
+            return error_text("read", e) + " "
         return "| " if item[0] == "stop" else quoted(item[1]) + " "
 
     def call(self, call):
@@ -290,7 +290,7 @@ class Banded:
             self.consume(int(call[8:]))
             return ""
         if call == "fault":
-            return (read_err(self.fault) if self.fault else "nofault") + " "
+            return (error_text("read", self.fault) if self.fault else "nofault") + " "
         if call in ("stopped_at", "reset-0", "reset-1", "reset-2"):
             return line_call(self.r, call)
         return self.line_word(call)
@@ -310,7 +310,7 @@ def v2_refs(r):
     try:
         refs = listed(r)
     except Err as e:
-        return None, parse_err(e) + " "
+        return None, error_text("refs", e) + " "
     return refs, "refs " + "".join(map(ref_words, refs))
 
 
@@ -326,7 +326,7 @@ def refs_vector(vector):
             try:
                 assert refs == v2_ref_list(payload)
             except Err as e:
-                assert refs is None and out == parse_err(e) + " ", (out, e)
+                assert refs is None and out == error_text("refs", e) + " ", (out, e)
     else:
         lines, last, place = r.lines()
         out = ""
@@ -334,13 +334,13 @@ def refs_vector(vector):
             try:
                 out += ref_words(v2_ref(line))
             except Err as e:
-                out += parse_err(e) + " "
+                out += error_text("refs", e) + " "
         r.move_to(place, last[1] if last[0] == "stop" else None)
         if last[0] == "stop":
             out += "| "
         else:
             r.fail(last[1])
-            out += 2 * (parse_err(last[1]) + " ")
+            out += 2 * (error_text("refs", last[1]) + " ")
     return out + (r.after(version) if not fail else "")
 
 
@@ -442,7 +442,7 @@ def v1_refs(r, caps):
     try:
         refs, ups = early_refs(r, caps)
     except Err as e:
-        return None, parse_err(e) + " "
+        return None, error_text("refs", e) + " "
     return refs, "refs " + "".join(map(ref_words, refs)) + "updates " + "".join(map(update_words, ups))
 
 
@@ -468,7 +468,7 @@ def greeted(r):
     try:
         version, caps, has_refs = greeting(r)
     except Err as e:
-        return None, client_err(e) + " "
+        return None, error_text("client", e) + " "
     return (version, caps, has_refs), "V%d %s%s; " % (version, "refs " if has_refs else "norefs ", cap_words(caps))
 
 
@@ -490,7 +490,7 @@ def handshake_vector(vector, payload=None):
         assert found and adv["version"] == found[0] and adv["caps"] == found[1], (adv, found)
         assert adv["refs"] == (got if found[2] else None), (adv, got)
     except Err as e:
-        assert not found or (found[2] and got is None and (parse_err(e) in out)) or e.name == "Unset", (e, out)
+        assert not found or (found[2] and got is None and (error_text("refs", e) in out)) or e.name == "Unset", (e, out)
     except RecursionError:
         pass
     return out + ("''" if connection else "")
@@ -524,7 +524,7 @@ def answered(r, version, expects, negotiates, banded, messages, questions=None):
     try:
         answer = read_answer(r, version, expects, negotiates, banded, messages, questions)
     except Err as e:
-        return None, response_err(e) + " "
+        return None, error_text("response", e) + " "
     return answer, answer_words(answer)
 
 
@@ -653,7 +653,7 @@ def pack_words(r, limit, interrupt, memory):
                 r.i = place
                 r.fail(item[1])
                 e = item[1]
-                out = read_err(e) + " " + (e.rest[0] if e.name == "Io" else "InvalidData") + " " + r.stop_word()
+                out = error_text("read", e) + " " + (e.rest[0] if e.name == "Io" else "InvalidData") + " " + r.stop_word()
     return out + "%s told %s %d %d " % (quoted(content), messages_text(messages), interrupt < asked, memory < len(messages))
 
 
@@ -701,7 +701,7 @@ def capabilities_vector(vector):
         try:
             caps, place = capabilities_of_bytes(data)
         except Err as e:
-            return client_err(e)
+            return error_text("client", e)
         out = "%d " % place
     else:
         caps = capabilities_of_lines(data.split(b"\x01"))
@@ -719,14 +719,14 @@ def capabilities_vector(vector):
     try:
         out += "".join(quoted(n) + ":" + (quoted(t) if t is not None else "-") + " " for n, t in symref_table(caps))
     except Err as e:
-        out += parse_err(e) + " "
+        out += error_text("refs", e) + " "
 
     def check(version, features, ok):
         try:
             required(version, features)
             return ok
         except Err as e:
-            return "lacks " if ok == "has  " else response_err(e)
+            return "lacks " if ok == "has  " else error_text("response", e)
     for command in (b"fetch", b"ls-refs"):
         for version in (0, 1, 2):
             fs = default_features(GIT, command, version, caps)
@@ -750,7 +750,7 @@ def answer_line_vector(vector):
         i = id_of(payload)
         out = id_digits(i) + (" null " if i == bytes(20) else " ")
     except Err as e:
-        out = id_err(e) + " "
+        out = error_text("id", e.rest[0]) + " "
     if payload == b"sha1":
         out += "sha1 "
     try:
@@ -761,7 +761,7 @@ def answer_line_vector(vector):
         try:
             out += words(f(payload))
         except Err as e:
-            out += response_err(e)
+            out += error_text("response", e)
     return out
 
 
@@ -827,7 +827,7 @@ def state_of(a):
 def requests_vector(vector):
     lines = [x.partition(BLANK)[::2] for x in vector.data.split(LF) if x]
     if any(word not in WORDS for word, _ in lines):
-        raise Unreadable("a call or a line of a script that its mode doesn't know")
+        raise Unreadable("its mode doesn't know a word of its bytes")
     features = [feature_of(rest) for word, rest in lines if word == b"feature"]
     a = Arguments(GIT, vector["version"], [(n, text_of(v) if v is not None else None) for n, v in features if n in FEATURES])
     persists = vector["over"] == "connection"
@@ -843,7 +843,7 @@ def requests_vector(vector):
                 sent.append(b"".join(a.send(persists, word == b"send-done")))
                 out += "sent "
             except Err as e:
-                out += client_err(e) + " "
+                out += error_text("client", e) + " "
         else:
             ok = make_call(a, word, rest)
         out += ("" if ok else "x") + state_of(a)

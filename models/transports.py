@@ -1,6 +1,6 @@
 """A client's transport over bodies in memory or a connection, as far as a test vector shows it."""
 from definitions import BLANK, Err
-from values import client_err, parse_err, quoted
+from values import quoted
 from streams import Reader, early_refs, greeting, number
 
 KINDS = {b"denied": "PermissionDenied", b"timed-out": "TimedOut", b"broken-pipe": "BrokenPipe"}
@@ -138,16 +138,3 @@ def handshake_refs(transport, found):
         return early_refs(transport.r, found[1])
     except Err as e:
         raise Err("ParseRefs", e)
-
-
-def handshake_error(e):
-    if e.name == "Transport":
-        return "Transport(%s) " % client_err(e.rest[0])
-    if e.name in ("Credentials", "InvalidCredentials"):
-        return "%s(%s) " % (e.name, quoted(e.rest[0]))
-    if e.name == "PolicyViolation":
-        return "TransportProtocolPolicyViolation(V%d) " % e.rest[0]
-    if e.name == "ParseRefs":
-        return "ParseRefs(%s) " % parse_err(e.rest[0])
-    assert e.name == "EmptyCredentials", e
-    return "EmptyCredentials "

@@ -67,12 +67,12 @@ def bytes_of(lines):
             elif line[at + 1] == "*":
                 times = re.match("([0-9]+);", line[at + 2:])
                 if not times or not out:
-                    raise Unreadable("no byte, or no end, after a backslash")
+                    raise Unreadable("an escape without a byte or an end")
                 out += out[-1:] * (int(times.group(1)) - 1)
                 at += 2 + times.end()
             else:
                 if not re.fullmatch("[0-9a-f]{2}", line[at + 1:at + 3]):
-                    raise Unreadable("no byte, or no end, after a backslash")
+                    raise Unreadable("an escape without a byte or an end")
                 out.append(int(line[at + 1:at + 3], 16))
                 at += 3
         else:
@@ -83,9 +83,9 @@ def bytes_of(lines):
 def vector_of(head, lines):
     words = head.split("#")[0].split()
     if head.startswith("|"):
-        raise Unreadable("bytes without a row before them")
+        raise Unreadable("bytes that belong to no vector")
     if len(words) < 2 or words[1] not in SETTINGS:
-        raise Unreadable("no mode of that name")
+        raise Unreadable("there is no mode of this name")
     known = dict(SETTINGS[words[1]])
     for name, setting in EACH.items():
         known.setdefault(name, setting)
@@ -93,10 +93,10 @@ def vector_of(head, lines):
     for word in words[2:]:
         name, _, value = word.partition("=")
         if name not in known:
-            raise Unreadable("its mode has no such setting")
+            raise Unreadable("its mode doesn't have this setting")
         allowed = known[name][0]
         if not (value in allowed if allowed else re.fullmatch("[0-9]+", value)):
-            raise Unreadable("no value of that setting")
+            raise Unreadable("the setting doesn't have this value")
         values[name] = value if allowed else int(value)
     data = bytes_of(lines)
     return TestVector(words[0], words[1], values, data + data[values["from"]:] * values["again"])
@@ -125,5 +125,5 @@ def read(path):
         try:
             vectors.append(vector_of(head, lines))
         except Unreadable as e:
-            return vectors, "row %d (%s): %s" % (number, head.split(" ")[0], e)
+            return vectors, "test vector %d (%s): %s" % (number, head.split(" ")[0], e)
     return vectors, None

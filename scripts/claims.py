@@ -7,9 +7,10 @@ Usage: claims.py [--write | --all CRATE..]
 Without an option it compares the page, prints the first line that differs, and ends with status 1. `--write` writes the page. `--all`
 prints the tables of some crates with all private functions that have a contract.
 
-A purpose is the first sentence of a comment. A contract is all clauses of a function and the ghost members of an `impl`. A
-definition counts where a file of `specs/` of a crate has it; definitions of the toolchain's library aren't listed. The page has
-private functions of two kinds: those of the crates of `PROGRAMS`, and those of `same.rt`, which state what `==` and `cmp` mean.
+A purpose is the first sentence of a comment. A contract is all clauses of a function and the ghost members of an `impl`. A clause that
+names a ghost member of a trait without functions cites what that member cites, if the trait is of the same crate. A definition counts
+where a file of `specs/` of a crate has it; definitions of the toolchain's library aren't listed. The page has private functions of two
+kinds: those of the crates of `PROGRAMS`, and those of `same.rt`, which state what `==` and `cmp` mean.
 """
 import functools
 import re
@@ -38,6 +39,8 @@ GHOST_USE = re.compile(r"ghost use Rattle\.(gi\w+)\.specs\.([\w.]+)(?:\.\{([^}]*
 HEADER = re.compile(r"(?ms)^(?P<indent>(?:    )?)(?P<words>(?:pub(?:\([\w ]+\))? |final |const |unsafe |extern \"C\" )*)fn (?P<name>\w+)\b")
 CLAUSE = re.compile(r"\s+(?:ensures|requires)\b[^{;]*\{")
 BLOCK = re.compile(r"(?m)^(?P<words>(?:pub(?:\([\w ]+\))? )?(?P<kind>impl|trait)\b)(?P<rest>[^{;]*?)\{")
+# A ghost member of an implementation of a trait, as a clause names it.
+QUOTE = re.compile(r"\bas (\w+)(?:<[^⟧]*)?⟧\.(\w+)")
 
 
 def libraries():
@@ -207,6 +210,29 @@ def implementation(crate, path, text, block, known):
     return Function(f"{block.name}: {block.trait.rpartition('::')[2]}", path, said, bool(members), cited(members, known), is_public)
 
 
+@functools.cache
+def ghost_members(crate):
+    """What the ghost members of the crate's traits without functions cite, by the names of the trait and the member."""
+    texts = [path.read_text() for path in files_of(crate)]
+    blocks = [(text, Block(text, found)) for text in texts for found in BLOCK.finditer(text)]
+    traits = {block.name for _, block in blocks if block.is_trait and not HEADER.search(block.body)}
+    found = {}
+    for text, block in blocks:
+        if block.trait in traits:
+            for name, body in re.findall(r"(?ms)^    ghost (\w+) = (\{.*?\});", block.body):
+                found[block.trait, name] = cited([body], definitions(text))
+    return found
+
+
+def cited_by(crate, texts, known):
+    """The definitions that these clauses name, themselves or by a ghost member."""
+    found = cited(texts, known)
+    for member in QUOTE.findall("\n".join(texts)):
+        for file, names in ghost_members(crate).get(member, {}).items():
+            found.setdefault(file, {}).update(names)
+    return found
+
+
 def function(crate, path, text, found, block, known):
     """What a function or method says, but for one of an implementation of a trait."""
     module, name, is_marked = module_of(crate, path), found["name"], "pub " in found["words"]
@@ -217,7 +243,7 @@ def function(crate, path, text, found, block, known):
         is_public = (block.is_trait or is_marked) and any(it == block.name for _, it in public_of(crate))
         name = f"{block.name}::{name}"
     head, said = head_of(text, found.start()), purpose(comment_before(text, found.start()), path.stem == "laws")
-    return Function(name, path, said, bool(clauses(head, "ensures")), cited(clauses(head), known), is_public)
+    return Function(name, path, said, bool(clauses(head, "ensures")), cited_by(crate, clauses(head), known), is_public)
 
 
 def functions_in(crate, path):

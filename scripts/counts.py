@@ -28,8 +28,9 @@ WORD = rf"({'|'.join(WORDS)})"
 TESTED, ARCHITECTURE = "docs/reference/TESTED.md", "docs/ARCHITECTURE.md"
 DOCUMENTS = ["README.md", "CONTRIBUTING.md", "docs/*.md", TESTED, "models/README.md", "crates/*/README.md", "examples/**/*.md"]
 TEST_MODULES = {
-    "gixp_test_lower": ["streams", "fetch", "graph", "refspecs"],
-    "gixp_test_fetch": ["handshakes", "negotiations", "fetches"],
+    "gixp_test_lower": ["streams", "response_end", "packfile_uris", "plain_responses", "fetch", "graph", "negotiators", "memory", "refspecs"],
+    "gixp_test_fetch": ["handshakes", "negotiations", "fetches", "updates"],
+    "gixp_test_client": ["planner"],
 }
 
 

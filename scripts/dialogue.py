@@ -20,6 +20,7 @@ git's own documents, never from the program's output. The lines of a test vector
     setting NAME=VALUE  a setting that `git config --list` prints; `setting NAME` has no value
     terminal NAME       standard error is a terminal of this name
     bare                the test vector itself answers the question for the settings; else it is answered at any time
+    startup TEXT        all of the startup input, in place of the name, the URL and the settings
     > LINE              git writes a line
     >> TEXT             git writes bytes without a line end
     end                 git closes its pipe, as at the end of each test vector
@@ -68,7 +69,7 @@ WAIT = 60
 ESCAPE = re.compile(rb"\\(x[0-9a-fA-F]{2}|.)")
 NAMED = {b"n": b"\n", b"t": b"\t", b"0": b"\0", b"\\": b"\\"}
 SETTINGS = b"16\nstatus settings\n"
-# The request at the end of a session with a web server, when git no longer waits.
+# The request at the end of a fetch, and at the end of a session with a web server, when git no longer waits.
 LAST = b"14\nstatus server\n"
 SPECIAL = {b"0000", b"0001", b"0002"}
 
@@ -125,6 +126,7 @@ class TestVector:
         self.room, self.program, self.lines = room, program, lines
         self.replies, self.requests, self.errors, self.received = b"", b"", [], []
         self.sends, self.first_received, self.status, self.waits, self.begun, self.rested = b"", b"", 0, False, None, 0
+        self.fetches = False
         for name in (*PIPES, WATCHER):
             self.path(name).write_bytes(b"")
         for name in ("requests", "answers"):
@@ -146,9 +148,10 @@ class TestVector:
         given = {"url": [b"/srv/x"], "name": [b"origin"], "terminal": [b""], "set": [], "setting": []}
         for _, word, rest in self.lines:
             given.setdefault(word, []).append(self.text(rest))
-        variables = {"PATH": os.environ["PATH"], **dict(one.decode("latin1").split("=", 1) for one in given["set"])}
+        variables = {b"PATH": os.environb[b"PATH"], **dict(one.split(b"=", 1) for one in given["set"])}
         settings = [one.replace(b"=", b"\n", 1) for one in given["setting"]]
-        (self.room / STARTUP).write_bytes(b"".join(field + b"\0" for field in (given["name"][-1], given["url"][-1], *settings)))
+        startup = b"".join(field + b"\0" for field in (given["name"][-1], given["url"][-1], *settings))
+        (self.room / STARTUP).write_bytes(given.get("startup", [startup])[-1])
         self.begun = subprocess.Popen(
             [self.program, MARK, given["terminal"][-1], "requests", "answers"], cwd=self.room, env=variables, stdin=subprocess.PIPE,
             stdout=subprocess.PIPE, stderr=(self.room / "errors").open("wb"))
@@ -187,6 +190,7 @@ class TestVector:
         if line != wanted or not end:
             raise Wrong(f"the reply to git is {line + end!r}, expected {wanted!r}; requests to the shell: {self.requests!r}")
         self.look_at_watcher(True)
+        self.fetches = False
 
     def request(self, wanted):
         """Takes a request. Its answer follows later."""
@@ -198,7 +202,7 @@ class TestVector:
         if found != text:
             raise Wrong(f"the request to the shell is {found!r}, expected {text!r}; replies to git: {self.replies!r}")
         if found != SETTINGS:
-            self.look_at_watcher(found == LAST)
+            self.look_at_watcher(found == LAST and not self.fetches)
         if wanted.startswith(b"start server "):
             for name, content in (("server-in", b""), ("server-out", self.sends)):
                 self.path(name).unlink()
@@ -243,6 +247,7 @@ class TestVector:
             self.settle()
             self.begun.stdin.write(self.text(rest) + (b"\n" if word == ">" else b""))
             self.begun.stdin.flush()
+            self.fetches = self.fetches or rest.startswith(b"fetch ")
         elif word == "<":
             self.reply(self.text(rest))
         elif word == "?":
@@ -272,7 +277,7 @@ class TestVector:
             self.errors.append(self.text(rest))
         elif word == "status":
             self.status = int(rest)
-        elif word not in ("url", "name", "set", "setting", "terminal", "bare"):
+        elif word not in ("url", "name", "set", "setting", "terminal", "bare", "startup"):
             raise Wrong(f"unknown word: {word}")
 
     def write(self, name, text=b""):

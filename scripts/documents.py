@@ -23,7 +23,7 @@ from pathlib import Path
 
 import counts
 import documents_commands
-from documents_names import OTHERS, Names, names_in
+from documents_names import OTHERS, Names, names_in, words_in
 
 TOP = Path(__file__).resolve().parent.parent
 sys.path.insert(0, str(TOP / "models"))
@@ -36,7 +36,7 @@ LINK = re.compile(r"\[[^\]\n]*\]\(([^)\s]+)\)")
 FILE = re.compile(r"`((?:\.ci|bench|bindings|crates|docs|examples|include|models|mutants|scripts)/[\w./-]*\w)[^`\n]*`")
 NUMBER = re.compile(r"(?<![\w.,/-])([0-9]+(?:[.,][0-9]+)*)(?![\w-])")
 # Numbers that name something: versions, bands, statuses, files, digits, formulas.
-NAMED = re.compile(r"(?i)versions? [0-9]+(?:(?:,| and| or| to) [0-9]+)*|bands? [0-9](?: and [0-9])?|status(?:es)?(?: is)? [0-9]+"
+NAMED = re.compile(r"(?i)versions? [0-9]+(?:(?:,| and| or| to) [0-9]+)*|bands? [0-9](?: and [0-9])?|status(?:es)?(?: is| isn't)? [0-9]+"
                    r"|files? [0-9]+(?: (?:and|to) [0-9]+)*|offsets [0-9]+ to [0-9]+|places [0-9]+ to [0-9]+|Python [0-9]|SHA-[0-9]+|n / 16 \+ 1|from 1 on")
 
 
@@ -76,7 +76,7 @@ COUNTED = [
     ("docs/LANGUAGES.md", "It has # lines", lines_of("bindings/python/clone.py")),
     ("docs/LANGUAGES.md", "(`ls_remote.rs`, # lines)", lines_of("bindings/rust/examples/ls_remote.rs")),
     ("docs/LANGUAGES.md", "(`fetch.rs`, # lines)", lines_of("bindings/rust/examples/fetch.rs")),
-    ("docs/LANGUAGES.md", "its pack the number is #", of("crates/gixp_c/src/texts.rt", '# => "the negotiation ended without a pack"')),
+    ("docs/LANGUAGES.md", "its pack the number is #", of("crates/gixp_calls/src/texts.rt", '# => "the negotiation ended without a pack"')),
     ("docs/LANGUAGES.md", "rounds over # refs", of("bench/README.md", "a session of # refs and")),
     ("docs/LANGUAGES.md", "refs and # haves", of("bench/README.md", "refs and # haves, ten rounds")),
     ("docs/LANGUAGES.md", "`gixp.refs` over # refs", of("bench/README.md", "# refs from Python")),
@@ -85,7 +85,7 @@ COUNTED = [
     ("crates/gixp_requests/README.md", "an id from # bytes",
      of("crates/gixp_requests/src/fetch/arguments/line.rt", "let mut line = [0; #]")),
     ("crates/gixp_replay/README.md", "`x\\*65516;` is # times `x`", lambda: 65516),
-    ("crates/gixp_test_updates/README.md", "what git # does", GIT),
+    ("crates/gixp_test_fetch/README.md", "what git # does", GIT),
 ]
 # Why the numbers in these words aren't counted.
 UNCOUNTED = [
@@ -94,10 +94,17 @@ UNCOUNTED = [
     ("docs/USING.md", "some # common ones", "how many answers two pipes hold, rounded"),
     ("docs/LANGUAGES.md", "takes # of the time of a plain parser", "what bench measures, rounded"),
     ("docs/LANGUAGES.md", "takes # to # of the time", "what bench measures, rounded"),
+    ("docs/LANGUAGES.md", "over # refs with a plain parser", "what bench.js measures"),
+    ("docs/LANGUAGES.md", "It takes # to # of its time in Node #", "what bench.js measures, rounded"),
+    ("docs/LANGUAGES.md", "The module has # KB", "what build_web_module.py prints, rounded"),
+    ("docs/LANGUAGES.md", "has a memory of # bits", "a condition"),
+    ("docs/LANGUAGES.md", "and Node # has them", "a condition"),
     ("CONTRIBUTING.md", "at most # columns", "a rule"),
+    ("CONTRIBUTING.md", "and # if possible", "a rule"),
     ("crates/gixp_hash/README.md", "# digits of either case", "git's ids"),
     ("crates/gixp_remote/README.md", "needs bash # or later", "a condition"),
     ("crates/gixp_remote/README.md", "a number on a line: # if", "a status"),
+    ("crates/gixp_remote/README.md", "or with # if no such program", "a status"),
     ("crates/gixp_remote/README.md", "| #, # | the server", "files"),
     ("crates/gixp_remote/README.md", "| # | git or another program", "a file"),
     ("crates/gixp_remote/README.md", "| #, # | git that lists", "files"),
@@ -189,6 +196,11 @@ def check_names(text, names, fault):
             names.others.add(name)
         elif not names.is_known(name):
             fault(place, f"there is no {name}")
+    for place, word in words_in(text):
+        if word in OTHERS:
+            names.others.add(word)
+        elif word not in names.words:
+            fault(place, f"no file has the word {word}")
     return len(found)
 
 

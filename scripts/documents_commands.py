@@ -22,6 +22,9 @@ STAYS = re.compile(r"cd |export |[A-Z]+=")
 GATE = ".ci/run runs it"
 LEFT_OUT = {
     "scripts/bindings.sh": GATE,
+    "python3 scripts/build_web_module.py": GATE,
+    "scripts/page.py": GATE,
+    "python3 scripts/page.py --serve 8000": "it serves until it is ended",
     "python3 models/expected.py": GATE,
     "scripts/names.py": GATE,
     "python3 scripts/mutants_test.py": GATE,
@@ -57,7 +60,7 @@ IN_PLACE = {
     "(cd crates/gixp_fetch_pack && rt run -- --help)": "(cd crates/gixp_fetch_pack && out/gixp_fetch_pack --help)",
     "gixp_fetch_pack --help": "out/gixp_fetch_pack --help",
     "rt new crates/mine start_io": "rt new crates/mine start_io; rm -r crates/mine",
-    "rt try --test": "cd crates/gixp_test_stateless; rt try --test",
+    "rt try --test": "cd crates/gixp_test_lower; rt try --test",
     "rt try -- refs FILE": "cd crates/gixp_plan; cp ../../examples/tagged.ls .; rt try -- refs tagged.ls",
     "rt fmt": "cd crates/gixp_plan; rt fmt; git diff --exit-code .",
     "rt try --data cases=data/cases -- --only requests_v2 cases":

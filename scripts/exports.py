@@ -1,5 +1,6 @@
 #!/usr/bin/env python3
-"""Compares the declarations of include/gixp.h with the exports of crates/gixp_c: names, parameters, and the fields of structs.
+"""Compares the declarations of include/gixp.h with the exports of crates/gixp_c: names, parameters, and the fields of structs. Compares the
+exports of crates/gixp_web with them: the same files, and one for memory.
 
 Prints each difference. The status is 1 if there is one.
 """
@@ -11,12 +12,12 @@ TOP = pathlib.Path(__file__).resolve().parent.parent
 # The C type of a parameter or field of the exports.
 PLAIN = {"u8": "uint8_t", "u32": "uint32_t", "usize": "size_t", "Span": "gixp_span", "RefRecord": "gixp_ref",
          "FoundRecord": "gixp_found", "PieceRecord": "gixp_piece_record", "StepRecord": "gixp_step",
-         "WishesRecord": "gixp_wishes",
+         "SessionInputRecord": "gixp_session_input",
          "MappingRecord": "gixp_mapping", "MappedRecord": "gixp_mapped"}
 
 
 def sources():
-    for crate in ("gixp_c", "gixp_records"):
+    for crate in ("gixp_c", "gixp_calls", "gixp_records"):
         for file in sorted((TOP / "crates" / crate / "src").glob("*.rt")):
             yield file.read_text()
 
@@ -64,12 +65,20 @@ def header():
     return functions, records
 
 
+def other_files():
+    """-> the files of gixp_web that differ from those of gixp_c, but for its own."""
+    ours, web = ({file.name: file.read_text() for file in (TOP / "crates" / crate / "src").glob("*.rt")} for crate in ("gixp_c", "gixp_web"))
+    own = {"lib.rt", "memory.rt"}
+    return [f"crates/gixp_web/src/{name} isn't that of gixp_c" for name in sorted((ours.keys() | web.keys()) - own) if ours.get(name) != web.get(name)]
+
+
 def main():
     (functions, records), (declared, structs) = exports(), header()
     wrong = [f"{name}: {functions.get(name)} exported, {declared.get(name)} declared"
              for name in sorted(functions.keys() | declared.keys()) if functions.get(name) != declared.get(name)]
     wrong += [f"{name}: {records.get(name)} exported, {structs.get(name)} declared"
               for name in sorted(records.keys() | structs.keys()) if records.get(name) != structs.get(name)]
+    wrong += other_files()
     print("\n".join(wrong) or f"{len(functions)} exports and {len(records)} structs agree with the header")
     return bool(wrong)
 

@@ -32,6 +32,7 @@ from live_harness import CRATE, REMOTE, Tester
 from live_httpd import web_servers
 from live_loss import try_loss, try_web_loss
 from live_program import try_program
+from live_relay import try_relay
 from live_seen import try_seen
 from live_servers import has_loopback
 from live_uris import try_uris
@@ -65,6 +66,7 @@ def main():
             some(t)
         if has_loopback():
             try_web(t)
+            try_relay(t, web_servers())
             try_web_loss(t, web_servers()[0])
             try_uris(t)
         t.finish(given.again)

@@ -2,10 +2,10 @@
 import shutil
 import time
 
-from live_harness import (VERSIONS, by_both, by_path, clone_both, clones, commits, consecutive, fetches, grow, is_clean, leaves_nothing,
-                          left_of_packs, lists, make, running, same, state, words_of)
+from live_harness import (VERSIONS, by_both, by_path, clone_both, clones, commits, consecutive, fetches, files_left, grow, is_clean,
+                          leaves_nothing, left_of_packs, lists, make, running, same, state, words_of)
 from live_program import recorded
-from live_servers import GREETING, bodies, daemon_of, frame, has_loopback, here_ssh, saying_ssh, ssh, sshd_of, why_no_sshd
+from live_servers import GREETING, bodies, daemon_of, frame, has_loopback, here_ssh, saying_ssh, shell_ssh, ssh, sshd_of, why_no_sshd
 
 # Clones and fetches
 
@@ -28,6 +28,11 @@ def try_clones(t):
         for option in options:
             t.case(f"clone {' '.join(option)}, version {version}", clones, large, version, *option)
     t.case("clone --reject-shallow of a shallow repository", clones, small_shallow, "2", "--reject-shallow")
+    # git puts the value of an option in quotes if it has such bytes
+    quoted = make(t, "quoted", 30)
+    t.git("tag", 'q"\u00e9', "main~9", at=quoted)
+    for version in VERSIONS:
+        t.case(f"clone --shallow-exclude of a name in quotes, version {version}", clones, quoted, version, '--shallow-exclude=q"\u00e9')
 
 
 # Servers, and how they change between a clone and a fetch
@@ -304,6 +309,26 @@ def dies_later(name, t):
         t.check(f"{name} at {most}", status not in (0, -1) and err and not by_us.exists() and leaves_nothing(t), f"{status} {err}")
 
 
+def fails_later(name, t):
+    """A server's program that fails after its pack. The pack and the boundary stay, no ref is written, and a clone leaves nothing."""
+    server = make(t, "server", 3)
+    more = shell_ssh(t, 'for last; do :; done\nunset GIT_DIR\nsh -c "$last"\nexit 3')
+    for version in (0, 2):
+        for url in (f"ssh://host{server}", f"gixp::ssh://host{server}"):
+            says = "exited with status 3" if url.startswith("gixp") else ""
+            protocol = "-c", f"protocol.version={version}"
+            status, out, err = t.run("git", *protocol, "clone", "-q", url, t.folder("to"), more=more)
+            t.check(f"{name}: clone {url} {version}", status == 128 and says in err and leaves_nothing(t), f"{status} {err}")
+            client = make(t, "client", 0)
+            status, out, err = t.run("git", *protocol, "-c", "fetch.unpackLimit=1", "fetch", "--depth=1", url, "main:refs/heads/x", at=client, more=more)
+            packs, boundary = list(client.glob("objects/pack/*.pack")), client / "shallow"
+            refs = t.git("for-each-ref", at=client)
+            t.check(f"{name}: fetch {url} {version}", status not in (0, -1) and says in err and len(packs) == 1 and boundary.exists() and not refs
+                    and not files_left(client) and leaves_nothing(t), f"{status} {err} {packs} {refs}")
+            status, out, err = t.run("git", *protocol, "ls-remote", url, more=more)
+            t.check(f"{name}: list {url} {version}", status == 0 and "refs/heads/main" in out, f"{status} {err}")
+
+
 def refuses_helper(name, t):
     """Servers that send an error or nonsense to the helper."""
     path, version = t.folder("said"), frame(b"version 2\n")
@@ -347,6 +372,7 @@ def server_texts(name, t):
 
 def try_liars(t):
     t.case("a server that dies on the helper", dies_later)
+    t.case("a server that fails after its pack", fails_later)
     t.case("errors to the helper", refuses_helper)
     t.case("a server's text", server_texts)
 

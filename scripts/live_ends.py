@@ -2,8 +2,10 @@
 import contextlib
 import os
 import shlex
+import shutil
 import signal
 import subprocess
+import sys
 import time
 
 from live_harness import PROCESSES, by_both, end_session, files_left, leaves_nothing, make, running
@@ -56,9 +58,8 @@ def unanswered(name, t):
 
 
 def last_words(name, t):
-    """A server gets the end of its input and time to end. A server that runs on gets a signal, and one that ignores it is killed."""
-    for text, wanted, least, most in (("cat; exit 9", "9", 0, 5), ("sleep 2; exit 8", "8", 2, 6), ("sleep 100", "143", 3, 20),
-                                      ('trap "" TERM; while :; do sleep 1; done', "137", 3, 20)):
+    """A server gets the end of its input, and is waited for. A task that isn't running has no exit status."""
+    for text, wanted, least, most in (("cat; exit 9", "9", 0, 5), ("sleep 7; exit 8", "8", 7, 12)):
         start = f"start server command 20 /dev/null\n sh\n -c\n {text}\n"
         program, told = asking(t, start, "status server\n", answers=2)
         at = time.monotonic()
@@ -66,6 +67,36 @@ def last_words(name, t):
         took = time.monotonic() - at
         is_right = told.exists() and told.read_text().strip() == wanted and least <= took < most
         t.check(f"{name}: {text}", is_right and leaves_nothing(t), f"{took:.1f} s {told.exists() and told.read_text()} {err}")
+    program, told = asking(t, "status question\n", answers=1)
+    status, out, err = t.run("git", "ls-remote", "gixp::/x", more={"GIXP_REMOTE": program})
+    t.check(f"{name}: no program", told.exists() and told.read_text().strip() == "256" and leaves_nothing(t), err)
+
+
+# a program in place of gixp_remote whose /proc/PID/io the shell may not read (prctl(2), PR_SET_DUMPABLE)
+UNSEEN = """#!{python}
+import ctypes, sys
+requests, answers = open(sys.argv[3], "wb", 0), open(sys.argv[4], "rb", 0)
+ctypes.CDLL(None).prctl(4, 0)
+request = b"start server command /dev/null /dev/null\\n sleep\\n 9\\n"
+requests.write(b"%d\\n%s" % (len(request), request))
+open("{told}", "wb").write(answers.readline())
+sys.exit(3)
+"""
+
+
+def unseen(name, t):
+    """With GIXP_TIMEOUT, a program whose reads can't be seen: the server isn't started, and a sentence says why."""
+    # root can read it, unless it lacks a capability
+    without = ("setpriv", "--bounding-set=-sys_ptrace", "--inh-caps=-sys_ptrace") if os.getuid() == 0 else ()
+    if without and not shutil.which("setpriv"):
+        return
+    program, told = t.folder("program"), t.folder("told")
+    program.write_text(UNSEEN.format(python=sys.executable, told=told))
+    program.chmod(0o755)
+    for seconds, wanted in (("5", "1"), ("0", "0")):
+        status, out, err = t.run(*without, "git", "ls-remote", "gixp::/x", more={"GIXP_REMOTE": program, "GIXP_TIMEOUT": seconds})
+        is_right = told.read_text().strip() == wanted and ("GIXP_TIMEOUT needs /proc/PID/io" in err) == (wanted == "1")
+        t.check(f"{name}: {seconds}", status != 0 and is_right and leaves_nothing(t), f"{status} {told.read_text()} {err}")
 
 
 def hungry(name, t):
@@ -182,6 +213,7 @@ def try_ends(t):
     t.case("a pack that wants more", hungry)
     t.case("a program that wants no answer", unanswered)
     t.case("the end of a server's input", last_words)
+    t.case("a program whose reads can't be seen", unseen)
     ours, term, kill = t.remote.name, signal.SIGTERM, signal.SIGKILL
     for who, sent in (
         ("git-remote-gixp", term), (ours, term), (ours, kill), ("index-pack", term), ("index-pack", kill), ("upload-pack", term),

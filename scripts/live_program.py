@@ -107,6 +107,7 @@ def command_lines(name, t):
         (["--help", "--keep-open", "a"], 0), (["-V", "--help", "a"], 0),
         (["/nowhere/a", "/nowhere/b", "c", "d"], 1), (["--refs", "/nowhere/r", "a", "b", "c", "d"], 1),
         (["--refs=/nowhere/r", "a", "b", "c", "d"], 1), (["--depth=0", "--shallow=s", "a", "b", "c", "d"], 2),
+        (["a", "-", "c", "d"], 2), (["--list", "a", "-"], 2), (["--quiet", "/nowhere/a", "-", "c", "d"], 1),
         (["--version=3", "a", "b", "c", "d"], 2), (["--quiet=yes", "a", "b", "c", "d"], 2), (["--nothing=1", "a", "b", "c", "d"], 2),
     ):
         status, out, err = t.run(t.program, *given)
@@ -197,7 +198,7 @@ def lists_lazily(name, t):
     for number in (1, 3, 16):
         spoiled = [*lines[:number - 1], lines[0][:-1], *lines[number:]]
         status, out, err, room, haves = by_list(t, server, spoiled, specs=["refs/heads/main"])
-        wanted = f"/commits: line {number} isn't readable\n"
+        wanted = f"/commits: line {number} is malformed\n"
         is_told = err.endswith(wanted) and len(err.splitlines()) == 1
         t.check(f"{name}: line {number}", status == 1 and is_told and not (room / "pack").exists(), f"{status} {err}")
     for text in ([""], [*lines[:3], ""]):
@@ -265,7 +266,7 @@ def asks(name, t):
         ("sed -u 's/$/ stone/'", 1), ("git cat-file --batch-check | sed -u '150s/$/ more/'", 150),
     ):
         status, out, err, room = ask(answers)
-        is_told = err.endswith(f"/answers: line {number} isn't readable\n")
+        is_told = err.endswith(f"/answers: line {number} is malformed\n")
         t.check(f"{name}: {answers}", status == 1 and is_told and not (room / "pack").exists(), f"{status} {err}")
     for words in (["--ask=/nowhere/a", "--answers=/nowhere/b"], ["--ask=/dev/null", "--answers=/nowhere/b"]):
         status, out, err, room = fetch_pack(t, f'git upload-pack "{server}"', *words, specs=specs)

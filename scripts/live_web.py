@@ -68,28 +68,29 @@ def words_alike(t, name, urls, more=None, given=()):
     t.check(name, is_same, f"{first} {second}")
 
 
-def web_accounts(name, t, web):
-    server = server_of(t, 9)
-    with web_of(t, web, server.parent, ACCOUNT="joe:secret") as front:
+def web_accounts(name, t, web, version="2", **wish):
+    server, more, chosen = server_of(t, 9), {"GIXP_VERSION": version}, ("-c", f"protocol.version={version}")
+    t.git("update-server-info", at=server)
+    with web_of(t, web, server.parent, ACCOUNT="joe:secret", **wish) as front:
         url, host = f"{front}/{server.name}", front.removeprefix("http://")
-        words_alike(t, f"{name}: none", urls_of(url))
+        words_alike(t, f"{name}: none", urls_of(url), more, chosen)
         taken = "-c", "transfer.credentialsInUrl=allow"
-        words_alike(t, f"{name}: a wrong one in the URL", urls_of(f"http://joe:wrong@{host}/{server.name}"), given=taken)
+        words_alike(t, f"{name}: a wrong one in the URL", urls_of(f"http://joe:wrong@{host}/{server.name}"), more, (*chosen, *taken))
         in_url = urls_of(f"http://joe:secret@{host}/{server.name}")
-        same(t, f"{name}: in the URL", *clone_both(t, server, *taken, urls=in_url))
-        refused = t.run("git", "clone", "-q", in_url[1], t.folder("to"))
+        same(t, f"{name}: in the URL", *clone_both(t, server, *taken, version=version, urls=in_url))
+        refused = t.run("git", "clone", "-q", in_url[1], t.folder("to"), more=more)
         t.check(f"{name}: in the URL, which nothing allows", refused[0] and "secret" not in refused[2], f"{refused}")
         asked = t.folder("asked")
         asked.write_text("#!/bin/sh\ncase $1 in User*) echo joe ;; *) echo secret ;; esac\n")
         asked.chmod(0o755)
-        same(t, f"{name}: asked", *clone_both(t, server, urls=urls_of(url), more={"GIT_ASKPASS": str(asked)}))
+        same(t, f"{name}: asked", *clone_both(t, server, version=version, urls=urls_of(url), more={"GIT_ASKPASS": str(asked)}))
         for password in ("secret", "wrong"):
             left = []
             for one in urls_of(url):
                 kept = t.folder("kept")
                 kept.write_text(f"http://joe:{password}@{host.replace(':', '%3a')}\n")
-                status = t.run("git", "-c", f"credential.helper=store --file={kept}", "clone", "-q", one, t.folder("to"))[0]
-                left.append((status == 0, kept.read_text()))
+                words = *chosen, "-c", f"credential.helper=store --file={kept}", "clone", "-q", one, t.folder("to")
+                left.append((t.run("git", *words, more=more)[0] == 0, kept.read_text()))
             t.check(f"{name}: a stored one, {password}", left[0] == left[1] and left[0][0] == (password == "secret"), left)
 
 
@@ -118,9 +119,6 @@ def web_troubles(name, t, web):
         t.check(f"{name}: a page, listed", status == 0 and not out + err and leaves_nothing(t), f"{status} {out} {err}")
     with web_of(t, web, server.parent, SAYS="200 <html>\n<body>\n") as front:
         words_alike(t, f"{name}: a page of lines", urls_of(f"{front}/{server.name}"))
-    with web_of(t, web, server.parent, PLAIN=1) as front:
-        status, out, err = t.run("git", "ls-remote", f"gixp::{front}/{server.name}")
-        t.check(f"{name}: version 0", status == 128 and "version 2" in err and leaves_nothing(t), f"{status} {err}")
 
 
 def web_cuts(name, t, web):

@@ -34,18 +34,14 @@ SAME_TYPE = {
     "Action": "gix-credentials and gix-protocol (`fetch::negotiate`) have one each",
     "Context": "gix-protocol has two: `fetch::Context` and `fetch::refmap::init::Context`",
     "Mapping": "gix-refspec (`match_group`) and gix-protocol (`fetch::refmap`) have one each",
-    "Options": "gix-protocol (`fetch`) and gix (`refs::update`) have one each; gixp_fetch_cli exports none",
+    "Options": "gix-protocol (`fetch`) and gix (`refs::update`) have one each",
     "Outcome": "gix-credentials, gix-refspec (`match_group`) and gix-protocol (`fetch`) have one each",
-    "PackError": "a session's is `client::PackError`; gix_protocol has no path to the other",
     "Place": "gix_protocol has no path to either",
-    "Source": "gix-protocol (`fetch::refmap`) has one; gixp_fetch_cli exports none",
     "State": "gix-protocol (`fetch::negotiate::one_round`) has one; a session's is `client::State`",
 }
 # files that may share a name in one crate
 SAME_FILE = {
     ("gix_protocol", "client"): "the paths `client` and `transport::client` are the Rust crate's",
-    ("gixp_planner", "session"): "one reads the words of a recorded session, the other its answers",
-    ("gixp_records", "line"): "one reads a line of an advertisement, the other a line of `ls-refs`",
 }
 
 

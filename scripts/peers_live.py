@@ -4,8 +4,8 @@
 Usage: peers_live.py [--remote PATH] [--program PATH] [--only WORD] [--jobs N]
 
 The PATHs name the programs gixp_remote and gixp_fetch_pack. Without them the programs are those that `rt run` left in their crates' out/
-folders. The servers are git's own, dulwich's, JGit's and go-git's, over a pipe in place of ssh, and over git:// if they can. A server
-that isn't installed is left out (Debian: python3-dulwich, jgit-cli with java, golang-github-go-git-go-git-dev with
+folders. The servers are git's own, dulwich's, JGit's and go-git's, over a pipe in place of ssh, and over git:// if they can. Over HTTP of
+version 0 they are git's own, by each web server of live_httpd.py, and dulwich's. A server that isn't installed is left out (Debian: python3-dulwich, jgit-cli with java, golang-github-go-git-go-git-dev with
 golang-github-jessevdk-go-flags-dev and golang-go). git does each action on the same server. An entry of the table is
 
     yes       both succeeded and left the same refs, boundary and objects; for gixp_fetch_pack: a pack was received
@@ -29,6 +29,7 @@ import tempfile
 
 import live_harness
 from live_harness import CRATE, REAL_SPEC, REMOTE, Tester, by_both, clone_both, grow, is_clean, make, state
+from live_httpd import web_of, web_servers
 from live_program import fetch_pack
 from live_servers import ended_after, free_port, has_loopback, shell_ssh, wait_for_port
 
@@ -46,6 +47,17 @@ class Folders(Backend):
     def open_repository(self, path):
         return Repo(path.decode())
 TCPGitServer(Folders(), "127.0.0.1", int(sys.argv[1])).serve_forever()
+"""
+DULWICH_WEB = """
+import sys
+from wsgiref.simple_server import make_server
+from dulwich.repo import Repo
+from dulwich.server import Backend
+from dulwich.web import make_wsgi_chain
+class Folders(Backend):
+    def open_repository(self, path):
+        return Repo(path)
+make_server("127.0.0.1", int(sys.argv[1]), make_wsgi_chain(Folders())).serve_forever()
 """
 GO_PACKAGES = pathlib.Path("/usr/share/gocode")
 GO_GIT = "github.com/go-git/go-git/cli/go-git"
@@ -104,6 +116,32 @@ class Way:
             yield by_both(server), shell_ssh(t, text)
 
 
+class WebWay:
+    """A server over HTTP of version 0: git's own by a web server of this name, or dulwich's."""
+    pipe, listens = None, True
+
+    def __init__(self, web):
+        self.web, self.name = web, f"{web}, HTTP"
+
+    @contextlib.contextmanager
+    def urls(self, t, server):
+        """The URLs of a repository, for git and for us, and the variables of both."""
+        with contextlib.ExitStack() as begun:
+            if self.web == "dulwich":
+                port = free_port()
+                wait_for_port(port, begun.enter_context(ended_after(t.begin("/usr/bin/python3", "-c", DULWICH_WEB, port))))
+                url = f"http://127.0.0.1:{port}{server}"
+            else:
+                url = f"{begun.enter_context(web_of(t, self.web, server.parent, PLAIN=1))}/{server.name}"
+            yield (url, f"gixp::{url}"), {}
+
+
+def web_ways(only):
+    """All installed servers over HTTP."""
+    names = [*web_servers(), *(["dulwich"] if shutil.which("dul-upload-pack") else [])] if has_loopback() else []
+    return [WebWay(name) for name in names if f"{name}, HTTP" in only or not any(f"{other}, " in only for other in (*names, *PEERS))]
+
+
 def ways_of(room, only):
     """All installed servers with their transports, without those that no picked action uses."""
     for name, words in PEERS.items():
@@ -116,6 +154,7 @@ def ways_of(room, only):
                 yield Way(f"{name}, git://", pipe, listens)
         else:
             print(f"{name} is not installed", flush=True)
+    yield from web_ways(only)
 
 
 # Actions: each returns the results of git and of the helper, and whether both left the same

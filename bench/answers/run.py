@@ -3,7 +3,7 @@
 
 Usage: run.py [RUNS]
 
-RUNS says how often each is read; the smallest time is what counts.
+RUNS is how often each is read. The smallest time counts.
 """
 import subprocess
 import sys

@@ -1,8 +1,8 @@
 #!/usr/bin/env python3
-"""Records two sessions of git, and times fetches of them beside copies of the same files, in turn; see bench/build.py.
+"""Records two sessions of git, and times fetches of them and copies of the same files, in turn; see bench/build.py.
 
-It prints the best of five runs and the most memory, which GNU time measures: what Python's own wait4 tells of a child is at
-least what Python itself takes.
+It prints the best of five runs and the most memory. GNU time measures that: the memory that Python's own wait4 reports for a child
+is at least that of Python itself.
 """
 import os
 import subprocess

@@ -1,7 +1,7 @@
 #!/usr/bin/env python3
-"""Times the proved walk that marks complete commits beside the same in plain Rust; see bench/history/compare.py.
+"""Times the proved walk that marks complete commits, and the same in plain Rust; see bench/history/compare.py.
 
-Counted are the commits that are held, each of which is complete.
+The count is of the commits in the graph. Each is complete.
 """
 import sys
 from pathlib import Path

@@ -1,7 +1,7 @@
 #!/usr/bin/env python3
-"""Times the haves of a whole walk beside the same in plain Rust; see bench/history/compare.py.
+"""Times the haves of a whole walk, and the same in plain Rust; see bench/history/compare.py.
 
-Nothing is common, so that each commit is a have. Counted are the haves; the other count is how often a commit was looked up.
+Nothing is common, so each commit is a have. The first count is of the haves, the other of the look-ups of commits.
 """
 import sys
 from pathlib import Path

@@ -1,10 +1,10 @@
-"""Times a proved program beside the same in plain Rust, over one made-up history: what the benchmarks of the graph, of the
-decision and of the haves share.
+"""Times a proved program and the same in plain Rust, over one made-up history. The benchmarks of the graph, of the decision and of
+the haves use it.
 
 Each has a folder with `main.rt.in` of the program, over `history.rt.in`, and `baseline.rs`, over `history.rs`. A program
-takes a mode and the number of commits; with the mode `history` it makes its input alone, so that the memory of that can be
-taken off. Else it prints the microseconds of what is measured, and counts, in which both must agree. Needs `rustc`, GNU time,
-and what bench/build.py needs.
+takes a mode and the number of commits. With the mode `history` it only makes its input, so that the script can subtract the
+memory of that. Otherwise it prints the microseconds that it measured, and counts, which must be equal for both. The script needs
+`rustc`, GNU time, and what bench/build.py needs.
 """
 import os
 import subprocess
@@ -45,9 +45,9 @@ def least(first, second):
 
 
 def compare(folder, mode, sizes):
-    """Prints a line for each program and size: the best of five runs each, and of more of small sizes, in turn. The first count is
-    what it is shared by. Memory and processor time are those of a run without those of one that makes the history alone; where the
-    machine has other work, processor time tells more than wall time does."""
+    """Prints a line for each program and size: the best of five runs each, and of more of small sizes, in turn. The times
+    and the memory are divided by the first count. Memory and processor time are those of a run, less those of a run that only makes
+    the history. On a loaded machine processor time is better than wall time."""
     with both(folder, mode) as programs:
         print("commits  counted  program  ms       ns/each  bytes/each  times of plain  processor ms  times of plain  other counts")
         for commits in sizes:

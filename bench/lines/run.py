@@ -1,7 +1,7 @@
 #!/usr/bin/env python3
 """Times the lines of a stream that comes a byte at a time; see bench/build.py.
 
-It prints three lines for each size; the smallest time of each kind is what counts.
+It prints three lines for each size. The smallest time of each kind counts.
 """
 import subprocess
 import sys

@@ -1,8 +1,8 @@
 #!/usr/bin/env python3
-"""Times the proved decision, with its marks, beside the same in plain Rust; see bench/history/compare.py.
+"""Times the proved decision, with its marks, and the same in plain Rust; see bench/history/compare.py.
 
-There is a local ref and a mapping for each ten commits. Counted are the commits that are held; the other counts are the
-complete ones, the known mappings, and the commits that the negotiator was told of as common and as tips.
+There is a local ref and a mapping for each ten commits. The first count is of the commits in the graph. The others are of the
+complete commits, the known mappings, and the commits that the negotiator received as common and as tips.
 """
 import sys
 from pathlib import Path

@@ -3,7 +3,7 @@
 
 Usage: run.py [RUNS]
 
-The smallest time of each line is what counts.
+The smallest time of each line counts.
 """
 import subprocess
 import sys

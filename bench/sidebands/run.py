@@ -1,7 +1,7 @@
 #!/usr/bin/env python3
-"""Times a pack through its bands beside a copy of as many bytes; see bench/build.py.
+"""Times a pack through its bands, and a copy of as many bytes; see bench/build.py.
 
-It prints five lines; the smallest time of each kind is what counts.
+It prints five lines. The smallest time of each kind counts.
 """
 import subprocess
 import sys
