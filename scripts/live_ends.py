@@ -118,6 +118,14 @@ def left_by(t, client=None):
         time.sleep(0.05)
 
 
+def unlock(client, who):
+    """Removes a ref's lock, as git's message asks for, where git itself was killed. Git leaves the lock, over its own transports too, if a
+    signal comes while it creates the file."""
+    if who == "git":
+        for lock in (client / "refs").rglob("*.lock"):
+            lock.unlink()
+
+
 def first_found(t, begun, who):
     """The process of a fetch with this name, once it runs: git itself, or the oldest of that name. None if git ended."""
     while begun.poll() is None:
@@ -180,6 +188,7 @@ def killed(name, t, who, signals, over="path"):
             if took is None:
                 t.check(what, False, "no end")
                 continue
+            unlock(client, who)
             left = left_by(t, client)
             clean = t.run("git", "fsck", "--connectivity-only", at=client)[0] == 0
             status, out, err = t.run("git", "fetch", "-q", url, "main:refs/x/m", at=client, more=more)

@@ -4,7 +4,7 @@ import shutil
 import signal
 import time
 
-from live_ends import AT_ONCE, MOMENTS, kill_at, slowly
+from live_ends import AT_ONCE, MOMENTS, kill_at, slowly, unlock
 from live_harness import PROCESSES, clone_both, commits, files_left, grow, leaves_nothing, make, running, same, state
 from live_httpd import web_of
 from live_web import missing, server_of, urls_of, web_accounts
@@ -265,6 +265,7 @@ def relay_kills(name, t, web, way, who, sent):
             if took is None:
                 t.check(f"{name}, moment {number}", False, "no end")
                 continue
+            unlock(client, who)
             processes, left = left_after(t, client)
             clean = t.run("git", "fsck", "--connectivity-only", at=client)[0] == 0
             status, out, err = t.run(*words, at=client, more=version_of(way)[0])
