@@ -16,6 +16,7 @@ const encoder = new TextEncoder(), decoder = new TextDecoder();
 const id = (n) => n.toString(16).padStart(40, "0");
 const bytes = (...texts) => encoder.encode(texts.join(""));
 const packet = (text) => (encoder.encode(text).length + 4).toString(16).padStart(4, "0") + text;
+const MODULE = new URL("../build/gixp.wasm", import.meta.url);
 const ofFile = JSON.parse(readFileSync(process.argv[2]));
 const url = process.argv[3];
 
@@ -187,9 +188,8 @@ const tests = {
   },
 
   "memory goes back, and later calls use it": async () => {
-    const library = await Library.load(new URL("../build/gixp.wasm", import.meta.url));
+    const library = await Library.load(MODULE);
     const packets = bytes(packet("\x01PACK"), "0000");
-    let most = 0;
     for (let n = 0; n < 1000; n += 1) {
       // each response is longer than the last one, so that the last region doesn't do
       const answer = new Uint8Array((1 << 20) + 64 * n);
@@ -197,21 +197,26 @@ const tests = {
       const [start, record] = library.place({}, [answer, 32]);
       assert.equal(library.call("gixp_piece", start, answer.length, 0, record), 0);
       assert.equal(library.size(record + 24), 9);
-      most = Math.max(most, library.buffer.byteLength);
+      const size = library.buffer.byteLength;
+      assert.ok(size < 8 << 20, `${size >> 20} MiB after ${n + 1} responses`);
     }
-    assert.ok(most < 8 << 20, `${most >> 20} MiB`);
   },
 
-  "an allocation that fails between the refs of a response doesn't disturb them": () => {
-    const data = bytes(...Array.from({ length: 3000 }, (_, n) => packet(`${id(n)} refs/${n}\n`)), "0000");
-    let n = 0;
-    for (const one of refs(data)) {
-      const isBetween = n % 1000 === 0;
-      if (isBetween) assert.equal(refused(() => piece({ length: 2 ** 45 }, 0)).kind, "NO_MEMORY");
-      assert.equal(one.name, `refs/${n}`);
-      n += 1;
-    }
-    assert.equal(n, 3000);
+  "after an allocation that fails, the bytes of the last owner are placed again": async () => {
+    const library = await Library.load(MODULE);
+    const call = library.call.bind(library), owner = {};
+    let taken = 0;
+    library.call = (name, ...words) => {
+      taken += name === "gixp_take";
+      return call(name, ...words);
+    };
+    // the first error also places its text
+    assert.equal(refused(() => library.place({}, [2 ** 45])).kind, "NO_MEMORY");
+    library.place(owner, [listed]);
+    assert.equal(refused(() => library.place({}, [2 ** 45])).kind, "NO_MEMORY");
+    const before = taken, [again] = library.place(owner, [listed]);
+    assert.equal(taken, before + 1);
+    assert.deepEqual(library.copy(again, listed.length), listed);
   },
 
   "the types name what the module exports": () => {
