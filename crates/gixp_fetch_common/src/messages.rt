@@ -1,5 +1,5 @@
 //! Prints the server's messages on standard error, as git does.
-ghost use Rattle.std.specs.Prelude.{◌≡◌, ◌++◌, ◌∷◌, [], codes, IfSome};
+ghost use Rattle.std.specs.Prelude.{◌≡◌, ◌++◌, ◌∷◌, [], codes, length, IfOk, IfSome};
 
 use bstr::BStr;
 use gix_protocol::client::{Listener, RemoteLines};
@@ -28,19 +28,28 @@ fn without_blanks(line: &[u8]) -> Option<(&[u8], u8)>
     }
 }
 
-impl Write for StandardError<'_> {
-    fn write(&mut self, buf: &[u8]) -> io::Result<usize> {
-        match without_blanks(buf) {
-            Some((text, end)) if self.erases => {
-                let (text, end) = (BStr::new(text), char::from(end));
-                eprint!(self.rt; "{text}\u{1b}[K{end}")?;
+impl StandardError<'_> {
+    // Prints all of a text, and returns its length.
+    fn print(&self, text: &[u8]) -> io::Result<usize>
+        ensures { IfOk result (λ printed. printed ≡ length text.now) }
+    {
+        match without_blanks(text) {
+            Some((line, end)) if self.erases => {
+                let (line, end) = (BStr::new(line), char::from(end));
+                eprint!(self.rt; "{line}\u{1b}[K{end}")?;
             }
             _ => {
-                let text = BStr::new(buf);
+                let text = BStr::new(text);
                 eprint!(self.rt; "{text}")?;
             }
         }
-        Ok(buf.len())
+        Ok(text.len())
+    }
+}
+
+impl Write for StandardError<'_> {
+    fn write(&mut self, buf: &[u8]) -> io::Result<usize> {
+        self.print(buf)
     }
 
     fn flush(&mut self) -> io::Result<()> {
