@@ -1,0 +1,4 @@
+pub mod Advertisement
+pub mod Lacks
+pub mod Lines
+pub mod Request
