@@ -1,16 +1,8 @@
--- Packet lines with a payload at the front of a list of bytes (gitprotocol-common, "pkt-line Format").
-use Rattle.std.specs.Prelude.{ℕ, ⊤, ◌+◌, ◌≤◌, List, [], ◌∷◌, length, drop, Option, Some, None}
+-- The packet lines with a payload at the front of a list of bytes (gitprotocol-common, "pkt-line Format").
+use Rattle.std.specs.Prelude.{ℕ, ◌+◌, ◌≤◌, List, [], ◌∷◌, length, drop, All}
+use Rattle.std.specs.Borrow.{Bor}
 use Rattle.std.specs.Io.BufRead.{strip_last}
 use Rattle.gixp_packetline.specs.Frames.{Frame, payload, special, frames_of}
-
-abbrev pub first_payload : List Frame → Option (List ℕ)
-first_payload [] = None
-first_payload (payload line ∷ fs) = Some line
-first_payload (special kind ∷ fs) = None
-
--- the payload of the packet line at the front; none if it has no payload, or isn't whole
-abbrev pub line_of : List ℕ → Option (List ℕ)
-line_of bytes = first_payload (frames_of bytes).list
 
 -- the payloads before the first packet without one
 abbrev pub leading : List Frame → List (List ℕ)
@@ -31,9 +23,8 @@ abbrev pub after_lines : List ℕ → List ℕ
 after_lines bytes = drop (size_of_lines (lines_of bytes)) bytes
 
 -- each line fits into a packet line
-abbrev pub FitPackets : List (List ℕ) → Type 0
-FitPackets [] = ⊤
-FitPackets (line ∷ lines) = (length line ≤ 65516) × FitPackets lines
+abbrev pub FitPackets : List (Bor (List ℕ)) → Type 0
+FitPackets lines = All (λ line. length line.now ≤ 65516) lines
 
 -- the LF at the end of a line, if it has one
 abbrev pub line_end : List ℕ → List ℕ

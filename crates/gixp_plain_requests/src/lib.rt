@@ -7,10 +7,11 @@ mod advertisement;
 mod held;
 mod line;
 mod missing;
+mod named;
 mod reader;
 mod request;
 
 pub use held::HeldRequests;
 pub use missing::Missing;
-pub use reader::NamedCapabilities;
+pub use named::NamedCapabilities;
 pub use request::sent_request;

@@ -1,131 +1,155 @@
 //! A reader of an advertisement that names the capabilities that the server lacks.
-use crate::advertisement::with_names;
-use crate::line::{MOST_BYTES, split_line};
+ghost use Rattle.std.specs.Prelude.{◌≡◌, ◌+◌, ◌<◌, ◌≤◌, ◌⊎◌, length, take, slice_range, true, false, vec_len, IfOk, OnOk};
+ghost use Rattle.std.specs.Option.{option_map};
+ghost use Rattle.std.specs.Io.{ReadsAtMost};
+ghost use Rattle.std.specs.Io.KnownBytes.{Keeps, Consumes, ReadConsumes, IsAtEnd};
+ghost use Rattle.gixp_plain_requests.specs.Advertisement.{advertised, size_needed, to_come};
+ghost use Rattle.gixp_plain_requests.specs.Reads.{ReadsRoom};
+
+use crate::advertisement::{advertised, size_needed};
 use crate::missing::Missing;
-use hex;
-use std::alloc::Global;
+use crate::named::{NamedCapabilities, ROOM};
+use std::alloc::{AllocError, Global};
 use std::io;
 use std::io::Read;
 
-/// The output of a server, in which the first ref line of the reference advertisement also has the capabilities
-/// `multi_ack_detailed`, `side-band-64k` and `include-tag`, if the server lacks them.
-///
-/// The output of a server of version 2 is unchanged. The reader never reads beyond that line by itself.
-#[derive(Drop)]
-pub struct NamedCapabilities<R> {
-    pub(crate) alloc: Global,
-    pub(crate) reader: R,
-    // The first packet lines, with the names once they are whole.
-    pub(crate) held: Vec<u8>,
-    pub(crate) given: usize,
-    pub(crate) is_named: bool,
-    pub(crate) missing: Missing,
-}
-
-// The size of the packet line at the front of these bytes; 4 if they begin no packet line with a payload.
-fn line_size(bytes: &[u8]) -> usize {
-    let Some(digits) = bytes.get(..4) else {
-        return 4;
-    };
-    let mut pair = [0; 2];
-    match hex::decode_to_slice(digits, &mut pair) {
-        Ok(()) => {
-            let [high, low] = pair;
-            let size = usize::from(high) * 256 + usize::from(low);
-            if size > MOST_BYTES { 4 } else { size.max(4) }
-        }
-        Err(_) => 4,
-    }
-}
-
-// The size of the line `version 1` at the front of these bytes; 0 if there is none.
-fn version_size(bytes: &[u8]) -> usize {
-    match split_line(bytes) {
-        Some((line, _)) => {
-            if line == b"version 1\n".as_slice() || line == b"version 1".as_slice() {
-                line.len() + 4
-            } else {
-                0
-            }
-        }
-        None => 0,
-    }
+// Reads into the space between these offsets.
+fn read_into<R: Read>(
+    reader: &mut R,
+    room: &mut Vec<u8>,
+    end: usize,
+    limit: usize,
+) -> io::Result<usize>
+    requires order { end < limit }
+    requires there { limit ≤ vec_len room.old }
+    ensures len { vec_len room.new ≡ vec_len room.old }
+    ensures front { take end room.new.items ≡ take end room.old.items }
+    ensures bytes { ReadsRoom (R.remaining reader.old) (R.remaining reader.new) end limit room.new.items result }
+{
+    reader.read(&mut room[end..limit])
 }
 
 impl<R: Read + Drop> NamedCapabilities<R> {
-    /// Reads nothing yet. The reader must be at the start of a reference advertisement.
-    pub fn new(alloc: Global, reader: R) -> NamedCapabilities<R> {
-        NamedCapabilities {
+    /// Reads nothing yet. The reader must be at the start of an advertisement.
+    ///
+    /// # Errors
+    ///
+    /// Only an allocation failure.
+    pub fn new(alloc: Global, reader: R) -> Result<NamedCapabilities<R>, AllocError>
+        ensures bytes { IfOk result (λ n. to_come R.remaining n ≡ option_map advertised (R.remaining reader)) }
+        ensures unread { IfOk result (λ n. n.reader ≡ reader) }
+    {
+        Ok(NamedCapabilities {
             alloc,
             reader,
-            held: Vec::new(alloc),
-            given: 0,
+            room: vec![in alloc; 0; ROOM]?,
+            start: 0,
+            end: 0,
             is_named: false,
             missing: Missing::nothing(),
-        }
+        })
     }
 }
 
 impl<R: Read> NamedCapabilities<R> {
-    /// What the server lacks, once its first ref line was read; before that, nothing.
-    pub fn missing(&self) -> Missing {
+    /// What the server lacks, once its first ref line was read. Before that, nothing.
+    pub fn missing(&self) -> Missing
+        ensures { result ≡ self.now.missing }
+    {
         self.missing
     }
 
-    /// Whether the first ref line was passed on, and nothing after it was read.
+    /// Whether the first ref line was passed on, and nothing is held.
     pub fn is_after_names(&self) -> bool {
-        self.is_named && self.given >= self.held.len()
+        self.is_named && self.start == self.end
     }
 
-    // Reads until this many bytes are held, or to the end.
-    fn fill(&mut self, count: usize) -> io::Result<()> {
-        let left = count.saturating_sub(self.held.len());
-        (&mut self.reader)
-            .take(left as u64)
-            .read_to_end(&mut self.held)?;
+    // Reads more of the first lines. Returns false if they are whole, or at the end of the reader.
+    fn read_more(&mut self) -> io::Result<bool>
+        requires { self.old.is_named ≡ false }
+        ensures bytes { Keeps (to_come R.remaining self.old) (to_come R.remaining self.new) }
+        ensures more { IfOk result (λ is_more. is_more ≡ true → self.old.end < self.new.end) }
+        ensures whole { IfOk result (λ is_more. is_more ≡ false → (size_needed (take self.new.end self.new.room.items) ≤ self.new.end)
+            ⊎ IsAtEnd (R.remaining self.new.reader)) }
+        ensures unnamed { self.new.is_named ≡ false }
+    {
+        let count = size_needed(&self.room[..self.end]);
+        if self.end >= count {
+            return Ok(false);
+        }
+        let read = read_into(&mut self.reader, &mut self.room, self.end, count)?;
+        self.end += read;
+        Ok(read > 0)
+    }
+
+    // Reads the first lines.
+    fn fill(&mut self) -> io::Result<()>
+        requires { self.old.is_named ≡ false }
+        ensures bytes { Keeps (to_come R.remaining self.old) (to_come R.remaining self.new) }
+        ensures whole { OnOk result ((size_needed (take self.new.end self.new.room.items) ≤ self.new.end)
+            ⊎ IsAtEnd (R.remaining self.new.reader)) }
+        ensures unnamed { self.new.is_named ≡ false }
+    {
+        while self.read_more()? {}
         Ok(())
     }
 
-    // Reads the packet line after this many bytes.
-    fn fill_line(&mut self, start: usize) -> io::Result<()> {
-        self.fill(start + 4)?;
-        let size = line_size(self.held.get(start..).unwrap_or(&[]));
-        self.fill(start + size)
-    }
-
-    // Reads the first ref line, and adds the names to it.
-    fn add_names(&mut self) -> io::Result<()> {
-        self.fill_line(0)?;
-        let start = version_size(&self.held);
-        self.fill_line(start)?;
-        let (version, line) = self.held.split_at(start);
-        let (missing, named) = with_names(self.alloc, line)?;
-        let mut held = Vec::from_slice(self.alloc, version)?;
-        held.extend_from_slice(&named)?;
-        self.held = held;
+    // Reads the first lines, and adds the names.
+    fn add_names(&mut self) -> io::Result<()>
+        requires { self.old.is_named ≡ false }
+        ensures bytes { Keeps (to_come R.remaining self.old) (to_come R.remaining self.new) }
+        ensures named { OnOk result (self.new.is_named ≡ true) }
+    {
+        self.fill()?;
+        let (missing, named) = advertised(self.alloc, &self.room[..self.end])?;
+        self.end = named.len();
+        self.room = named;
         self.missing = missing;
         self.is_named = true;
         Ok(())
     }
 
     // Passes on held bytes.
-    fn give(&mut self, buf: &mut [u8]) -> usize {
-        let count = (self.held.len() - self.given).min(buf.len());
-        let end = self.given + count;
-        buf[..count].copy_from_slice(&self.held[self.given..end]);
-        self.given = end;
+    fn give(&mut self, buf: &mut [u8]) -> usize
+        requires held { self.old.start < self.old.end }
+        requires named { self.old.is_named ≡ true }
+        requires room { 0 < length buf.old }
+        ensures some { 0 < result }
+        ensures bound { result ≤ length buf.new }
+        ensures given { Consumes (to_come R.remaining self.old) (to_come R.remaining self.new) (take result buf.new) }
+    {
+        let count = (self.end - self.start).min(buf.len());
+        let end = self.start + count;
+        buf[..count].copy_from_slice(&self.room[self.start..end]);
+        self.start = end;
         count
+    }
+
+    // Passes on held bytes, or those of the reader.
+    fn pass_on(&mut self, buf: &mut [u8]) -> io::Result<usize>
+        requires named { self.old.is_named ≡ true }
+        requires room { 0 < length buf.old }
+        ensures bound { ReadsAtMost result buf.new }
+        ensures bytes { ReadConsumes (to_come R.remaining self.old) (to_come R.remaining self.new) result buf.new }
+    {
+        if self.start < self.end {
+            return Ok(self.give(buf));
+        }
+        self.reader.read(buf)
     }
 }
 
 impl<R: Read> Read for NamedCapabilities<R> {
+    ghost remaining = { to_come R.remaining };
+
     fn read(&mut self, buf: &mut [u8]) -> io::Result<usize> {
-        if !self.is_named {
-            self.add_names()?;
+        if buf.is_empty() {
+            return Ok(0);
         }
-        if self.given < self.held.len() {
-            return Ok(self.give(buf));
+        if self.is_named {
+            return self.pass_on(buf);
         }
-        self.reader.read(buf)
+        self.add_names()?;
+        self.pass_on(buf)
     }
 }

@@ -1,16 +1,18 @@
 //! The lines of a request, in git's order and without capabilities that the server lacks.
 ghost use Rattle.std.specs.Prelude.{◌≡◌, ◌≤◌, [], ◌∷◌, ◌++◌, length, map, OnOk, IfOk};
+ghost use Rattle.bstr.specs.BStr.{bstr_bytes};
 ghost use Rattle.gixp_utils.specs.Lines.{line_words};
 ghost use Rattle.gixp_plain_requests.specs.Lines.{lines_of, after_lines, FitPackets};
 ghost use Rattle.gixp_plain_requests.specs.Request.{kind_of, is_kind, of_kind, is_left_out, acknowledgement_words, sent_words, after_blanks, all_sent_words, sent_want, texts_of_lines, request_sent};
 
 use crate::line::{push_line, split_line};
 use crate::missing::Missing;
+use bstr::BStr;
 use gixp_utils::{line_words, without_line_end};
 use std::alloc::{AllocError, Global};
 
 // The lines before the first flush packet of a request (gitprotocol-pack, "Packfile Negotiation").
-#[derive(Clone, Copy, PartialEq, Eq)]
+#[derive(Clone, Copy)]
 enum LineKind {
     Want,
     Shallow,
@@ -29,6 +31,18 @@ fn kind_of(line: &[u8]) -> LineKind
         LineKind::Depth
     } else {
         LineKind::Other
+    }
+}
+
+fn is_kind(kind: LineKind, other: LineKind) -> bool
+    ensures { result ≡ is_kind kind other }
+{
+    match (kind, other) {
+        (LineKind::Want, LineKind::Want)
+        | (LineKind::Shallow, LineKind::Shallow)
+        | (LineKind::Depth, LineKind::Depth)
+        | (LineKind::Other, LineKind::Other) => true,
+        _ => false,
     }
 }
 
@@ -78,6 +92,15 @@ fn push_word(text: &mut Vec<u8>, missing: Missing, word: &[u8]) -> Result<(), Al
     }
 }
 
+fn push_each(text: &mut Vec<u8>, missing: Missing, words: &[BStr<'_>]) -> Result<(), AllocError>
+    ensures { OnOk result (text.new.items ≡ text.old.items ++ after_blanks (all_sent_words missing (map bstr_bytes words.now))) }
+{
+    for word in words {
+        push_word(text, missing, word.as_bytes())?;
+    }
+    Ok(())
+}
+
 // Appends what is requested in place of the words of a text.
 fn push_words(
     alloc: Global,
@@ -87,10 +110,7 @@ fn push_words(
 ) -> Result<(), AllocError>
     ensures { OnOk result (text.new.items ≡ text.old.items ++ after_blanks (all_sent_words missing (line_words words.now))) }
 {
-    for word in &line_words(alloc, words)? {
-        push_word(text, missing, word.as_bytes())?;
-    }
-    Ok(())
+    push_each(text, missing, &line_words(alloc, words)?)
 }
 
 // A `want` line without the capabilities that the server lacks.
@@ -106,32 +126,57 @@ fn sent_want(alloc: Global, missing: Missing, line: &[u8]) -> Result<Vec<u8>, Al
     Ok(text)
 }
 
+// Appends a line if it is a `want` line.
+fn push_want(
+    alloc: Global,
+    sent: &mut Vec<u8>,
+    missing: Missing,
+    line: &[u8],
+) -> Result<(), AllocError>
+    requires { length line.now ≤ 65516 }
+    ensures { OnOk result (sent.new.items ≡ sent.old.items
+        ++ texts_of_lines (map (sent_want missing) (of_kind LineKind.Want (line.now ∷ [])))) }
+{
+    if is_kind(LineKind::Want, kind_of(line)) {
+        let line = sent_want(alloc, missing, line)?;
+        return push_line(sent, &line);
+    }
+    Ok(())
+}
+
 fn push_wants(
     alloc: Global,
     sent: &mut Vec<u8>,
     missing: Missing,
     lines: &[&[u8]],
 ) -> Result<(), AllocError>
-    requires { FitPackets (map (λ l. l.now) lines.now) }
+    requires { FitPackets lines.now }
     ensures { OnOk result (sent.new.items ≡ sent.old.items
         ++ texts_of_lines (map (sent_want missing) (of_kind LineKind.Want (map (λ l. l.now) lines.now)))) }
 {
     for line in lines {
-        if kind_of(line) == LineKind::Want {
-            push_line(sent, &sent_want(alloc, missing, line)?)?;
-        }
+        push_want(alloc, sent, missing, line)?;
+    }
+    Ok(())
+}
+
+// Appends a line if it is of this kind.
+fn push_if(sent: &mut Vec<u8>, kind: LineKind, line: &[u8]) -> Result<(), AllocError>
+    requires { length line.now ≤ 65516 }
+    ensures { OnOk result (sent.new.items ≡ sent.old.items ++ texts_of_lines (of_kind kind (line.now ∷ []))) }
+{
+    if is_kind(kind, kind_of(line)) {
+        return push_line(sent, line);
     }
     Ok(())
 }
 
 fn push_lines(sent: &mut Vec<u8>, kind: LineKind, lines: &[&[u8]]) -> Result<(), AllocError>
-    requires { FitPackets (map (λ l. l.now) lines.now) }
+    requires { FitPackets lines.now }
     ensures { OnOk result (sent.new.items ≡ sent.old.items ++ texts_of_lines (of_kind kind (map (λ l. l.now) lines.now))) }
 {
     for line in lines {
-        if kind_of(line) == kind {
-            push_line(sent, line)?;
-        }
+        push_if(sent, kind, line)?;
     }
     Ok(())
 }
@@ -139,7 +184,7 @@ fn push_lines(sent: &mut Vec<u8>, kind: LineKind, lines: &[&[u8]]) -> Result<(),
 // The lines before the first packet without a payload, and the bytes from that packet on.
 fn first_lines(alloc: Global, request: &[u8]) -> Result<(Vec<&[u8]>, &[u8]), AllocError>
     ensures lines { IfOk result (λ r. map (λ l. l.now) r.0.items ≡ lines_of request.now) }
-    ensures fit { IfOk result (λ r. FitPackets (map (λ l. l.now) r.0.items)) }
+    ensures fit { IfOk result (λ r. FitPackets r.0.items) }
     ensures rest { IfOk result (λ r. r.1.now ≡ after_lines request.now) }
 {
     let mut lines = Vec::new(alloc);
@@ -161,11 +206,7 @@ fn first_lines(alloc: Global, request: &[u8]) -> Result<(Vec<&[u8]>, &[u8]), All
 /// # Errors
 ///
 /// Only an allocation failure.
-pub fn sent_request(
-    alloc: Global,
-    missing: Missing,
-    request: &[u8],
-) -> Result<Vec<u8>, AllocError>
+pub fn sent_request(alloc: Global, missing: Missing, request: &[u8]) -> Result<Vec<u8>, AllocError>
     ensures { IfOk result (λ sent. sent.items ≡ request_sent missing request.now) }
 {
     let (lines, rest) = first_lines(alloc, request)?;

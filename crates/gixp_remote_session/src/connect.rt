@@ -16,8 +16,8 @@ use crate::setup::{bytes_of, variable, version_number, version_word};
 use crate::shallow_observer::{ShallowObserver, ShallowUpdates, clear_updates};
 use crate::shell::{NOTHING, Shell, owned_argv};
 use crate::transport::{
-    HelperSession, HelperTransport, RequestWriter, ResponseReader, ServerOutput, Stream, StreamOutput,
-    WithoutUris,
+    HelperSession, HelperTransport, RequestWriter, ResponseReader, ServerOutput, Stream,
+    StreamOutput, WithoutUris,
 };
 use crate::uris::{UriRecorder, Uris, protocols_of};
 use crate::web::connect_stateless;

@@ -70,11 +70,7 @@ fn fetch_with_all<P: PackPlace>(
 ) -> Result<Fetched, Failure> {
     let alloc = context.rt.alloc();
     match commits {
-        Some(file) => {
-            offer_in_order(
-                alloc, session, repository, asked, "commits", file, pack,
-            )
-        }
+        Some(file) => { offer_in_order(alloc, session, repository, asked, "commits", file, pack) }
         None => negotiate(context.rt, session, repository, asked, pack),
     }
 }

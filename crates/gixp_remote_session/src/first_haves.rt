@@ -140,8 +140,6 @@ pub(crate) fn fetch_with_first<P: PackPlace>(
             let mut negotiator = FirstHaves::new(algorithm.negotiator(alloc));
             fetch(alloc, session, repository, &mut negotiator, asked, pack)
         }
-        (None, Haves::InOrder) => {
-            fetch(alloc, session, repository, &mut Noop, asked, pack)
-        }
+        (None, Haves::InOrder) => { fetch(alloc, session, repository, &mut Noop, asked, pack) }
     }
 }

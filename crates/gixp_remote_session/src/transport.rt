@@ -13,9 +13,8 @@ use gixp_response_end::Answers;
 use std::alloc::Global;
 use std::cell::{Cell, RefCell};
 use std::fs::File;
-use std::io;
 use std::io::{BufReader, BufWriter, ErrorKind, Read, Write};
-use std::mem;
+use std::{io, mem};
 
 /// The transport of the helper. It records the updates of the shallow boundary.
 pub(crate) type HelperTransport<'a> = Tap<
