@@ -10,7 +10,8 @@ does. Variables change it:
     PLAIN_WITHOUT   the capabilities that it doesn't offer, with blanks between them
     PLAIN_VERSION   the version that it speaks at most: 1, otherwise 0
     PLAIN_MOST      how many bytes it sends before it dies
-    PLAIN_REQUEST   a file that gets the lines of the first request
+    PLAIN_REQUEST   a file that gets the lines of each conversation's first request, and an empty line after them
+    PLAIN_SENT      a file that gets the number of bytes of the list and of all that it sends, for each conversation
 
 It is strict. It ends with an error if a request has a capability that it doesn't offer, or a `want` line after a line of the boundary or
 of a depth, as the servers of go-git 5.4 and dulwich 0.21 do.
@@ -49,7 +50,7 @@ class Server:
     def __init__(self, path, given, taken, version):
         self.given, self.taken = given, taken
         self.without = set(os.environ.get("PLAIN_WITHOUT", "").encode().split())
-        self.left = int(os.environ.get("PLAIN_MOST") or 1 << 60)
+        self.left, self.sent = int(os.environ.get("PLAIN_MOST") or 1 << 60), 0
         self.offered = set()
         environment = {name: value for name, value in os.environ.items() if not name.startswith("GIT_")}
         if version == "1":
@@ -60,13 +61,18 @@ class Server:
         """Sends bytes. Dies after the last of them that it may send."""
         self.taken.write(said[:self.left])
         self.taken.flush()
-        self.left -= len(said)
+        self.left, self.sent = self.left - len(said), self.sent + len(said)
         if self.left <= 0:
             self.end(1)
 
     def end(self, status):
         self.git.kill()
         os._exit(status)
+
+    def note(self, count):
+        if path := os.environ.get("PLAIN_SENT"):
+            with open(path, "a") as file:
+                file.write(f"{count}\n")
 
     def advertise(self):
         """Sends the reference advertisement without these capabilities."""
@@ -86,7 +92,7 @@ class Server:
         """Refuses a first request with these lines."""
         if path := os.environ.get("PLAIN_REQUEST"):
             with open(path, "ab") as file:
-                file.writelines(line.rstrip(b"\n") + b"\n" for line in lines)
+                file.writelines(line.rstrip(b"\n") + b"\n" for line in [*lines, b""])
         wants = [line.split() for line in lines if line.startswith(b"want ")]
         for word in (word for words in wants for word in words[2:]):
             if name_of(word) not in self.offered:
@@ -117,9 +123,11 @@ class Server:
 
     def serve(self):
         self.advertise()
+        self.note(self.sent)
         threading.Thread(target=self.pass_requests, daemon=True).start()
         while said := self.git.stdout.read1(1 << 16):
             self.tell(said)
+        self.note(self.sent)
         return self.git.wait()
 
 

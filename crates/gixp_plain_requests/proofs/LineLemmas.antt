@@ -1,6 +1,6 @@
 -- The packet line at the front of a list of bytes.
-use Rattle.std.proofs.Common.{◌≡◌, ℕ, ◌+◌, ◌≤◌, List, [], ◌∷◌, length, subst}
-use Rattle.gixp_packetline.specs.Frames.{Frame, payload, special, Frames, End, frames_of, with_frame}
+use Rattle.std.proofs.Common.{◌≡◌, ℕ, ◌≤◌, List, ◌∷◌, length, subst}
+use Rattle.gixp_packetline.specs.Frames.{Frame, payload, Frames, End, frames_of, with_frame}
 use Rattle.gixp_packetline.specs.Grammar.{AreFrames}
 
 fits_in : (bytes line : List ℕ) (fs : List Frame) (end : End) → AreFrames bytes (payload line ∷ fs) end → length line ≤ 65516

@@ -1,9 +1,9 @@
 -- The lines of a request as text, and their sizes.
-use Rattle.std.proofs.Common.{◌≡◌, ℕ, zero, suc, subst, ◌+◌, ◌-◌, ◌<◌, ◌≤◌, ◌==◌, nat_eq, Bool, true, false, if◌then◌else◌, List, [], ◌∷◌, ◌++◌, length, take, drop, map, refl, ap, sym, ◌∙◌, arith, append_assoc, append-nil, length-append, length-drop, drop-drop}
-use Rattle.std.specs.Prelude.{codes, flat_map}
+use Rattle.std.proofs.Common.{◌≡◌, ℕ, zero, suc, subst, ◌+◌, ◌-◌, ◌<◌, ◌≤◌, ◌==◌, nat_eq, Bool, true, false, if◌then◌else◌, List, [], ◌∷◌, ◌++◌, length, take, drop, map, refl, ap, sym, ◌∙◌, arith, append_assoc, length-append, length-drop, drop-drop}
+use Rattle.std.specs.Prelude.{codes}
 use Rattle.std.specs.Borrow.{Bor}
 use Rattle.std.proofs.lemmas.List.Elements.{All-append}
-use Rattle.std.specs.List.{onto_first, slice_split, starts_with}
+use Rattle.std.specs.List.{onto_first, starts_with}
 use Rattle.std.specs.Str.{bytes_eq}
 use Rattle.std.specs.Io.BufRead.{strip_last, ends_with_byte}
 use Rattle.std.proofs.lemmas.Grind.{flat_map-append}
@@ -16,7 +16,7 @@ use Rattle.gixp_packetline.specs.FrameText.{payload_text}
 use Rattle.gixp_plain_requests.specs.declared.missing.Missing.{Missing}
 use Rattle.gixp_plain_requests.specs.declared.request.LineKind.TheVariants.{Want, Shallow, Depth, Other}
 use Rattle.gixp_plain_requests.specs.Lines.{size_of_lines, lines_of, after_lines, FitPackets}
-use Rattle.gixp_plain_requests.specs.Request.{kind_of, of_kind, is_left_out, acknowledgement_words, sent_words, after_blanks, all_sent_words, sent_want, texts_of_lines, sent_lines, request_sent}
+use Rattle.gixp_plain_requests.specs.Request.{kind_of, of_kind, is_left_out, acknowledgement_words, sent_words, after_blanks, all_sent_words, sent_want, texts_of_lines, request_sent}
 
 onto_length : (x : ℕ) (parts : List (List ℕ)) → 0 < length parts → length (after_blanks (onto_first x parts)) ≡ length (after_blanks parts) + 1
 onto_length x [] h = absurd (omega arith)

@@ -1,5 +1,5 @@
 -- The capabilities that a server lacks (gitprotocol-capabilities).
-use Rattle.std.specs.Prelude.{Bool, true, false, not, ◌||◌, ◌&&◌, List, codes}
+use Rattle.std.specs.Prelude.{Bool, false, not, ◌||◌, ◌&&◌, List, codes}
 use Rattle.gixp_capabilities.specs.Capabilities.{CapabilityValue, has_named}
 use Rattle.gixp_plain_requests.specs.declared.missing.Missing.{Missing}
 

@@ -297,13 +297,13 @@ fn open_pipes(context: ServerContext<'_>) -> Result<(File, BufWriter<File>), Err
 }
 
 // The server's output as a stream of packet lines.
-fn stream_of(context: ServerContext<'_>, from: File) -> ServerOutput<'_> {
+fn stream_of(context: ServerContext<'_>, from: File) -> Result<ServerOutput<'_>, AllocError> {
     let alloc = context.rt.alloc();
-    ServerOutput::Stream(Stream {
+    Ok(ServerOutput::Stream(Stream {
         alloc,
-        output: StreamOutput::Named(NamedCapabilities::new(alloc, from)),
+        output: StreamOutput::Named(NamedCapabilities::new(alloc, from)?),
         missing: context.missing,
-    })
+    }))
 }
 
 fn open_transport<'a>(
@@ -384,7 +384,8 @@ pub(crate) fn connect<'a>(
 ) -> Result<Connected<'a>, Error> {
     let (from, mut to) = open_pipes(context)?;
     if !context.address.scheme.is_web() {
-        return Ok(Connected::Session(open_session(context, stream_of(context, from), to)?));
+        let output = stream_of(context, from)?;
+        return Ok(Connected::Session(open_session(context, output, to)?));
     }
     let mut from = BufReader::new(context.rt.alloc(), from)?;
     if carries_requests(context, &mut from, &mut to, options)? {

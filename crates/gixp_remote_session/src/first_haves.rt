@@ -37,7 +37,7 @@ impl<N> FirstHaves<N> {
 }
 
 impl<N: Negotiator> Negotiator for FirstHaves<N> {
-    ghost use Rattle.std.specs.Prelude.{◌≡◌, ◌+◌, ◌×◌, ◌⊎◌, None};
+    ghost use Rattle.std.specs.Prelude.{◌≡◌, ◌+◌, ◌⊎◌, None};
     ghost use Rattle.std.proofs.Common.{arith};
 
     ghost calls = { record {

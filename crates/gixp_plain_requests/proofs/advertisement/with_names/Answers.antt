@@ -1,4 +1,4 @@
-use Rattle.std.proofs.Common.{◌≡◌, ◌++◌, ◌∙◌, ap, sym, arith, length, drop}
+use Rattle.std.proofs.Common.{◌++◌, ◌∙◌, ap, sym, arith, drop}
 use Rattle.std.proofs.lemmas.List.{take_rest}
 use Rattle.gixp_plain_requests.proofs.AdvertisementLemmas.{lacks_is, names_are}
 use Rattle.gixp_plain_requests.proofs.advertisement.with_names.Goals as goal

@@ -1,5 +1,3 @@
-use Rattle.std.proofs.Common.{◌≡◌, ◌≤◌}
-use Rattle.gixp_packetline.specs.PacketLine.{SplitsPacketLine}
 use Rattle.gixp_plain_requests.proofs.LineLemmas.{line_fits}
 use Rattle.gixp_plain_requests.proofs.line.split_line.Goals as goal
 

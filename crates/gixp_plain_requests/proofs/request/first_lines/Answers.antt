@@ -1,7 +1,3 @@
-use Rattle.std.proofs.Common.{◌≡◌, ◌+◌, ◌≤◌, [], ◌∷◌, ◌++◌, ◌∙◌, length, map, ap, sym, drop, append_assoc, drop-drop, arith}
-use Rattle.std.proofs.lemmas.List.{map-append}
-use Rattle.std.proofs.lemmas.List.Elements.{All-append}
-use Rattle.gixp_plain_requests.specs.Lines.{lines_of}
 use Rattle.gixp_plain_requests.proofs.RequestLemmas.{lines_more, fit_more, rest_more}
 use Rattle.gixp_plain_requests.proofs.request.first_lines.Goals as goal
 

@@ -1,4 +1,4 @@
-use Rattle.std.proofs.Common.{◌≡◌, ℕ, List, ◌++◌, ◌∙◌, [], map, ap, sym}
+use Rattle.std.proofs.Common.{ℕ, List, ◌++◌, ◌∙◌, map, ap}
 use Rattle.std.specs.Borrow.{Bor}
 use Rattle.gixp_plain_requests.specs.declared.request.LineKind.{LineKind}
 use Rattle.gixp_plain_requests.specs.declared.request.LineKind.TheVariants.{Want, Shallow, Depth, Other}

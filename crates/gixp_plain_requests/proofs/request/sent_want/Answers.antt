@@ -1,6 +1,5 @@
-use Rattle.std.proofs.Common.{◌≡◌, ◌≤◌, ◌++◌, ◌∙◌, length, ap, arith, rules}
+use Rattle.std.proofs.Common.{◌≡◌, arith}
 use Rattle.std.proofs.lemmas.Grind.{common_steps}
-use Rattle.std.specs.Io.BufRead.{strip_last}
 use Rattle.gixp_plain_requests.specs.Request.{sent_want}
 use Rattle.gixp_plain_requests.proofs.RequestLemmas.{want_length, want_long}
 use Rattle.gixp_plain_requests.proofs.request.sent_want.Goals as goal

@@ -1,9 +1,6 @@
 use Rattle.std.specs.Prelude.{slice_range}
 use Rattle.std.proofs.lemmas.List.{take-append-le, take_all}
 use Rattle.std.proofs.Common.{◌≡◌, ◌+◌, ◌++◌, arith, length, take, drop, ap, sym, ◌∙◌}
-use Rattle.std.specs.Io.KnownBytes.{Consumes}
-use Rattle.std.specs.Option.{option_map}
-use Rattle.gixp_plain_requests.specs.Advertisement.{passed_on}
 use Rattle.gixp_plain_requests.proofs.AdvertisementLemmas.{gives_named, range_parts, range_length}
 use Rattle.gixp_plain_requests.proofs.named.NamedCapabilities.give.Goals as goal
 

@@ -1,4 +1,4 @@
-use Rattle.std.proofs.Common.{◌≡◌, arith}
+use Rattle.std.proofs.Common.{arith}
 use Rattle.gixp_plain_requests.proofs.AdvertisementLemmas.{reads_on, no_range}
 use Rattle.gixp_plain_requests.proofs.named.NamedCapabilities.pass_on.Goals as goal
 

@@ -1,4 +1,4 @@
-use Rattle.std.proofs.Common.{◌≡◌, ◌+◌, ◌∙◌, ap, sym, take, drop, arith}
+use Rattle.std.proofs.Common.{take, drop}
 use Rattle.std.specs.Prelude.{slice_range}
 use Rattle.gixp_plain_requests.proofs.AdvertisementLemmas.{more_read, after_held}
 use Rattle.gixp_plain_requests.proofs.named.NamedCapabilities.read_more.Goals as goal
