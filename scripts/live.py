@@ -31,6 +31,7 @@ from live_ends import try_ends
 from live_harness import CRATE, REMOTE, Tester
 from live_httpd import web_servers
 from live_loss import try_loss, try_web_loss
+from live_plain import try_plain
 from live_program import try_program
 from live_relay import try_relay
 from live_seen import try_seen
@@ -61,8 +62,8 @@ def main():
         room = (given.keep or pathlib.Path(temporary) / "room").resolve()
         t = Tester(room, program, remote, given.only, given.jobs, bool(given.keep))
         began = time.time()
-        for some in (try_ends, try_clones, try_fetches, try_haves, try_bodies, try_harm, try_ways, try_liars, try_program, try_seen,
-                     try_loss, try_caller):
+        for some in (try_ends, try_clones, try_fetches, try_haves, try_bodies, try_harm, try_ways, try_liars, try_plain, try_program,
+                     try_seen, try_loss, try_caller):
             some(t)
         if has_loopback():
             try_web(t)

@@ -15,7 +15,10 @@ use crate::server_config::{
 use crate::setup::{bytes_of, variable, version_number, version_word};
 use crate::shallow_observer::{ShallowObserver, ShallowUpdates, clear_updates};
 use crate::shell::{NOTHING, Shell, owned_argv};
-use crate::transport::{HelperSession, HelperTransport, ResponseReader, ServerOutput, WithoutUris};
+use crate::transport::{
+    HelperSession, HelperTransport, RequestWriter, ResponseReader, ServerOutput, Stream,
+    StreamOutput, WithoutUris,
+};
 use crate::uris::{UriRecorder, Uris, protocols_of};
 use crate::web::connect_stateless;
 use bstr::BString;
@@ -24,6 +27,7 @@ use gix_protocol::transport::{Connection, Discard, Opening, Protocol};
 use gixp_fetch_common::messages::MessagePrinter;
 use gixp_fetch_common::session::open;
 use gixp_packfile_uris::PackfileUris;
+use gixp_plain_requests::{HeldRequests, Missing, NamedCapabilities};
 use gixp_remote_rules::{
     Family, HelperOptions, Program, Settings, ShellRequest, ShellTask, SshCall, Start, UriSetting,
     Variant, probe_argv, proxy_for, server_argv, server_variables, upload_pack_argv, web_argv,
@@ -54,6 +58,8 @@ pub(crate) struct ServerContext<'a> {
     pub(crate) shallow_updates: &'a RefCell<ShallowUpdates>,
     /// Whether the server is ready to send the pack.
     pub(crate) readiness: &'a Cell<Readiness>,
+    /// The capabilities that the server lacks.
+    pub(crate) missing: &'a Cell<Missing>,
     /// The packs that the server named by URIs.
     pub(crate) uris: &'a RefCell<Uris>,
     /// The protocols of URIs that the user allows.
@@ -268,7 +274,7 @@ fn carries_requests(
 // taken out.
 fn response_reader<'a>(
     context: ServerContext<'a>,
-    output: ServerOutput,
+    output: ServerOutput<'a>,
 ) -> Result<ResponseReader<'a>, AllocError> {
     if protocols_of(context.uri_setting) == UriProtocols::Neither {
         return Ok(ResponseReader::Whole(output));
@@ -290,9 +296,19 @@ fn open_pipes(context: ServerContext<'_>) -> Result<(File, BufWriter<File>), Err
     Ok((from, BufWriter::new(context.rt.alloc(), to)?))
 }
 
+// The server's output as a stream of packet lines.
+fn stream_of(context: ServerContext<'_>, from: File) -> Result<ServerOutput<'_>, AllocError> {
+    let alloc = context.rt.alloc();
+    Ok(ServerOutput::Stream(Stream {
+        alloc,
+        output: StreamOutput::Named(NamedCapabilities::new(alloc, from)?),
+        missing: context.missing,
+    }))
+}
+
 fn open_transport<'a>(
     context: ServerContext<'a>,
-    output: ServerOutput,
+    output: ServerOutput<'a>,
     to: BufWriter<File>,
 ) -> Result<HelperTransport<'a>, Error> {
     let alloc = context.rt.alloc();
@@ -300,7 +316,10 @@ fn open_transport<'a>(
     let connection = Connection::new(
         alloc,
         response_reader(context, output)?,
-        to,
+        RequestWriter {
+            requests: HeldRequests::new(alloc, to),
+            missing: context.missing,
+        },
         url,
         context.version,
         Vec::new(alloc),
@@ -332,10 +351,11 @@ pub(crate) fn start_server(
 // Opens a session over the pipes of the server.
 fn open_session<'a>(
     context: ServerContext<'a>,
-    output: ServerOutput,
+    output: ServerOutput<'a>,
     to: BufWriter<File>,
 ) -> Result<HelperSession<'a>, Error> {
     context.has_failed.set(false);
+    context.missing.set(Missing::nothing());
     clear_updates(context.shallow_updates);
     let transport = open_transport(context, output, to)?;
     let printer = MessagePrinter::new(context.rt, context.erases, context.has_failed)?;
@@ -364,7 +384,8 @@ pub(crate) fn connect<'a>(
 ) -> Result<Connected<'a>, Error> {
     let (from, mut to) = open_pipes(context)?;
     if !context.address.scheme.is_web() {
-        return Ok(Connected::Session(open_session(context, ServerOutput::Stream(from), to)?));
+        let output = stream_of(context, from)?;
+        return Ok(Connected::Session(open_session(context, output, to)?));
     }
     let mut from = BufReader::new(context.rt.alloc(), from)?;
     if carries_requests(context, &mut from, &mut to, options)? {

@@ -11,6 +11,7 @@ use crate::connect::{ServerContext, drop_session, shake_hands, start_server};
 use crate::connectivity::check_connected;
 use crate::error::Error;
 use crate::fetch_result::FetchResult;
+use crate::first_haves::fetch_with_first;
 use crate::fsck::fsck_argv;
 use crate::history::shallow_of;
 use crate::job::{
@@ -31,6 +32,7 @@ use crate::unpacking::choose_limit;
 use crate::uris::{clear_uris, download_all, expect_lines};
 use bstr::BString;
 use gix_protocol::client;
+use gix_protocol::client::Fetched;
 use gix_protocol::fetch::Shallow;
 use gix_protocol::transport::{ObjectId, Protocol};
 use gixp_fetch_common::failure::{Failure, unless_failed};
@@ -57,6 +59,22 @@ struct FetchPlan<'a, 'b, 'c> {
     pack: &'c PackPlan,
 }
 
+// Fetches with all haves.
+fn fetch_with_all<P: PackPlace>(
+    context: ServerContext<'_>,
+    session: &mut HelperSession<'_>,
+    repository: &mut KnownRepository,
+    asked: MappedFetch<'_>,
+    commits: Option<File>,
+    pack: &mut PackReceiver<P>,
+) -> Result<Fetched, Failure> {
+    let alloc = context.rt.alloc();
+    match commits {
+        Some(file) => { offer_in_order(alloc, session, repository, asked, "commits", file, pack) }
+        None => negotiate(context.rt, session, repository, asked, pack),
+    }
+}
+
 // Fetches over a session. Returns the boundary as the server has it.
 fn run_fetch<P: PackPlace + Drop>(
     context: ServerContext<'_>,
@@ -68,13 +86,10 @@ fn run_fetch<P: PackPlace + Drop>(
 ) -> Result<Vec<ObjectId>, Failure> {
     let alloc = context.rt.alloc();
     let mut pack = PackReceiver::new(alloc, place);
-    let fetched = match commits {
-        Some(file) => {
-            offer_in_order(
-                alloc, session, repository, asked, "commits", file, &mut pack,
-            )
-        }
-        None => negotiate(context.rt, session, repository, asked, &mut pack),
+    let fetched = if context.missing.get().acknowledges_one() {
+        fetch_with_first(alloc, session, repository, asked, commits, &mut pack)
+    } else {
+        fetch_with_all(context, session, repository, asked, commits, &mut pack)
     };
     match unless_failed(fetched, context.has_failed.get()) {
         Ok(fetched) => keep_pack(alloc, &mut pack, &fetched.boundary),

@@ -18,6 +18,7 @@ use crate::shell::Shell;
 use crate::uris::Uris;
 use bstr::{BString, ByteSlice};
 use gixp_fetch_common::session::refs;
+use gixp_plain_requests::Missing;
 use gixp_remote_rules::{
     Conversation, Reaction, Settings, Within, batch_reply, pass_on, uri_setting,
 };
@@ -255,6 +256,8 @@ struct HelperState {
     shallow_updates: RefCell<ShallowUpdates>,
     // Whether the server is ready to send the pack.
     readiness: Cell<Readiness>,
+    // The capabilities that the server lacks.
+    missing: Cell<Missing>,
     // The packs that the server named by URIs.
     uris: RefCell<Uris>,
 }
@@ -280,6 +283,7 @@ fn serve<R: BufRead>(
             has_failed: &state.has_failed,
             shallow_updates: &state.shallow_updates,
             readiness: &state.readiness,
+            missing: &state.missing,
             uris: &state.uris,
             uri_setting: uri_setting(alloc, state.settings.value(b"fetch.uriprotocols"))?,
         },
@@ -329,6 +333,7 @@ pub(crate) fn converse(rt: &HostRuntime) -> Result<(), Error> {
         has_failed: Cell::new(false),
         shallow_updates: RefCell::new(ShallowUpdates::new(alloc)),
         readiness: Cell::new(Readiness::Unready),
+        missing: Cell::new(Missing::nothing()),
         uris: RefCell::new(Uris::new(alloc)),
     };
     serve(&state, shell, conversation, first, &mut lines)

@@ -7,6 +7,7 @@ mod connectivity;
 mod error;
 mod fetch_result;
 mod fetching;
+mod first_haves;
 mod fsck;
 mod helper;
 mod history;

@@ -15,6 +15,8 @@ mod packfile_uris;
 #[cfg(test)]
 mod pieces;
 #[cfg(test)]
+mod plain_requests;
+#[cfg(test)]
 mod plain_responses;
 #[cfg(test)]
 mod refspecs;
