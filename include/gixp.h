@@ -47,7 +47,12 @@ enum {
     GIXP_BAD_REFS = 50,       /* 50 to 59: the refs or their mappings have an error */
     GIXP_CONFLICT = 51,       /* two refs map to one local name */
     GIXP_UNTERMINATED_REFS = 53, /* a list of refs doesn't end with a flush packet: refs may be missing */
-    GIXP_BAD_FETCH = 60       /* 60 to 69: the fetch failed */
+    GIXP_BAD_FETCH = 60,      /* 60 to 79: the fetch failed */
+    GIXP_NO_FEATURE = 63,     /* the server lacks a feature that the limit of the history needs: the fetch isn't requested */
+    GIXP_NO_FILTERS = 70,     /* there is a filter, and the server offers none: nothing is requested */
+    GIXP_BAD_FILTER = 80,     /* 80 to 89: an argument of a session is invalid. 80: the filter isn't UTF-8 */
+    GIXP_BAD_NAME = 81,       /* an excluded ref has an invalid name */
+    GIXP_BAD_LIMIT = 82       /* there is no such limit of the history */
 };
 
 /* A text, by its offset in the bytes that the caller passed, and its length. */
@@ -128,8 +133,19 @@ uint32_t gixp_map(const uint8_t *answer, size_t answer_len, const gixp_ref *refs
 /* The ref prefixes of refspecs, one per line, each followed by an LF. */
 uint32_t gixp_prefixes(const uint8_t *specs, size_t specs_len, uint8_t *buffer, size_t buffer_len, size_t *len);
 
-/* The arguments of a session. The refspecs are one per line. Ids have 20 bytes each. `haves` are objects that exist locally. They are
- * offered in this order, and never requested. `boundary` is the local repository's shallow boundary. A depth of 0 leaves it unchanged. */
+/* Limits of the history. */
+enum {
+    GIXP_DEPTH = 0,           /* `depth` commits from each ref; a depth of 0 leaves the boundary unchanged */
+    GIXP_DEEPEN = 1,          /* `depth` commits more than there are now */
+    GIXP_SINCE = 2,           /* the commits since `since` */
+    GIXP_EXCLUDE = 3,         /* the commits that no ref in `excluded` reaches */
+    GIXP_SINCE_EXCLUDE = 4    /* the commits since `since` that no ref in `excluded` reaches */
+};
+
+/* The arguments of a session. The refspecs and the excluded refs are one per line. Ids have 20 bytes each. `haves` are objects that exist
+ * locally. They are offered in this order, and never requested. `boundary` is the local repository's shallow boundary. `filter` says
+ * which objects the server leaves out, as `git rev-list --filter`. If it is empty, there is none. `since` is a time in seconds since
+ * 1970-01-01 00:00:00 UTC. The limit says which of the last four fields count. */
 typedef struct gixp_session_input {
     const uint8_t *specs;
     size_t specs_len;
@@ -137,13 +153,19 @@ typedef struct gixp_session_input {
     size_t haves_len;
     const uint8_t *boundary;
     size_t boundary_len;
+    const uint8_t *filter;
+    size_t filter_len;
+    const uint8_t *excluded;
+    size_t excluded_len;
+    int64_t since;
     uint32_t depth;
+    uint32_t limit;
 } gixp_session_input;
 
 /* The caller's next action. */
 typedef struct gixp_step {
     uint32_t kind;            /* 0 nothing to request, 1 send the request, 2 take the pack */
-    size_t length;            /* the length of the request, or of the server's message */
+    size_t length;            /* the length of the request, of the boundary after the pack, or of the server's message */
     size_t place;             /* the offset of the pack in the responses */
 } gixp_step;
 
@@ -152,7 +174,11 @@ typedef struct gixp_step {
  * incomplete if it reaches to the pack. For a shorter one the result is GIXP_INCOMPLETE. But for the response to a fetch under version 0
  * or 1, which may end without a pack, it is GIXP_BAD_FETCH + 1.
  *
- * With GIXP_NO_ROOM, `length` is the size that the request needs. With GIXP_SERVER, it is the length of the server's message, and
+ * `request` receives the request. With a pack it receives the ids of the shallow boundary after it: store them in place of `boundary` if
+ * the session has a limit, or if the repository has no objects yet. A server whose own repository is shallow changes the boundary even
+ * without a limit. In a repository with objects such a boundary hides history: git rejects these refs, unless `--update-shallow` is set.
+ *
+ * With GIXP_NO_ROOM, `length` is the size that `request` needs. With GIXP_SERVER, it is the length of the server's message, and
  * `request` has the message if it is large enough. */
 uint32_t gixp_next(const uint8_t *answers, size_t answers_len, const size_t *ends, size_t ends_len, const gixp_session_input *input,
                    uint8_t *request, size_t request_len, gixp_step *step);

@@ -10,7 +10,7 @@ import sys
 
 TOP = pathlib.Path(__file__).resolve().parent.parent
 # The C type of a parameter or field of the exports.
-PLAIN = {"u8": "uint8_t", "u32": "uint32_t", "usize": "size_t", "Span": "gixp_span", "RefRecord": "gixp_ref",
+PLAIN = {"u8": "uint8_t", "u32": "uint32_t", "i64": "int64_t", "usize": "size_t", "Span": "gixp_span", "RefRecord": "gixp_ref",
          "FoundRecord": "gixp_found", "PieceRecord": "gixp_piece_record", "StepRecord": "gixp_step",
          "SessionInputRecord": "gixp_session_input",
          "MappingRecord": "gixp_mapping", "MappedRecord": "gixp_mapped"}

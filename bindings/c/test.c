@@ -256,7 +256,7 @@ static uint32_t next(const char *answers, const size_t *ends, size_t count, uint
 {
     size_t len = count ? ends[count - 1] : 0;
     uint8_t *bytes = copy(answers, len), *none = copy("", 0), *spec = copy(SPEC, strlen(SPEC));
-    gixp_session_input input = {spec, strlen(SPEC), none, 0, none, 0, 0};
+    gixp_session_input input = {spec, strlen(SPEC), none, 0, none, 0, none, 0, none, 0, 0, 0, GIXP_DEPTH};
     uint32_t code = gixp_next(bytes, len, ends, count, &input, request, room, step);
     free(spec);
     free(none);
@@ -289,10 +289,11 @@ static void session(void)
     static const size_t wrong[][2] = {{19, 0}, {21, 20}, {20, 1}, {0, 39}};
     for (size_t i = 0; i < sizeof wrong / sizeof *wrong; i++)
     {
-        gixp_session_input input = {spec, len, ids, wrong[i][0], ids, wrong[i][1], 0};
+        gixp_session_input input = {spec, len, ids, wrong[i][0], ids, wrong[i][1], ids, 0, ids, 0, 0, 0, GIXP_DEPTH};
         CHECK(gixp_next(bytes, ends[0], ends, 1, &input, room, 4096, &step) == GIXP_BAD_PLACE && step.length == 0);
     }
-    gixp_session_input some = {spec, len, ids, 40, ids, 20, 3}, none = {spec, len, empty, 0, empty, 0, 0};
+    gixp_session_input some = {spec, len, ids, 40, ids, 20, empty, 0, empty, 0, 0, 3, GIXP_DEPTH};
+    gixp_session_input none = {spec, len, empty, 0, empty, 0, empty, 0, empty, 0, 0, 0, GIXP_DEPTH};
     CHECK(gixp_next(bytes, ends[0], ends, 1, &some, empty, 0, &step) == GIXP_NO_ROOM && step.length == needed);
     CHECK(gixp_next(empty, 0, ends, 0, &none, room, 4096, &step) == GIXP_NO_ANSWER);
     free(empty);

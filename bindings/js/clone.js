@@ -1,6 +1,7 @@
 #!/usr/bin/env -S node --experimental-wasm-memory64 --no-warnings
-/** Clones a repository over HTTP or HTTPS: clone.js URL FOLDER. It needs git and the module. */
+/** Clones a repository over HTTP or HTTPS: clone.js URL FOLDER [DEPTH]. It needs git and the module. */
 import { spawn, spawnSync } from "node:child_process";
+import { writeFileSync } from "node:fs";
 import { once } from "node:events";
 import { Band, map, refs } from "./gixp.js";
 import { Progress, fetchPack } from "./http.js";
@@ -35,16 +36,28 @@ function updates(listed) {
   return mappings.map((one) => `create ${one.local} ${found[one.item].id}\n`).join("");
 }
 
-const [url, folder] = process.argv.slice(2);
+/**
+ * Writes the shallow boundary. The repository has no other objects, so also a shallow server's own
+ * boundary is right.
+ */
+function writeBoundary(folder, ids) {
+  if (ids.length) writeFileSync(folder + "/.git/shallow", ids.map((id) => id + "\n").join(""));
+}
+
+const [url, folder, depth = 0] = process.argv.slice(2);
 if (!folder) {
-  console.error("usage: clone.js URL FOLDER");
+  console.error("usage: clone.js URL FOLDER [DEPTH]");
   process.exit(2);
 }
 try {
-  let listed = null;
-  const onStep = (_, session) => (listed = session.answers[1] ?? null);
+  let listed = null, boundary = [];
+  const onStep = (step, session) => {
+    listed = session.answers[1] ?? null;
+    boundary = step.boundary ?? [];
+  };
   git(["init", "--quiet", folder]);
-  await receive(folder, fetchPack(url, SPECS, { onStep }));
+  await receive(folder, fetchPack(url, SPECS, { onStep, depth: Number(depth) }));
+  writeBoundary(folder, boundary);
   git(["-C", folder, "update-ref", "--stdin"], updates(listed));
 } catch (e) {
   console.error("clone.js: " + e.message);

@@ -19,7 +19,9 @@ function names(answer: Uint8Array): [string[], ErrorKind | null] {
 
 function sizeOf(step: Step): number {
   if (step instanceof Request) return step.data.length;
-  return step instanceof Pack ? step.place : 0;
+  if (!(step instanceof Pack)) return 0;
+  const ids: string[] = step.boundary, isUnasked: boolean = step.isUnasked;
+  return step.place + (isUnasked ? 0 : ids.length);
 }
 
 async function packSize(url: string, read: () => Promise<Uint8Array>): Promise<number> {
@@ -27,7 +29,8 @@ async function packSize(url: string, read: () => Promise<Uint8Array>): Promise<n
   session.answer(withoutService(await advertisement(url, { headers: { "User-Agent": "example" } })));
   const step: Step = await session.readStep(read), progress = new Progress();
   let size = step instanceof Nothing ? 0 : sizeOf(step);
-  for await (const one of fetchPack(url, ["refs/heads/*:refs/x/*"])) {
+  const options = { since: 1n, exclude: ["refs/tags/v1"], filter: "blob:none" };
+  for await (const one of fetchPack(url, ["refs/heads/*:refs/x/*"], options)) {
     if (one.band === Band.CONTENT) size += one.text.length;
     progress.add(one);
   }

@@ -4,7 +4,7 @@ export type Bytes = Uint8Array | ArrayBuffer;
 export type Text = string | Uint8Array;
 export type ErrorKind = "BAD_PLACE" | "NO_MEMORY" | "INCOMPLETE" | "MALFORMED" | "SERVER"
   | "UNEXPECTED" | "UNKNOWN_BAND" | "BAD_REF" | "ANSWERS" | "BAD_SPEC" | "HANDSHAKE" | "REFS"
-  | "FETCH" | "TRAP" | "OTHER";
+  | "FETCH" | "NO_FILTERS" | "BAD_LIMIT" | "TRAP" | "OTHER";
 
 /** The error of all calls. */
 export class GixpError extends Error {
@@ -78,8 +78,12 @@ export class Request {
 }
 
 export class Pack {
-  constructor(place: number);
+  constructor(place: number, boundary?: string[], isUnasked?: boolean);
   readonly place: number;
+  /** The ids of the shallow boundary after the server's shallow updates. */
+  readonly boundary: string[];
+  /** Whether the server changed it though the session has no limit of the history. */
+  readonly isUnasked: boolean;
 }
 
 export class Nothing {}
@@ -93,6 +97,14 @@ export interface SessionOptions {
   shallow?: Iterable<Text>;
   /** The number of commits to fetch from each ref. 0 leaves the boundary unchanged. */
   depth?: number | bigint;
+  /** The number of commits to fetch beyond the present boundary. */
+  deepen?: number | bigint;
+  /** Fetches the commits since this time, in seconds since 1970-01-01 00:00:00 UTC. */
+  since?: number | bigint;
+  /** Refs of the server whose commits are left out. */
+  exclude?: Iterable<Text>;
+  /** Which objects the server leaves out, for example `blob:none` (git-rev-list, `--filter`). */
+  filter?: Text;
 }
 
 export class Session {

@@ -13,7 +13,7 @@ import { Library } from "./library.js";
 export { GixpError } from "./library.js";
 
 const OK = 0, MORE = 1, NO_ROOM = 2, BAD_PLACE = 3, INCOMPLETE = 10, SERVER = 15, CONFLICT = 51;
-const RECORD = 80, RECORDS = 1024, MAPPING = 40;
+const BAD_LIMIT = 82, RECORD = 80, RECORDS = 1024, MAPPING = 40, INPUT = 96;
 const utf8 = new TextDecoder(), encoder = new TextEncoder();
 const library = await Library.load(new URL("../build/gixp.wasm", import.meta.url));
 
@@ -57,6 +57,28 @@ function idBytes(ids) {
     if (!/^[0-9a-fA-F]{40}$/.test(id)) throw library.error(BAD_PLACE);
     return Uint8Array.from(id.match(/../g), (digits) => parseInt(digits, 16));
   }));
+}
+
+/** The ids in bytes, 20 each, as hexadecimal digits. */
+function hexIds(bytes) {
+  return Array.from({ length: bytes.length / 20 }, (_, n) => hexAt(bytes, 20 * n));
+}
+
+const isInteger = (number, from, to) =>
+  number >= from && number < to && (typeof number === "bigint" || Number.isInteger(number));
+
+/** The limit of a session's history, by its options. */
+function limitOf({ depth = 0, deepen, since }, isExcluding) {
+  const hasTime = since !== undefined, isRelative = deepen !== undefined;
+  const count = Number(Number(depth) !== 0) + Number(isRelative) + Number(hasTime || isExcluding);
+  const commits = isRelative ? deepen : depth, seconds = since ?? 0;
+  const isDepth = isInteger(commits, 0, 2 ** 32), isTime = isInteger(seconds, -(2 ** 63), 2 ** 63);
+  if (!isDepth || !isTime) throw library.error(BAD_PLACE);
+  if (count > 1) throw library.error(BAD_LIMIT);
+  let kind = Number(isRelative);
+  if (isExcluding) kind = hasTime ? 4 : 3;
+  else if (hasTime) kind = 2;
+  return { since: BigInt(seconds), depth: Number(commits), kind, isNone: count === 0 };
 }
 
 /**
@@ -287,10 +309,18 @@ export class Request {
   }
 }
 
-/** Take the pack from the last response, where it begins at this offset. */
+/**
+ * Take the pack from the last response, where it begins at this offset. `boundary` has the ids of
+ * the shallow boundary after the server's shallow updates: store it in place of the session's,
+ * unless `isUnasked`. Then the server changed it though the session has no limit of the history, as
+ * a server does whose own repository is shallow. In a repository that has objects such a boundary
+ * hides history: git rejects these refs, unless `--update-shallow` is set.
+ */
 export class Pack {
-  constructor(place) {
+  constructor(place, boundary = [], isUnasked = false) {
     this.place = place;
+    this.boundary = boundary;
+    this.isUnasked = isUnasked;
   }
 }
 
@@ -303,18 +333,21 @@ export class Nothing {}
  * or dropped at any time.
  */
 export class Session {
-  #specs;
-  #haves;
-  #shallow;
-  #depth;
+  #texts;
+  #limit;
 
-  constructor(specs, { haves = [], shallow = [], depth = 0 } = {}) {
-    const isDepth = depth >= 0 && depth < 2 ** 32 && Number.isInteger(Number(depth));
-    if (!isDepth) throw library.error(BAD_PLACE);
-    this.#specs = lines(specs);
-    this.#haves = idBytes(haves);
-    this.#shallow = idBytes(shallow);
-    this.#depth = Number(depth);
+  /**
+   * `haves` are ids of objects that exist locally, and `shallow` is the local repository's shallow
+   * boundary. A session has at most one limit of the history, as an option of `git fetch`: `depth`,
+   * `deepen`, or `since` (`--shallow-since`, in seconds since 1970-01-01 00:00:00 UTC) with
+   * `exclude` (`--shallow-exclude`). `filter` says which objects the server leaves out, for example
+   * `blob:none` (git-rev-list, `--filter`). Throws GixpError.
+   */
+  constructor(specs, { haves = [], shallow = [], filter = "", exclude = [], ...limits } = {}) {
+    const excluded = lines(exclude);
+    this.#limit = limitOf(limits, excluded.length > 0);
+    const ids = [idBytes(haves), idBytes(shallow)];
+    this.#texts = [lines(specs), ...ids, bytesOf(filter), excluded];
     /** The responses so far. */
     this.answers = [];
   }
@@ -330,12 +363,13 @@ export class Session {
   }
 
   /** The bytes of `SessionInputRecord`, with the addresses of the texts. */
-  #record(specs, haves, shallow) {
-    const view = new DataView(new ArrayBuffer(56));
-    const texts = [[specs, this.#specs], [haves, this.#haves], [shallow, this.#shallow]];
-    const numbers = texts.flatMap(([at, text]) => [at, text.length]);
+  #record(places) {
+    const view = new DataView(new ArrayBuffer(INPUT)), { since, depth, kind } = this.#limit;
+    const numbers = this.#texts.flatMap((text, n) => [places[n], text.length]);
     numbers.forEach((number, n) => view.setBigUint64(8 * n, BigInt(number), true));
-    view.setUint32(48, this.#depth, true);
+    view.setBigInt64(80, since, true);
+    view.setUint32(88, depth, true);
+    view.setUint32(92, kind, true);
     return new Uint8Array(view.buffer);
   }
 
@@ -344,10 +378,9 @@ export class Session {
     const ends = new BigUint64Array(this.answers.length);
     let end = 0;
     this.answers.forEach((answer, n) => (ends[n] = BigInt((end += answer.length))));
-    const texts = [this.#specs, this.#haves, this.#shallow];
-    const parts = [...texts, 56, new Uint8Array(ends.buffer), room, 24, end];
-    const [specs, haves, shallow, input, endsAt, request, step, start] = library.place({}, parts);
-    library.write(input, this.#record(specs, haves, shallow));
+    const parts = [...this.#texts, INPUT, new Uint8Array(ends.buffer), room, 24, end];
+    const places = library.place({}, parts), [input, endsAt, request, step, start] = places.slice(5);
+    library.write(input, this.#record(places));
     this.answers.forEach((answer, n) =>
       library.write(start + Number(ends[n]) - answer.length, answer));
     const code = library.call("gixp_next", start, end, endsAt, ends.length, input, request, room,
@@ -355,6 +388,13 @@ export class Session {
     const length = library.size(step + 8), data = library.copy(request, Math.min(length, room));
     const kind = library.number(step), place = library.size(step + 16);
     return { code, kind, length, place, end, data };
+  }
+
+  /** The pack at an offset, with the ids of the boundary after it. */
+  #pack(place, data) {
+    const boundary = hexIds(data), before = new Set(hexIds(this.#texts[2]));
+    const isSame = new Set(boundary).size === before.size && boundary.every((id) => before.has(id));
+    return new Pack(place, boundary, this.#limit.isNone && !isSame);
   }
 
   /**
@@ -366,13 +406,13 @@ export class Session {
     // There is room for a want of each ref in the responses and for a have of each id, so one call
     // is mostly enough.
     const size = this.answers.reduce((sum, answer) => sum + answer.length, 0);
-    let room = 4096 + size + 3 * this.#haves.length, found = this.#next(room);
+    let room = 4096 + size + 3 * this.#texts[1].length, found = this.#next(room);
     if (found.code === NO_ROOM) found = this.#next((room = found.length));
     const hasWords = found.code === SERVER && found.length <= room;
     if (found.code !== OK) throw library.error(found.code, hasWords ? found.data : undefined);
     if (found.kind === 1) return new Request(found.data);
     if (found.kind !== 2) return new Nothing();
-    return new Pack(found.place - (found.end - this.answers.at(-1).length));
+    return this.#pack(found.place - (found.end - this.answers.at(-1).length), found.data);
   }
 
   /**

@@ -35,9 +35,10 @@ export async function advertisement(url, options = {}) {
 
 /**
  * Fetches what the refspecs ask for. Yields the packet lines of the pack, and none if there is
- * nothing to fetch. `onStep` is called with each step and with the session. `haves`, `shallow` and
- * `depth` are as of a Session, `headers` and `signal` as of `fetch()`. Throws GixpError with the
- * server's words, or an Error with the status of HTTP.
+ * nothing to fetch. `onStep` is called with each step and with the session: the last step may be a
+ * Pack, with the boundary after it. `headers` and `signal` are as of `fetch()`, and the other
+ * options as of a Session. Throws GixpError with the server's words, or an Error with the status of
+ * HTTP.
  */
 export async function* fetchPack(url, specs, options = {}) {
   const session = new Session(specs, options);

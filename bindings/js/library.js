@@ -7,7 +7,7 @@ const MOST_KEPT = 256 << 20;
 const KINDS = [[3, 3, "BAD_PLACE"], [4, 4, "NO_MEMORY"], [10, 10, "INCOMPLETE"],
   [11, 14, "MALFORMED"], [15, 15, "SERVER"], [16, 16, "UNEXPECTED"], [17, 17, "UNKNOWN_BAND"],
   [20, 29, "BAD_REF"], [30, 31, "ANSWERS"], [32, 39, "BAD_SPEC"], [40, 49, "HANDSHAKE"],
-  [50, 59, "REFS"], [60, 79, "FETCH"], [TRAP, TRAP, "TRAP"], [0, Infinity, "OTHER"]];
+  [50, 59, "REFS"], [60, 69, "FETCH"], [70, 70, "NO_FILTERS"], [80, 89, "BAD_LIMIT"], [TRAP, TRAP, "TRAP"], [0, Infinity, "OTHER"]];
 const utf8 = new TextDecoder();
 const aligned = (size) => Math.max(16, Math.ceil(size / 16) * 16);
 

@@ -20,6 +20,16 @@ const MODULE = new URL("../build/gixp.wasm", import.meta.url);
 const ofFile = JSON.parse(readFileSync(process.argv[2]));
 const url = process.argv[3];
 
+/** The lines of a request, without flush and delimiter packets. */
+function payloads(data) {
+  const text = decoder.decode(data), found = [];
+  for (let at = 0, size; at < text.length; at += Math.max(size, 4)) {
+    size = parseInt(text.slice(at, at + 4), 16);
+    if (size > 4) found.push(text.slice(at + 4, at + size).trimEnd());
+  }
+  return found;
+}
+
 function refused(call) {
   try {
     call();
@@ -136,6 +146,38 @@ const tests = {
     for (const end of [pack.length, 13, 20]) assert.deepEqual(session([greeting, listed, pack.subarray(0, end)]).step(), new Pack(13));
     assert.ok(session([greeting, bytes("0000")]).step() instanceof Nothing);
     assert.ok(session([greeting, listed], { haves: [id(5)] }).step() instanceof Nothing);
+  },
+
+  "each limit of the history, and a filter": () => {
+    const filters = bytes(packet("version 2\n"), packet("ls-refs=unborn\n"), packet("fetch=shallow filter\n"), "0000");
+    const rows = [[{}], [{ depth: 3 }, "deepen 3"], [{ deepen: 2 }, "deepen 2", "deepen-relative"],
+      [{ since: 1700000000 }, "deepen-since 1700000000"], [{ since: -5n }, "deepen-since -5"],
+      [{ exclude: ["refs/tags/v1", "old"] }, "deepen-not refs/tags/v1", "deepen-not old"],
+      [{ since: 7, exclude: ["old"] }, "deepen-since 7", "deepen-not old"], [{ filter: "blob:none" }, "filter blob:none"]];
+    for (const [options, ...lines] of rows) {
+      const sent = payloads(session([filters, listed], options).step().data);
+      assert.deepEqual(sent.filter((line) => /^(deepen|filter)/.test(line)), lines);
+    }
+    assert.equal(codeOf([greeting], { filter: "blob:none" }), 70);
+    assert.equal(codeOf([greeting], { filter: new Uint8Array([255]) }), 80);
+    assert.equal(codeOf([greeting], { exclude: ["a..b"] }), 81);
+    const bare = bytes(packet("version 2\n"), packet("ls-refs\n"), packet("fetch\n"), "0000");
+    for (const options of [{ depth: 1 }, { deepen: 1 }, { since: 1 }, { exclude: ["a"] }]) assert.equal(codeOf([bare, listed], options), 63);
+    for (const options of [{ depth: 1, deepen: 1 }, { depth: 1, since: 0 }, { deepen: 0, exclude: ["a"] }])
+      assert.equal(refused(() => new Session([], options)).kind, "BAD_LIMIT");
+    for (const options of [{ deepen: -1 }, { deepen: 2 ** 32 }, { since: 2 ** 63 }, { since: 0.5 }])
+      assert.equal(refused(() => new Session([], options)).kind, "BAD_PLACE");
+  },
+
+  "the boundary after a pack": () => {
+    const fresh = id(1), old = "07".repeat(20), plain = bytes(packet("packfile\n"), packet("\x01PACK"), "0000");
+    const sections = [packet("shallow-info\n"), packet("shallow " + fresh), packet("unshallow " + old), "0001", packet("packfile\n")];
+    const answer = bytes(...sections, packet("\x01PACK"), "0000"), place = bytes(...sections).length;
+    for (const options of [{ depth: 1 }, { deepen: 1 }, { since: 1 }, { exclude: ["a"] }])
+      assert.deepEqual(session([greeting, listed, answer], { shallow: [old], ...options }).step(), new Pack(place, [fresh]));
+    assert.deepEqual(session([greeting, listed, answer], { shallow: [old] }).step(), new Pack(place, [fresh], true));
+    for (const shallow of [[], [old], [old, fresh], Array.from({ length: 3000 }, (_, n) => id(n))])
+      assert.deepEqual(session([greeting, listed, plain], { shallow }).step(), new Pack(13, shallow));
   },
 
   "refusals of a session": () => {

@@ -1,5 +1,6 @@
 #!/usr/bin/env python3
-"""Clones a repository over HTTP or HTTPS: clone.py URL FOLDER. It needs git and the library."""
+"""Clones a repository over HTTP or HTTPS: clone.py URL FOLDER [DEPTH]. It needs git and the library."""
+import pathlib
 import subprocess
 import sys
 import urllib.error
@@ -48,9 +49,15 @@ def write_refs(folder, refs):
     subprocess.run(["git", "-C", folder, "update-ref", "--stdin"], input=b"".join(lines), check=True)
 
 
-def main(url, folder):
+def write_boundary(folder, ids):
+    """Writes the shallow boundary. The repository has no other objects, so also a shallow server's own boundary is right."""
+    if ids:
+        pathlib.Path(folder, ".git/shallow").write_text("".join(id.hex() + "\n" for id in ids))
+
+
+def main(url, folder, depth="0"):
     subprocess.run(["git", "init", "-q", "--object-format=sha1", folder], check=True)
-    session = gixp.Session(SPECS)
+    session = gixp.Session(SPECS, depth=int(depth))
     session.answer(gixp.without_service(ask(url).read()))
     step, answer = session.step(), None
     while isinstance(step, gixp.Request):
@@ -58,13 +65,14 @@ def main(url, folder):
         step = session.read_step(answer.read)
     if isinstance(step, gixp.Pack):
         receive(folder, gixp.read_pieces(session.answers[-1], step.place, answer.read))
+        write_boundary(folder, step.boundary)
         write_refs(folder, gixp.refs(session.answers[1]))
 
 
 if __name__ == "__main__":
-    if len(sys.argv) != 3:
+    if len(sys.argv) not in (3, 4):
         sys.exit(__doc__)
     try:
-        main(sys.argv[1].rstrip("/"), sys.argv[2])
+        main(sys.argv[1].rstrip("/"), *sys.argv[2:])
     except (gixp.GixpError, urllib.error.URLError) as e:
         sys.exit("clone.py: %s" % e)

@@ -10,9 +10,9 @@ from __future__ import annotations
 import ctypes
 import enum
 import os
-from ctypes import POINTER, Structure, byref, c_char_p, c_size_t, c_uint8, c_uint32
+from ctypes import POINTER, Structure, byref, c_char_p, c_int64, c_size_t, c_uint8, c_uint32
 from dataclasses import dataclass
-from typing import Callable, Iterable, Iterator, List, Optional, Union
+from typing import Callable, Iterable, Iterator, List, Optional, Tuple, Union
 
 _BESIDE = os.path.join(os.path.dirname(os.path.abspath(__file__)), "..", "build")
 _lib = ctypes.CDLL(os.path.join(os.environ.get("GIXP_LIB", _BESIDE), "libgixp.so"))
@@ -38,7 +38,8 @@ class _Piece(Structure):
 
 class _SessionInput(Structure):
     _fields_ = [("specs", c_char_p), ("specs_len", c_size_t), ("haves", c_char_p), ("haves_len", c_size_t), ("boundary", c_char_p),
-                ("boundary_len", c_size_t), ("depth", c_uint32)]
+                ("boundary_len", c_size_t), ("filter", c_char_p), ("filter_len", c_size_t), ("excluded", c_char_p),
+                ("excluded_len", c_size_t), ("since", c_int64), ("depth", c_uint32), ("limit", c_uint32)]
 
 
 class _Step(Structure):
@@ -69,14 +70,14 @@ for _f in (_lib.gixp_refs, _lib.gixp_advertised, _lib.gixp_piece, _lib.gixp_erro
 class Kind(enum.Enum):
     """The kinds of errors."""
     BAD_PLACE, NO_MEMORY, INCOMPLETE, MALFORMED, SERVER, UNEXPECTED, UNKNOWN_BAND, BAD_REF, ANSWERS, BAD_SPEC, HANDSHAKE, REFS, \
-        FETCH, OTHER = range(14)
+        FETCH, NO_FILTERS, BAD_LIMIT, OTHER = range(16)
 
 
 _KINDS = [(range(3, 4), Kind.BAD_PLACE), (range(4, 5), Kind.NO_MEMORY), (range(10, 11), Kind.INCOMPLETE),
           (range(11, 15), Kind.MALFORMED), (range(15, 16), Kind.SERVER), (range(16, 17), Kind.UNEXPECTED),
           (range(17, 18), Kind.UNKNOWN_BAND), (range(20, 30), Kind.BAD_REF), (range(30, 32), Kind.ANSWERS),
           (range(32, 40), Kind.BAD_SPEC), (range(40, 50), Kind.HANDSHAKE), (range(50, 60), Kind.REFS),
-          (range(60, 80), Kind.FETCH)]
+          (range(60, 70), Kind.FETCH), (range(70, 71), Kind.NO_FILTERS), (range(80, 90), Kind.BAD_LIMIT)]
 
 
 def _text(code: int) -> str:
@@ -256,8 +257,13 @@ class Request:
 
 @dataclass(frozen=True)
 class Pack:
-    """Take the pack from the last response, where it begins at this offset."""
+    """Take the pack from the last response, where it begins at this offset. `boundary` has the ids of the shallow boundary after the
+    server's shallow updates: store it in place of the session's, unless `is_unasked`. Then the server changed it though the session has
+    no limit of the history, as a server does whose own repository is shallow. In a repository that has objects such a boundary hides
+    history: git rejects these refs, unless `--update-shallow` is set."""
     place: int
+    boundary: Tuple[bytes, ...] = ()
+    is_unasked: bool = False
 
 
 @dataclass(frozen=True)
@@ -269,11 +275,21 @@ class Session:
     """A fetch, as the responses so far. The first one is the server's advertisement for `git-upload-pack`. Each step is computed from
     all responses, so a session may be stored, copied or dropped at any time."""
 
-    def __init__(self, specs: Iterable[bytes], haves: Iterable[bytes] = (), shallow: Iterable[bytes] = (), depth: int = 0):
-        if not 0 <= depth < 2 ** 32:
+    def __init__(self, specs: Iterable[bytes], haves: Iterable[bytes] = (), shallow: Iterable[bytes] = (), depth: int = 0, *,
+                 deepen: Optional[int] = None, since: Optional[int] = None, exclude: Iterable[bytes] = (), filter: bytes = b""):
+        """`haves` are ids of objects that exist locally, and `shallow` is the local repository's shallow boundary. A session has at most
+        one limit of the history, as an option of `git fetch`: `depth`, `deepen`, or `since` (`--shallow-since`, in seconds since
+        1970-01-01 00:00:00 UTC) with `exclude` (`--shallow-exclude`). `filter` says which objects the server leaves out, for example
+        `blob:none` (git-rev-list, `--filter`)."""
+        excluded = b"\n".join(exclude)
+        if sum([depth != 0, deepen is not None, since is not None or bool(excluded)]) > 1:
+            raise GixpError(82)
+        self.limit = 1 if deepen is not None else (2 if since is not None else 0) if not excluded else 3 if since is None else 4
+        self.depth, self.since = depth if deepen is None else deepen, since or 0
+        if not 0 <= self.depth < 2 ** 32 or not -2 ** 63 <= self.since < 2 ** 63:
             raise GixpError(3)
         self.specs, self.haves, self.shallow = b"\n".join(specs), b"".join(haves), b"".join(shallow)
-        self.depth = depth
+        self.excluded, self.filter = excluded, filter
         self.answers: List[bytes] = []
 
     def answer(self, data: bytes) -> None:
@@ -306,7 +322,8 @@ class Session:
             ends.append(end)
         # There is room for a want of each ref in the responses and for a have of each id, so one call is mostly enough.
         places, room, step = (c_size_t * max(len(ends), 1))(*ends), 4096 + len(data) + 3 * len(self.haves), _Step()
-        record = _SessionInput(self.specs, len(self.specs), self.haves, len(self.haves), self.shallow, len(self.shallow), self.depth)
+        texts = (self.specs, self.haves, self.shallow, self.filter, self.excluded)
+        record = _SessionInput(*(word for text in texts for word in (text, len(text))), self.since, self.depth, self.limit)
         while True:
             request = ctypes.create_string_buffer(room)
             code = _lib.gixp_next(data, len(data), places, len(ends), byref(record), request, room, byref(step))
@@ -318,7 +335,14 @@ class Session:
             raise GixpError(code, text if step.length <= room else b"")
         if step.kind == 1:
             return Request(text)
-        return Pack(step.place - (end - len(self.answers[-1]))) if step.kind == 2 else Nothing()
+        return self._pack(step.place - (end - len(self.answers[-1])), text) if step.kind == 2 else Nothing()
+
+    def _pack(self, place: int, ids: bytes) -> Pack:
+        def split(ids):
+            return tuple(ids[at:at + 20] for at in range(0, len(ids), 20))
+
+        is_limited = self.limit or self.depth
+        return Pack(place, split(ids), not is_limited and set(split(ids)) != set(split(self.shallow)))
 
 
 def without_service(answer: bytes) -> bytes:

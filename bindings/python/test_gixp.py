@@ -132,6 +132,17 @@ class Pieces(unittest.TestCase):
         self.assertIs(caught.exception.kind, gixp.Kind.UNKNOWN_BAND)
 
 
+def payloads(data):
+    """The lines of a request, without flush and delimiter packets."""
+    found, at = [], 0
+    while at < len(data):
+        size = int(data[at:at + 4], 16)
+        if size > 4:
+            found.append(data[at + 4:at + size].rstrip(b"\n"))
+        at += max(size, 4)
+    return found
+
+
 class Sessions(unittest.TestCase):
     greeting = packet(b"version 2\n") + packet(b"ls-refs=unborn\n") + packet(b"fetch=shallow\n") + b"0000"
     listed = packet(b"%040x refs/heads/main\n" % 5) + b"0000"
@@ -189,6 +200,70 @@ class Sessions(unittest.TestCase):
         with self.assertRaises(gixp.GixpError) as caught:
             self.session(self.greeting, packet(b"ERR go away\n")).step()
         self.assertEqual((caught.exception.code, caught.exception.words), (15, b"go away"))
+
+
+    def test_limits(self):
+        """The lines of each limit, as `git fetch` sends them (gitprotocol-pack, "Packfile Negotiation")."""
+        filters = packet(b"version 2\n") + packet(b"ls-refs=unborn\n") + packet(b"fetch=shallow filter\n") + b"0000"
+        rows = [(dict(depth=3), [b"deepen 3"]), (dict(deepen=2), [b"deepen 2", b"deepen-relative"]),
+                (dict(since=1700000000), [b"deepen-since 1700000000"]), (dict(since=-5), [b"deepen-since -5"]),
+                (dict(exclude=[b"refs/tags/v1", b"old"]), [b"deepen-not refs/tags/v1", b"deepen-not old"]),
+                (dict(since=7, exclude=[b"old"]), [b"deepen-since 7", b"deepen-not old"]),
+                (dict(filter=b"blob:none"), [b"filter blob:none"]), (dict(filter=b"tree:0", depth=1), [b"deepen 1", b"filter tree:0"]), ({}, [])]
+        for more, lines in rows:
+            data = self.session(filters, self.listed, **more).step().data
+            found = [line for line in payloads(data) if line.startswith((b"deepen", b"filter"))]
+            self.assertEqual(found, lines, more)
+
+    def test_no_limits(self):
+        """A server without a feature: nothing is requested of it that needs the feature."""
+        for more in (dict(filter=b"blob:none"), dict(filter=b"tree:0", depth=1)):
+            self.assertEqual(self.code(self.greeting, **more), 70)
+            self.assertEqual(self.code(self.advertised, **more), 70)
+        plain = self.greeting.replace(packet(b"fetch=shallow\n"), packet(b"fetch\n"))
+        for more in (dict(depth=1), dict(deepen=1), dict(since=1), dict(exclude=[b"a"]), dict(shallow=[b"\7" * 20])):
+            self.assertEqual(self.code(plain, self.listed, **more), 63, more)
+            self.assertEqual(self.code(self.advertised, **more), 63, more)
+        some = packet(b"%040x HEAD\0multi_ack_detailed side-band-64k shallow filter\n" % 5) + self.listed
+        for more in (dict(deepen=1), dict(since=1), dict(exclude=[b"a"])):
+            self.assertEqual(self.code(some, **more), 63, more)
+        want, line, *_ = payloads(self.session(some, filter=b"tree:0").step().data)
+        self.assertIn(b"filter", want.split())
+        self.assertEqual(line, b"filter tree:0")
+        for code, more in ((80, dict(filter=b"\xff")), (81, dict(exclude=[b"a..b"])), (81, dict(exclude=[b"a", b"", b"b"]))):
+            self.assertEqual(self.code(self.greeting, **more), code)
+        for more in (dict(depth=1, deepen=1), dict(depth=1, since=0), dict(deepen=0, exclude=[b"a"])):
+            with self.assertRaises(gixp.GixpError) as caught:
+                self.session(**more)
+            self.assertEqual((caught.exception.code, caught.exception.kind), (82, gixp.Kind.BAD_LIMIT))
+        for more in (dict(deepen=2 ** 32), dict(deepen=-1), dict(since=2 ** 63)):
+            with self.assertRaises(gixp.GixpError) as caught:
+                self.session(**more)
+            self.assertIs(caught.exception.kind, gixp.Kind.BAD_PLACE)
+
+    def test_boundary(self):
+        """The boundary after a pack, by the lines of gitprotocol-pack ("Packfile Negotiation") and gitprotocol-v2 ("fetch")."""
+        new, old = bytes(19) + b"\1", b"\7" * 20
+        lines = packet(b"shallow %s" % new.hex().encode()) + packet(b"unshallow %s" % old.hex().encode())
+        answer = packet(b"shallow-info\n") + lines + b"0001" + packet(b"packfile\n") + packet(b"\1PACK") + b"0000"
+        for more in (dict(depth=1), dict(deepen=1), dict(since=1), dict(exclude=[b"a"]), dict(since=1, exclude=[b"a"])):
+            step = self.session(self.greeting, self.listed, answer, shallow=[old], **more).step()
+            self.assertEqual(step, gixp.Pack(answer.index(b"0009\1"), (new,), False), more)
+        step = self.session(self.greeting, self.listed, answer, shallow=[old]).step()
+        self.assertEqual((step.boundary, step.is_unasked), ((new,), True))
+        plain = packet(b"packfile\n") + packet(b"\1PACK") + b"0000"
+        for shallow in ([], [old], [old, new]):
+            step = self.session(self.greeting, self.listed, plain, shallow=shallow, depth=1).step()
+            self.assertEqual((step.boundary, step.is_unasked), (tuple(shallow), False))
+        some = packet(b"%040x HEAD\0multi_ack_detailed side-band-64k shallow\n" % 5) + self.listed[:-4]
+        answer = lines + b"0000" + packet(b"NAK\n") + packet(b"\1PACK") + b"0000"
+        step = self.session(some + b"0000", answer, shallow=[old], depth=1).step()
+        self.assertEqual(step, gixp.Pack(answer.index(b"0009\1"), (new,), False))
+        step = self.session(some + packet(b"shallow %s" % new.hex().encode()) + b"0000", packet(b"NAK\n") + packet(b"\1PACK")).step()
+        self.assertEqual((step.boundary, step.is_unasked), ((new,), True))
+        many = [bytes(16) + n.to_bytes(4, "big") for n in range(1, 3000)]
+        step = self.session(self.greeting, self.listed, plain, shallow=many, depth=1).step()
+        self.assertEqual(step.boundary, tuple(many))
 
 
 class Maps(unittest.TestCase):
@@ -257,6 +332,74 @@ class Clones(unittest.TestCase):
         served = git("for-each-ref", "--format=%(objectname) %(refname)", folder=os.path.join(self.folder, "served.git"))
         cloned = git("for-each-ref", "--format=%(objectname) %(refname)", folder=to)
         self.assertEqual(sorted(cloned.replace(b"refs/remotes/origin/", b"refs/heads/").split(b"\n")), sorted(served.split(b"\n")))
+
+    def test_shallow_clone(self):
+        to, other = os.path.join(self.folder, "cloned"), os.path.join(self.folder, "by-git.git")
+        run = subprocess.run([sys.executable, str(HERE / "clone.py"), self.url, to, "3"], stderr=subprocess.PIPE)
+        self.assertEqual(run.returncode, 0, run.stderr)
+        git("fsck", "--strict", folder=to)
+        git("clone", "-q", "--bare", "--depth=3", "--no-single-branch", "file://" + os.path.join(self.folder, "served.git"), other)
+        by_git = pathlib.Path(other, "shallow").read_text().split()
+        self.assertEqual(sorted(pathlib.Path(to, ".git/shallow").read_text().split()), sorted(by_git))
+        # A clone of the shallow clone has its boundary.
+        git("clone", "-q", "--bare", other, os.path.join(self.folder, "shallow.git"))
+        again = os.path.join(self.folder, "again")
+        run = subprocess.run([sys.executable, str(HERE / "clone.py"), self.url.replace("served", "by-git"), again], stderr=subprocess.PIPE)
+        self.assertEqual(run.returncode, 0, run.stderr)
+        git("fsck", "--strict", folder=again)
+        self.assertEqual(sorted(pathlib.Path(again, ".git/shallow").read_text().split()), sorted(by_git))
+
+    def fetch(self, version, served, **more):
+        """A fetch of all branches from `git upload-pack`, and the pack's bytes."""
+        def upload_pack(words=(), data=b""):
+            env = dict(os.environ, GIT_PROTOCOL="version=%d" % version)
+            run = subprocess.run(["git", "-c", "uploadpack.allowFilter=true", "upload-pack", "--stateless-rpc", *words, served],
+                                 env=env, input=data, stdout=subprocess.PIPE, stderr=subprocess.PIPE)
+            return run.stdout
+
+        session = gixp.Session([b"refs/heads/main:refs/remotes/o/main"], **more)
+        session.answer(upload_pack(["--http-backend-info-refs"]))
+        step = session.step()
+        while isinstance(step, gixp.Request):
+            session.answer(upload_pack(data=step.data))
+            step = session.step()
+        pieces = gixp.pieces(session.answers[-1], step.place)
+        return step, b"".join(piece.text for piece in pieces if piece.band is gixp.Band.CONTENT)
+
+    def test_limits_and_filters(self):
+        """By each version of the protocol: the boundary and the objects that `git clone` or `git fetch` gets with the same options."""
+        served = os.path.join(self.folder, "served.git")
+        for n in range(10):
+            tree = git("rev-parse", "main^{tree}", folder=served).strip().decode()
+            env = dict(os.environ, GIT_COMMITTER_DATE="%d +0000" % (1700000000 + n), GIT_AUTHOR_DATE="1700000000 +0000")
+            commit = git("commit-tree", tree, *(["-p", "refs/heads/dated"] if n else []), "-m", str(n), folder=served, env=env).strip().decode()
+            git("update-ref", "refs/heads/dated", commit, folder=served)
+        git("update-ref", "refs/heads/main", "refs/heads/dated", folder=served)
+        git("update-ref", "refs/tags/cut", "refs/heads/dated~6", folder=served)
+        rows = [("--depth=2", dict(depth=2)), ("--shallow-since=1700000004", dict(since=1700000004)),
+                ("--shallow-exclude=cut", dict(exclude=[b"cut"])), ("--filter=blob:none", dict(filter=b"blob:none")),
+                ("--filter=tree:0", dict(filter=b"tree:0")), ("--filter=blob:limit=1k", dict(filter=b"blob:limit=1024"))]
+        git("config", "uploadpack.allowFilter", "true", folder=served)
+        for version in (0, 1, 2):
+            for option, more in rows:
+                by_git, here = (os.path.join(self.folder, "%s%d%s" % (name, version, option)) for name in ("git", "here"))
+                git("-c", "protocol.version=%d" % version, "clone", "-q", "--bare", "--single-branch", "-b", "main", "--no-tags", option,
+                    "file://" + served, by_git)
+                step, pack = self.fetch(version, served, **more)
+                git("init", "-q", "--bare", here)
+                git("index-pack", "--stdin", "--fix-thin", "--promisor", folder=here, input=pack)
+                shallow = pathlib.Path(by_git, "shallow")
+                boundary = sorted(shallow.read_text().split()) if shallow.exists() else []
+                self.assertEqual((sorted(id.hex() for id in step.boundary), step.is_unasked), (boundary, False), (version, option))
+                found = [sorted(git("cat-file", "--batch-all-objects", "--batch-check", folder=to).split(b"\n")) for to in (by_git, here)]
+                self.assertEqual(found[0], found[1], (version, option))
+                if "depth" not in more:
+                    continue
+                # `git fetch --deepen` from there: the same boundary.
+                git("-c", "protocol.version=%d" % version, "fetch", "-q", "--no-tags", "--deepen=3", "origin", "main", folder=by_git)
+                step, _ = self.fetch(version, served, shallow=step.boundary, haves=[bytes.fromhex(commit)], deepen=3)
+                boundary = sorted(shallow.read_text().split())
+                self.assertEqual((sorted(id.hex() for id in step.boundary), step.is_unasked), (boundary, False), version)
 
     def test_no_repository(self):
         run = subprocess.run([sys.executable, str(HERE / "clone.py"), self.url + "x", os.path.join(self.folder, "none")],

@@ -1,5 +1,5 @@
 //! Fetches a pack over the pipes of `git upload-pack`, and writes it to a file:
-//! `cargo run --example fetch -- PATH PACK REFSPEC.. [--have ID..] [--depth N]`.
+//! `cargo run --example fetch -- PATH PACK REFSPEC.. [--have ID..] [--depth N] [--filter SPEC]`. With a boundary it prints its ids.
 mod upload_pack;
 
 use gixp::{pieces, Id, Piece, Session, Step};
@@ -33,6 +33,7 @@ fn main() -> Result<(), Box<dyn std::error::Error>> {
         match pair[0].as_str() {
             "--have" => drop(session.have(Id::from_hex(pair[1].as_bytes()).ok_or("no id")?)),
             "--depth" => drop(session.depth(pair[1].parse()?)),
+            "--filter" => drop(session.filter(&pair[1])),
             _ => {}
         }
     }
@@ -40,9 +41,10 @@ fn main() -> Result<(), Box<dyn std::error::Error>> {
     for round in 1.. {
         match session.step()? {
             Step::Request(request) => drop(session.answer(&upload_pack(path, Some(&request))?)),
-            Step::Pack(place) => {
-                let count = write_pack(session.last(), place, to)?;
+            Step::Pack(pack) => {
+                let count = write_pack(session.last(), pack.place, to)?;
                 println!("{count} bytes after {} requests", round - 1);
+                pack.boundary.iter().for_each(|id| println!("shallow {id}"));
                 break;
             }
             Step::Nothing => {

@@ -32,6 +32,10 @@ pub enum Kind {
     Fetch,
     /// There are no responses, or more responses than requests.
     Answers,
+    /// The server lacks filters, which the session needs.
+    NoFilters,
+    /// The filter or the limit of the history is invalid.
+    BadLimit,
     /// An unknown number.
     Other,
 }
@@ -72,7 +76,9 @@ impl Error {
             32..=39 => Kind::BadSpec,
             40..=49 => Kind::Handshake,
             50..=59 => Kind::Refs,
-            60..=79 => Kind::Fetch,
+            60..=69 => Kind::Fetch,
+            70 => Kind::NoFilters,
+            80..=89 => Kind::BadLimit,
             _ => Kind::Other,
         }
     }

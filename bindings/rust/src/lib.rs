@@ -15,7 +15,7 @@ pub use error::{Error, Kind};
 pub use maps::{map, prefixes, Mapping, Mappings};
 pub use pieces::{pieces, Piece, Pieces};
 pub use refs::{advertised, refs, Ref, Refs};
-pub use session::{without_service, Session, Step};
+pub use session::{without_service, Pack, Session, Step};
 
 /// An object id, as its 20 bytes.
 #[derive(Clone, Copy, Debug, Default, PartialEq, Eq, Hash, PartialOrd, Ord)]

@@ -1,16 +1,29 @@
 //! A session, one request after another.
 use crate::sys::{self, StepRecord, SessionInput};
 use crate::{Error, Id};
+use std::collections::BTreeSet;
 
 /// The caller's next action.
 #[derive(Clone, Debug, PartialEq, Eq)]
 pub enum Step {
     /// Send these bytes. The server's reply is the next response.
     Request(Vec<u8>),
-    /// Take the pack from the last response, where it begins at this offset: see [`pieces`](crate::pieces()).
-    Pack(usize),
+    /// Take the pack from the last response.
+    Pack(Pack),
     /// Nothing: there is nothing to request.
     Nothing,
+}
+
+/// A pack in the last response, and the shallow boundary after it.
+#[derive(Clone, Debug, Default, PartialEq, Eq)]
+pub struct Pack {
+    /// The offset of the pack in the last response: see [`pieces`](crate::pieces()).
+    pub place: usize,
+    /// The shallow boundary after the server's shallow updates. Store it in place of the session's, unless `is_unasked` is true.
+    pub boundary: Vec<Id>,
+    /// Whether the server changed the boundary though the session has no limit of the history, as a server does whose own repository is
+    /// shallow. In a repository that has objects such a boundary hides history: git rejects these refs, unless `--update-shallow` is set.
+    pub is_unasked: bool,
 }
 
 /// A fetch, as the responses so far. The first one is the server's advertisement for `git-upload-pack`.
@@ -23,7 +36,11 @@ pub struct Session {
     specs: Vec<u8>,
     haves: Vec<u8>,
     boundary: Vec<u8>,
+    filter: Vec<u8>,
+    excluded: Vec<u8>,
+    since: Option<i64>,
     depth: u32,
+    is_relative: bool,
 }
 
 impl Session {
@@ -49,10 +66,60 @@ impl Session {
         self
     }
 
-    /// Requests this number of commits of each ref. 0, the default, leaves the boundary unchanged.
+    /// Requests this number of commits of each ref (`git fetch --depth`). 0, the default, leaves the boundary unchanged.
+    ///
+    /// A session has one limit of the history: `depth`, `deepen`, or `since` with `exclude`. If there are several, the last in this
+    /// order counts.
     pub fn depth(&mut self, depth: u32) -> &mut Session {
-        self.depth = depth;
+        (self.depth, self.is_relative) = (depth, false);
         self
+    }
+
+    /// Requests this number of commits more than there are now (`git fetch --deepen`).
+    pub fn deepen(&mut self, depth: u32) -> &mut Session {
+        (self.depth, self.is_relative) = (depth, true);
+        self
+    }
+
+    /// Requests the commits since this time, in seconds since 1970-01-01 00:00:00 UTC (`git fetch --shallow-since`).
+    pub fn since(&mut self, seconds: i64) -> &mut Session {
+        self.since = Some(seconds);
+        self
+    }
+
+    /// Leaves out the commits that this ref of the server reaches (`git fetch --shallow-exclude`).
+    pub fn exclude(&mut self, name: impl AsRef<[u8]>) -> &mut Session {
+        self.excluded.extend_from_slice(name.as_ref());
+        self.excluded.push(b'\n');
+        self
+    }
+
+    /// Lets the server leave out objects, for example by `blob:none` (git-rev-list, `--filter`). If it offers no filters, the error is
+    /// [`Kind::NoFilters`](crate::Kind::NoFilters), and nothing is requested.
+    pub fn filter(&mut self, filter: impl AsRef<[u8]>) -> &mut Session {
+        self.filter = filter.as_ref().to_vec();
+        self
+    }
+
+    // The number of the limit.
+    fn limit(&self) -> u32 {
+        match (self.since, self.excluded.is_empty()) {
+            (Some(_), true) => 2,
+            (None, false) => 3,
+            (Some(_), false) => 4,
+            (None, true) => u32::from(self.is_relative),
+        }
+    }
+
+    // The pack at this offset of all responses, with the ids of the boundary after it.
+    fn pack(&self, place: usize, ids: &[u8]) -> Pack {
+        let is_limited = self.limit() != 0 || self.depth != 0;
+        let is_changed = ids.chunks_exact(20).collect::<BTreeSet<_>>() != self.boundary.chunks_exact(20).collect();
+        Pack {
+            place: place - (self.answers.len() - self.last().len()),
+            boundary: ids.chunks_exact(20).map(|id| Id(id.try_into().unwrap_or_default())).collect(),
+            is_unasked: !is_limited && is_changed,
+        }
     }
 
     /// Adds the server's advertisement, or the response to the last request.
@@ -96,7 +163,13 @@ impl Session {
             haves_len: self.haves.len(),
             boundary: self.boundary.as_ptr(),
             boundary_len: self.boundary.len(),
+            filter: self.filter.as_ptr(),
+            filter_len: self.filter.len(),
+            excluded: self.excluded.as_ptr(),
+            excluded_len: self.excluded.len(),
+            since: self.since.unwrap_or(0),
             depth: self.depth,
+            limit: self.limit(),
         };
         loop {
             let mut step = StepRecord::default();
@@ -123,7 +196,7 @@ impl Session {
             request.truncate(step.length);
             return Ok(match step.kind {
                 1 => Step::Request(request),
-                2 => Step::Pack(step.place - (self.answers.len() - self.last().len())),
+                2 => Step::Pack(self.pack(step.place, &request)),
                 _ => Step::Nothing,
             });
         }

@@ -47,7 +47,13 @@ pub(crate) struct SessionInput {
     pub haves_len: usize,
     pub boundary: *const u8,
     pub boundary_len: usize,
+    pub filter: *const u8,
+    pub filter_len: usize,
+    pub excluded: *const u8,
+    pub excluded_len: usize,
+    pub since: i64,
     pub depth: u32,
+    pub limit: u32,
 }
 
 #[repr(C)]

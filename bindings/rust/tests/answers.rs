@@ -1,5 +1,5 @@
 //! Tests of responses, without a network.
-use gixp::{advertised, pieces, refs, Error, Id, Kind, Piece, Ref, Session, Step};
+use gixp::{advertised, pieces, refs, Error, Id, Kind, Pack, Piece, Ref, Session, Step};
 
 fn packet(text: &[u8]) -> Vec<u8> {
     [format!("{:04x}", text.len() + 4).as_bytes(), text].concat()
@@ -147,11 +147,79 @@ fn a_session() {
     session.answer(&packet(b"packfile\n")[..7]);
     assert_eq!(session.step().unwrap_err().kind(), Kind::Incomplete);
     session.more(&[&packet(b"packfile\n")[7..], b"0009\x01PACK"].concat());
-    assert_eq!(session.step(), Ok(Step::Pack(13)));
+    assert_eq!(session.step(), Ok(Step::Pack(Pack { place: 13, ..Pack::default() })));
     let found: Vec<_> = pieces(session.last(), 13).filter_map(Result::ok).collect();
     assert_eq!(found, [Piece::Content(b"PACK")]);
     session.answer(b"0000");
     assert_eq!(session.step().unwrap_err().code(), 31);
+}
+
+fn filters() -> Vec<u8> {
+    [packet(b"version 2\n"), packet(b"ls-refs=unborn\n"), packet(b"fetch=shallow filter\n"), b"0000".to_vec()].concat()
+}
+
+/// The request of a fetch with these options, and the error that a server without features causes.
+fn fetch_with(options: impl Fn(&mut Session)) -> (String, Error) {
+    let listed = [line(5, "refs/heads/main"), b"0000".to_vec()].concat();
+    let session = |greeting: &[u8]| {
+        let mut session = Session::new(["refs/heads/*:refs/remotes/o/*"]);
+        options(&mut session);
+        session.answer(greeting).answer(&listed).step()
+    };
+    let bare = [packet(b"version 2\n"), packet(b"ls-refs\n"), packet(b"fetch\n"), b"0000".to_vec()].concat();
+    let Step::Request(request) = session(&filters()).unwrap() else { panic!() };
+    (String::from_utf8(request).unwrap(), session(&bare).unwrap_err())
+}
+
+#[test]
+fn limits_and_filters() {
+    type Row = (fn(&mut Session), &'static [&'static str], u32);
+    let rows: [Row; 6] = [
+        (|s| drop(s.depth(3)), &["deepen 3"], 63),
+        (|s| drop(s.deepen(2)), &["deepen 2", "deepen-relative"], 63),
+        (|s| drop(s.since(-5)), &["deepen-since -5"], 63),
+        (|s| drop(s.exclude("refs/tags/v1").exclude("old")), &["deepen-not refs/tags/v1", "deepen-not old"], 63),
+        (|s| drop(s.since(7).exclude("old")), &["deepen-since 7", "deepen-not old"], 63),
+        (|s| drop(s.filter("blob:none")), &["filter blob:none"], 70),
+    ];
+    for (options, lines, code) in rows {
+        let (request, error) = fetch_with(options);
+        for line in lines {
+            let line = String::from_utf8(packet(format!("{line}\n").as_bytes())).unwrap();
+            assert!(request.contains(&line), "{line}: {request}");
+        }
+        assert_eq!(request.matches("deepen").count() + request.matches("filter").count(), lines.len(), "{request}");
+        assert_eq!(error.code(), code);
+    }
+    let refused = |options: fn(&mut Session)| {
+        let mut session = Session::new(["refs/heads/*"]);
+        options(&mut session);
+        session.answer(&filters()).step().unwrap_err()
+    };
+    assert_eq!(refused(|s| drop(s.filter(b"\xff"))).to_string(), "the filter isn't UTF-8");
+    assert_eq!(refused(|s| drop(s.exclude("a..b"))).kind(), Kind::BadLimit);
+}
+
+#[test]
+fn boundaries() {
+    let (new, old) = (id(1), id(7));
+    let sections = [packet(b"shallow-info\n"), packet(format!("shallow {new}").as_bytes()), packet(format!("unshallow {old}").as_bytes())];
+    let place = sections.concat().len() + 4 + 13;
+    let after = |answer: &[u8], options: fn(&mut Session)| {
+        let mut session = Session::new(["refs/heads/*:refs/remotes/o/*"]);
+        options(session.shallow(id(7)));
+        session.answer(&greeting()).answer(&[line(5, "refs/heads/main"), b"0000".to_vec()].concat()).answer(answer).step()
+    };
+    let plain = [packet(b"packfile\n"), b"0009\x01PACK".to_vec()].concat();
+    let changed = [sections.concat(), b"0001".to_vec(), plain.clone()].concat();
+    let limits: [fn(&mut Session); 4] =
+        [|s| drop(s.depth(1)), |s| drop(s.deepen(1)), |s| drop(s.since(1)), |s| drop(s.exclude("a"))];
+    for options in limits {
+        assert_eq!(after(&changed, options), Ok(Step::Pack(Pack { place, boundary: vec![new], is_unasked: false })));
+        assert_eq!(after(&plain, options), Ok(Step::Pack(Pack { place: 13, boundary: vec![old], is_unasked: false })));
+    }
+    assert_eq!(after(&changed, |_| ()), Ok(Step::Pack(Pack { place, boundary: vec![new], is_unasked: true })));
+    assert_eq!(after(&plain, |_| ()), Ok(Step::Pack(Pack { place: 13, boundary: vec![old], is_unasked: false })));
 }
 
 #[test]

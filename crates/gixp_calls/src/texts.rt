@@ -52,6 +52,10 @@ fn text_of(code: u32) -> &'static str {
         64 | 65 | 66 => "the shallow boundary can't be changed",
         67 => "the server's repository is shallow",
         68 | 69 => "the pack can't be read",
+        70 => "the server offers no filters",
+        80 => "the filter isn't UTF-8",
+        81 => "an excluded ref has an invalid name",
+        82 => "the limit of the history is unknown",
         _ => "unknown",
     }
 }

@@ -1,11 +1,13 @@
 -- The steps of a session without an account.
-use Rattle.std.proofs.Common.{◌≡◌, ◌∙◌, ◌↔◌, true, false, Bool, IsTrue, [], Option, Result, Ok, Err, ap, subst, sym}
+use Rattle.std.proofs.Common.{◌≡◌, ◌∙◌, ◌↔◌, true, false, Bool, IsTrue, List, [], Option, String, Result, Ok, Err, ap, subst, sym}
 use Rattle.std.specs.Prelude.{IfOk}
 use Rattle.std.specs.declared.alloc.AllocError.{AllocError}
-use Rattle.gixp_packetline.specs.declared.protocol.Protocol.{Protocol}
+use Rattle.std.specs.declared.alloc.Global.{Global}
+use Rattle.gixp_hash.specs.declared.object_id.ObjectId.{ObjectId}
 use Rattle.gixp_packetline.specs.Reading.{Reading}
 use Rattle.gixp_requests.specs.Command.{TableValue, git_table}
 use Rattle.gixp_requests.specs.Feature.{FeatureValue}
+use Rattle.gixp_shallow.specs.declared.store.memory.ShallowMemory.{ShallowMemory}
 use Rattle.gixp_refmap.specs.declared.fetch.Tags.TheVariants as tags
 use Rattle.gixp_refmap.specs.declared.refmap.init.Context.{Context}
 use Rattle.gixp_refmap.specs.declared.refmap.init.Error.{Error as MapError}
@@ -18,7 +20,9 @@ use Rattle.gixp_fetch.specs.FetchShallow.{ShallowValue}
 use Rattle.gixp_response.specs.Sections.{is_flush}
 use Rattle.gixp_fetch.specs.Fetch.{World, Parties}
 use Rattle.gixp_fetch.specs.Fetched.{Fetches, call_of}
+use Rattle.gixp_engine.specs.FilterLine.{AllowsFilter}
 use Rattle.gixp_engine.specs.declared.consumer.Left.{Left}
+use Rattle.gixp_engine.specs.declared.session.Received.{Received}
 use Rattle.gixp_engine.specs.declared.error.EngineError.{EngineError}
 use Rattle.gixp_handshake.specs.WithoutAccount.{GreetsWithoutAccount}
 use Rattle.gixp_engine.specs.Alone.{engine_agent, engine_call, end_of_fetch, CarriesCall, MapsAlone, EngineSession, map_of_whole, fetched}
@@ -35,15 +39,21 @@ carries-call parties first r last progress h shallow table agent e f it = record
       (subst (λ a. Fetches parties (call_of table h a [] tags.None shallow false) first r last progress) f it);
 }
 
-module _ (Receives : RefMap → Handshake → Reading → Reading → Result (Option Outcome) (FetchError AllocError Left) → Type 0) where
-  pub session-ran : (context : Context) (plain : Bool) (old mid following new : Reading) (h k : Handshake) (m : RefMap)
-      (r : Result (Option Outcome) (FetchError AllocError Left)) (ended : Result (Option Protocol) EngineError)
-      → GreetsWithoutAccount plain old mid (Ok h) → MapsAlone context h plain mid following (Ok m) → is_flush following.stopped ≡ true
-      → k ≡ without_refs h → (m.mappings.items ≡ [] → ⊥) → Receives m k following new r → ended ≡ end_of_fetch k.server_protocol_version r
-      → EngineSession Receives context plain old new ended
-  session-ran context plain old mid following new h k m r ended s l whole e some f q =
-      fetched h mid following m r s l whole some (subst (λ x. Receives m x following new r) e f)
-      (q ∙ ap (λ (x : Handshake). end_of_fetch x.server_protocol_version r) e)
+module _ (Receives : RefMap → Handshake → Reading → ShallowMemory → Reading → ShallowMemory
+    → Result (Option Outcome) (FetchError AllocError Left) → Type 0) where
+  pub session-ran : (context : Context) (filter : Option (String Global)) (ids : List ObjectId) (plain : Bool)
+      (old mid following new : Reading) (h k : Handshake) (m : RefMap)
+      (r : Result (Option Outcome) (FetchError AllocError Left)) (store store' : ShallowMemory)
+      (ended : Result (Option Received) EngineError)
+      → GreetsWithoutAccount plain old mid (Ok h) → AllowsFilter filter h (Ok tt) → MapsAlone context h plain mid following (Ok m)
+      → is_flush following.stopped ≡ true
+      → k ≡ without_refs h → (m.mappings.items ≡ [] → ⊥) → store.ids.items ≡ ids → store.locked ≡ false
+      → Receives m k following store new store' r → ended ≡ end_of_fetch k.server_protocol_version store' r
+      → EngineSession Receives context filter ids plain old new ended
+  session-ran context filter ids plain old mid following new h k m r store store' ended s allowed l whole e some held free f q =
+      fetched h mid following m r store store' s allowed l whole some (record { ids = held; unlocked = free })
+      (subst (λ x. Receives m x following store new store' r) e f)
+      (q ∙ ap (λ (x : Handshake). end_of_fetch x.server_protocol_version store' r) e)
 
 -- a ref map that was made
 pub maps-made : (context : Context) (h : Handshake) (plain : Bool) (old new : Reading) (r : Result RefMap MapError) (m : RefMap)

@@ -1,2 +1,3 @@
 pub mod AloneLemmas
 pub mod HandedLemmas
+pub mod LimitsLemmas

@@ -1,7 +1,8 @@
 -- A session without an account: a handshake, a ref map, and a fetch of the mapped refs that leaves the pack to the caller.
-use Rattle.std.specs.Prelude.{◌≡◌, ◌⊎◌, true, false, List, [], ◌∷◌, codes, Option, Some, None, Result, Ok, Err, IfOk, IsOk, Bool}
+use Rattle.std.specs.Prelude.{◌≡◌, ◌⊎◌, true, false, List, [], ◌∷◌, codes, Option, Some, None, String, Result, Ok, Err, IfOk, IsOk, Bool}
 use Rattle.std.specs.FinMap as finite
 use Rattle.std.specs.declared.alloc.AllocError.{AllocError}
+use Rattle.std.specs.declared.alloc.Global.{Global}
 use Rattle.gixp_hash.specs.declared.object_id.ObjectId.{ObjectId}
 use Rattle.gixp_packetline.specs.declared.protocol.Protocol.{Protocol}
 use Rattle.gixp_packetline.specs.Reading.{Reading}
@@ -30,6 +31,9 @@ use Rattle.gixp_fetch.specs.declared.options.Outcome.{Outcome}
 use Rattle.gixp_fetch.specs.FetchShallow.{ShallowValue}
 use Rattle.gixp_fetch.specs.Fetch.{World, Parties}
 use Rattle.gixp_fetch.specs.Fetched.{FetchCall, Fetches, call_of, unlocked_world}
+use Rattle.gixp_engine.specs.FilterLine.{AllowsFilter}
+use Rattle.gixp_engine.specs.declared.filter.FilterOnce.{FilterOnce}
+use Rattle.gixp_engine.specs.declared.session.Received.{Received}
 use Rattle.gixp_engine.specs.declared.consumer.Left.{Left}
 use Rattle.gixp_engine.specs.declared.error.EngineError.{EngineError}
 use Rattle.gixp_engine.specs.declared.error.EngineError.TheVariants.{Handshake as Unshaken, Refs as Unmapped, UnterminatedRefs, Fetch as Unfetched}
@@ -63,17 +67,19 @@ map_of_whole (Err e) false = Err (unmapped_of_cut e)
 abbrev pub engine_call : Handshake → ShallowValue → FetchCall
 engine_call h shallow = call_of git_table h engine_agent [] tags.None shallow false
 
--- a negotiation over these objects and this ref map that offers these haves in order. It has no commits, no refs and no alternates
-pub record OffersAlone {O : Type 0} (here : O) (offered : List ObjectId) (made : RefMap) (asked : Shallow)
-    (n : Negotiation O NoRefs (List ObjectId) NoObjects AllocError) : Type 0 where
-  pub objects : n.context.objects.now ≡ here
-  pub graph : n.context.graph.now.graph ≡ graph_of finite.empty finite.empty
-  pub haves : n.context.negotiator.now ≡ offered
-  pub mapped : n.ref_map.now ≡ made
-  pub shallow : n.shallow.now ≡ asked
-  pub tags : n.tags ≡ tags.None
-  pub opened : IsOk n.context.alternates
-  pub lent : IfOk n.context.alternates (λ a. a.now ≡ [])
+-- a negotiation over these objects and this ref map that offers these haves in order, and whose first request has this filter. It
+-- has no commits, no refs and no alternates
+pub record OffersAlone {O : Type 0} (here : O) (offered : List ObjectId) (made : RefMap) (asked : Shallow) (filter : Option (String Global))
+    (n : FilterOnce (Negotiation O NoRefs (List ObjectId) NoObjects AllocError)) : Type 0 where
+  pub objects : n.negotiation.now.context.objects.now ≡ here
+  pub graph : n.negotiation.now.context.graph.now.graph ≡ graph_of finite.empty finite.empty
+  pub haves : n.negotiation.now.context.negotiator.now ≡ offered
+  pub mapped : n.negotiation.now.ref_map.now ≡ made
+  pub shallow : n.negotiation.now.shallow.now ≡ asked
+  pub tags : n.negotiation.now.tags ≡ tags.None
+  pub opened : IsOk n.negotiation.now.context.alternates
+  pub lent : IfOk n.negotiation.now.context.alternates (λ a. a.now ≡ [])
+  pub filter_once : n.filter ≡ filter
 
 -- an unlocked store of this shallow boundary
 pub record HoldsAlone (boundary : List ObjectId) (store : ShallowMemory) : Type 0 where
@@ -96,31 +102,50 @@ module _ {N I A C P X : Type 0} (parties : Parties N I A ShallowMemory C P X) wh
     pub carries : CarriesCall parties call (unlocked_world first old interrupt store consumer) r
         (unlocked_world last new interrupt' store' consumer') progress
 
-  -- such a fetch with such a negotiation and such a boundary; or an allocation failed first
-  pub data FetchesAlone (Offers : N → Type 0) (boundary : List ObjectId) (call : FetchCall) (old new : Reading)
-      (r : Result (Option Outcome) (FetchError A X)) : Type 0 where
-    carried : (first last : N) (store store' : ShallowMemory) → Offers first → HoldsAlone boundary store
-        → CarriesAlone call first old store r last new store' → FetchesAlone Offers boundary call old new r
-    uncarried : new ≡ old → r ≡ Err fetch.Memory → FetchesAlone Offers boundary call old new r
+  -- such a fetch with such a negotiation; or an allocation failed first
+  pub data FetchesAlone (Offers : N → Type 0) (call : FetchCall) (old : Reading) (store : ShallowMemory)
+      (r : Result (Option Outcome) (FetchError A X)) (new : Reading) (store' : ShallowMemory) : Type 0 where
+    carried : (first last : N) → Offers first → CarriesAlone call first old store r last new store'
+        → FetchesAlone Offers call old store r new store'
+    uncarried : new ≡ old → store' ≡ store → r ≡ Err fetch.Memory → FetchesAlone Offers call old store r new store'
 
--- the result of a session by its fetch: the version of the response with a pack, or nothing to request, or the error
-abbrev pub end_of_fetch : Protocol → Result (Option Outcome) (FetchError AllocError Left) → Result (Option Protocol) EngineError
-end_of_fetch version (Ok (Some outcome)) = Ok (Some version)
-end_of_fetch version (Ok None) = Ok None
-end_of_fetch version (Err e) = Err (Unfetched e)
+module _ {N I A C P X : Type 0} (parties : Parties (FilterOnce N) I A ShallowMemory C P X) where
+  -- such a fetch with this negotiation, whose first request has this filter
+  pub record FetchesFiltered (call : FetchCall) (n : N) (filter : Option (String Global)) (old : Reading) (store : ShallowMemory)
+      (r : Result (Option Outcome) (FetchError A X)) (new : Reading) (store' : ShallowMemory) : Type 0 where
+    pub first : FilterOnce N
+    pub last : FilterOnce N
+    pub negotiation : first.negotiation.now ≡ n
+    pub filtered : first.filter ≡ filter
+    pub carries : CarriesAlone parties call first old store r last new store'
 
-module _ (Receives : RefMap → Handshake → Reading → Reading → Result (Option Outcome) (FetchError AllocError Left) → Type 0)
-    (context : Context) (plain : Bool) (old : Reading) where
-  -- a session up to its pack: the handshake failed, or the ref map failed, or nothing is mapped, or the mapped refs were fetched
-  pub data EngineSession (new : Reading) (ended : Result (Option Protocol) EngineError) : Type 0 where
+-- the result of a session by its fetch and the boundary after it: the response with a pack, or nothing to request, or the error
+abbrev pub end_of_fetch : Protocol → ShallowMemory → Result (Option Outcome) (FetchError AllocError Left)
+    → Result (Option Received) EngineError
+end_of_fetch version boundary (Ok (Some outcome)) = Ok (Some (record { version = version; boundary = boundary }))
+end_of_fetch version boundary (Ok None) = Ok None
+end_of_fetch version boundary (Err e) = Err (Unfetched e)
+
+module _ (Receives : RefMap → Handshake → Reading → ShallowMemory → Reading → ShallowMemory
+    → Result (Option Outcome) (FetchError AllocError Left) → Type 0)
+    (context : Context) (filter : Option (String Global)) (boundary : List ObjectId) (plain : Bool) (old : Reading) where
+  -- a session up to its pack: the handshake failed, or the server lacks filters, or the ref map failed, or nothing is mapped, or the
+  -- mapped refs were fetched
+  pub data EngineSession (new : Reading) (ended : Result (Option Received) EngineError) : Type 0 where
     unshaken : (e : HandshakeError) → GreetsWithoutAccount plain old new (Err e) → ended ≡ Err (Unshaken e) → EngineSession new ended
+    -- nothing was sent after the handshake
+    unfiltered : (h : Handshake) (e : EngineError) → GreetsWithoutAccount plain old new (Ok h) → AllowsFilter filter h (Err e)
+        → ended ≡ Err e → EngineSession new ended
     unmapped : (h : Handshake) (mid : Reading) (r : Result RefMap MapError) (e : EngineError) → GreetsWithoutAccount plain old mid (Ok h)
+        → AllowsFilter filter h (Ok tt)
         → MapsAlone context h plain mid new r → map_of_whole r (is_flush new.stopped) ≡ Err e → ended ≡ Err e
         → EngineSession new ended
-    empty : (h : Handshake) (mid : Reading) (m : RefMap) → GreetsWithoutAccount plain old mid (Ok h)
+    empty : (h : Handshake) (mid : Reading) (m : RefMap) → GreetsWithoutAccount plain old mid (Ok h) → AllowsFilter filter h (Ok tt)
         → MapsAlone context h plain mid new (Ok m) → is_flush new.stopped ≡ true → m.mappings.items ≡ [] → ended ≡ Ok None
         → EngineSession new ended
     fetched : (h : Handshake) (mid following : Reading) (m : RefMap) (r : Result (Option Outcome) (FetchError AllocError Left))
-        → GreetsWithoutAccount plain old mid (Ok h) → MapsAlone context h plain mid following (Ok m) → is_flush following.stopped ≡ true
-        → (m.mappings.items ≡ [] → ⊥)
-        → Receives m (without_refs h) following new r → ended ≡ end_of_fetch h.server_protocol_version r → EngineSession new ended
+        (store store' : ShallowMemory)
+        → GreetsWithoutAccount plain old mid (Ok h) → AllowsFilter filter h (Ok tt)
+        → MapsAlone context h plain mid following (Ok m) → is_flush following.stopped ≡ true → (m.mappings.items ≡ [] → ⊥)
+        → HoldsAlone boundary store → Receives m (without_refs h) following store new store' r
+        → ended ≡ end_of_fetch h.server_protocol_version store' r → EngineSession new ended

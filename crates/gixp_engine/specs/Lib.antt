@@ -1,5 +1,7 @@
 pub mod Alone
 pub mod EngineMessage
+pub mod FilterLine
 pub mod Handed
 pub mod Leave
+pub mod Limits
 pub mod NextStep

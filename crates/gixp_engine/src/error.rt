@@ -30,9 +30,21 @@ pub enum EngineError {
     /// A text isn't a valid refspec.
     #[error("{0}")]
     Spec(parse::Error),
+    /// The filter isn't UTF-8.
+    #[error("the filter isn't UTF-8")]
+    Filter,
+    /// An excluded ref has an invalid name.
+    #[error("an excluded ref has an invalid name")]
+    Name,
+    /// There is no such limit of the history.
+    #[error("the limit of the history is unknown")]
+    Limit,
     /// The handshake failed.
     #[error("{0}")]
     Handshake(handshake::Error),
+    /// There is a filter, and the server offers none.
+    #[error("the server offers no filters")]
+    NoFilters,
     /// The refs couldn't be listed, or their mappings conflict.
     #[error("{0}")]
     Refs(refmap::init::Error),

@@ -4,11 +4,14 @@
 
 mod consumer;
 mod error;
+mod filter;
 mod read;
 mod session;
 mod step;
 
 pub use consumer::{LeavePack, Left};
 pub use error::EngineError;
-pub use read::{ids_of, specs_of};
+pub use filter::FilterOnce;
+pub use read::{filter_of, ids_of, names_of, specs_of};
+pub use session::Received;
 pub use step::{EngineStep, SessionInput, next_step};

@@ -3,15 +3,20 @@ ghost use Rattle.std.specs.Prelude.{◌≡◌, IfOk, map};
 ghost use Rattle.std.specs.FinMap as finite;
 ghost use Rattle.gixp_refspec.specs.RefSpec.{value_of, owned_value_of};
 ghost use Rattle.gixp_response.specs.AnswerLine.{id_from};
+ghost use Rattle.bstr.specs.BStr.{bstr_bytes};
 ghost use Rattle.gixp_engine.specs.Handed.{HandsIds, HandsSpecs, HandsAnswers, refused_specs, objects_held};
+ghost use Rattle.gixp_engine.specs.Limits.{HandsFilter, AddsName, HandsNames};
+ghost use Rattle.gixp_utils.specs.Lines.{text_lines};
 
 use crate::error::EngineError;
+use bstr::{BStr, BString};
 use gixp_hash::ObjectId;
 use gixp_memory::StoredObjects;
 use gixp_records::{SpecsRefused, specs_in};
 use gixp_refmap::refmap::init::Context;
-use gixp_refspec::{RefSpec, RefSpecRef};
+use gixp_refspec::{PartialName, RefSpec, RefSpecRef};
 use gixp_transport::Body;
+use gixp_utils::text_lines;
 use std::alloc::{AllocError, Global};
 
 fn ids_from(alloc: Global, whole: &[[u8; 20]]) -> Result<Vec<ObjectId>, AllocError>
@@ -78,6 +83,69 @@ pub fn specs_of(alloc: Global, text: &[u8]) -> Result<Context, EngineError>
             fetch_refspecs,
             extra_refspecs: Vec::new(alloc),
         }),
+        Err(_) => Err(EngineError::Memory),
+    }
+}
+
+/// The filter of a text (git-rev-list, `--filter`). An empty text is none.
+///
+/// # Errors
+///
+/// `Filter` if the text isn't UTF-8, or `Memory`.
+pub fn filter_of(alloc: Global, text: &[u8]) -> Result<Option<String>, EngineError>
+    ensures { HandsFilter text.now result }
+{
+    if text.is_empty() {
+        return Ok(None);
+    }
+    let Ok(text) = str::from_utf8(text) else {
+        return Err(EngineError::Filter);
+    };
+    match String::from_str(alloc, text) {
+        Ok(filter) => Ok(Some(filter)),
+        Err(_) => Err(EngineError::Memory),
+    }
+}
+
+// Adds the name of a line.
+fn push_name(alloc: Global, line: BStr<'_>, names: &mut Vec<PartialName>) -> Result<(), EngineError>
+    ensures { AddsName (bstr_bytes line.entry) names.old.items names.new.items result }
+{
+    let Ok(text) = BString::from_slice(alloc, line.as_bytes()) else {
+        return Err(EngineError::Memory);
+    };
+    match PartialName::new(text) {
+        Ok(name) => match names.push(name) {
+            Ok(()) => Ok(()),
+            Err(_) => Err(EngineError::Memory),
+        },
+        Err(_) => Err(EngineError::Name),
+    }
+}
+
+fn line_names(alloc: Global, lines: &[BStr<'_>]) -> Result<Vec<PartialName>, EngineError>
+    ensures { HandsNames (map bstr_bytes lines.now) result }
+{
+    let mut names = Vec::new(alloc);
+    for line in lines {
+        match push_name(alloc, *line, &mut names) {
+            Ok(()) => {}
+            Err(e) => return Err(e),
+        }
+    }
+    Ok(names)
+}
+
+/// The names of refs in a text, one per line.
+///
+/// # Errors
+///
+/// `Name` if a line isn't a valid name (git-check-ref-format, with `--allow-onelevel`), or `Memory`.
+pub fn names_of(alloc: Global, text: &[u8]) -> Result<Vec<PartialName>, EngineError>
+    ensures { HandsNames (text_lines text.now) result }
+{
+    match text_lines(alloc, text) {
+        Ok(lines) => line_names(alloc, &lines),
         Err(_) => Err(EngineError::Memory),
     }
 }

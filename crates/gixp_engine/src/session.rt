@@ -5,10 +5,11 @@ ghost use Rattle.gixp_requests.specs.Feature.{feature_value};
 ghost use Rattle.gixp_handshake.specs.Taken.{without_refs};
 ghost use Rattle.gixp_fetch.specs.Fetch.{parties_of};
 ghost use Rattle.gixp_fetch.specs.FetchShallow.{shallow_value};
-ghost use Rattle.gixp_engine.specs.Alone.{engine_agent, engine_call, end_of_fetch, unmapped_of_cut, map_of_whole, MapsAlone, CarriesAlone, FetchesAlone, OffersAlone, EngineSession};
+ghost use Rattle.gixp_engine.specs.Alone.{engine_agent, engine_call, end_of_fetch, unmapped_of_cut, map_of_whole, MapsAlone, CarriesAlone, FetchesFiltered, FetchesAlone, OffersAlone, EngineSession};
 
 use crate::consumer::{LeavePack, Left};
 use crate::error::EngineError;
+use crate::filter::{FilterOnce, expect_filters};
 use crate::step::SessionInput;
 use gixp_fetch::consume::ConsumePack;
 use gixp_fetch::error::Error as FetchError;
@@ -143,11 +144,50 @@ fn fetch_over<N: Negotiate, T: Transport>(
     )
 }
 
-// The objects that the caller has, and its shallow boundary.
+/// The end of a session whose last response has a pack.
+#[derive(Debug, Drop)]
+pub struct Received {
+    /// The version of the response.
+    pub version: Protocol,
+    /// The shallow boundary after the response.
+    pub boundary: ShallowMemory,
+}
+
+// The objects that the caller has, and those that the server leaves out.
 #[derive(Drop)]
-struct Here {
+struct Terms {
     haves: Vec<ObjectId>,
-    boundary: Vec<ObjectId>,
+    filter: Option<String>,
+}
+
+// Fetches by a negotiation whose first request has a filter, up to the pack.
+fn fetch_filtered<N: Negotiate, T: Transport>(
+    alloc: Global,
+    negotiation: &mut N,
+    filter: Option<String>,
+    agent: Feature,
+    handshake: &mut Handshake,
+    transport: &mut T,
+    shallow: &Shallow,
+    boundary: &mut ShallowMemory,
+) -> Result<Option<Outcome>, FetchError<N::AlternatesError, Left>>
+    requires { feature_value agent ≡ engine_agent }
+    ensures { FetchesFiltered
+        (parties_of ⟦<FilterOnce<'static, N> as Negotiate>⟧.calls ⟦<ShallowMemory as ShallowStore>⟧.calls
+        ⟦<NeverInterrupt as Interrupt>⟧.polls ⟦<LeavePack as ConsumePack<Discard>>⟧.consumes T.is_plain)
+        (engine_call handshake.old (shallow_value shallow.now)) negotiation.old filter (T.reading transport.old) boundary.old result
+        (T.reading transport.new) boundary.new }
+{
+    let mut filtered = FilterOnce::new(negotiation, filter);
+    fetch_over(
+        alloc,
+        &mut filtered,
+        agent,
+        handshake,
+        transport,
+        shallow,
+        boundary,
+    )
 }
 
 // Fetches the mapped refs that are missing. Everything that the negotiation borrows, except the objects, is local to this function.
@@ -155,23 +195,26 @@ fn fetch_mapped<'a, O: Objects, T: Transport>(
     alloc: Global,
     objects: &'a O,
     map: &'a RefMap,
-    here: Here,
+    terms: Terms,
     shallow: &'a Shallow,
     handshake: &mut Handshake,
     transport: &mut T,
+    boundary: &mut ShallowMemory,
 ) -> Result<Option<Outcome>, FetchError<AllocError, Left>>
     ensures { FetchesAlone
-        (parties_of ⟦<Negotiation<'a, O, NoRefs, HaveList, NoObjects, AllocError> as Negotiate>⟧.calls
+        (parties_of ⟦<FilterOnce<'a, Negotiation<'a, O, NoRefs, HaveList, NoObjects, AllocError>> as Negotiate>⟧.calls
         ⟦<ShallowMemory as ShallowStore>⟧.calls ⟦<NeverInterrupt as Interrupt>⟧.polls
         ⟦<LeavePack as ConsumePack<Discard>>⟧.consumes T.is_plain)
-        (OffersAlone objects.now here.haves.items map.now shallow.now) here.boundary.items
-        (engine_call handshake.old (shallow_value shallow.now)) (T.reading transport.old) (T.reading transport.new) result }
+        (OffersAlone objects.now terms.haves.items map.now shallow.now terms.filter)
+        (engine_call handshake.old (shallow_value shallow.now)) (T.reading transport.old) boundary.old result
+        (T.reading transport.new) boundary.new }
 {
     let Ok(agent) = engine_feature(alloc) else {
         return Err(FetchError::Memory);
     };
+    let Terms { haves, filter } = terms;
     let mut graph = Graph::new(alloc, NoObjects);
-    let mut negotiator = HaveList::new(here.haves);
+    let mut negotiator = HaveList::new(haves);
     let mut refs = NoRefs;
     let context = NegotiateContext {
         objects,
@@ -181,58 +224,64 @@ fn fetch_mapped<'a, O: Objects, T: Transport>(
         graph: &mut graph,
     };
     let mut negotiation = Negotiation::new(context, map, shallow, Tags::None);
-    let mut boundary = ShallowMemory::new(here.boundary);
-    fetch_over(
+    fetch_filtered(
         alloc,
         &mut negotiation,
+        filter,
         agent,
         handshake,
         transport,
         shallow,
-        &mut boundary,
+        boundary,
     )
 }
 
-// The result of a session by its fetch.
+// The result of a session by its fetch, and by the boundary after it.
 fn end_of(
     version: Protocol,
+    boundary: ShallowMemory,
     fetched: Result<Option<Outcome>, FetchError<AllocError, Left>>,
-) -> Result<Option<Protocol>, EngineError>
-    ensures { result ≡ end_of_fetch version fetched }
+) -> Result<Option<Received>, EngineError>
+    ensures { result ≡ end_of_fetch version boundary fetched }
 {
     match fetched {
-        Ok(Some(_)) => Ok(Some(version)),
+        Ok(Some(_)) => Ok(Some(Received { version, boundary })),
         Ok(None) => Ok(None),
         Err(e) => Err(EngineError::Fetch(e)),
     }
 }
 
-/// Runs a session up to its pack. Returns the version of the response with a pack, or `None` if there is nothing to request.
+/// Runs a session up to its pack. Returns `None` if there is nothing to request.
 pub(crate) fn run<'a, O: Objects, T: Transport>(
     alloc: Global,
     objects: &'a O,
     input: SessionInput,
     transport: &mut T,
-) -> Result<Option<Protocol>, EngineError>
+) -> Result<Option<Received>, EngineError>
     ensures { EngineSession
-        (λ m h old new r. FetchesAlone
-        (parties_of ⟦<Negotiation<'a, O, NoRefs, HaveList, NoObjects, AllocError> as Negotiate>⟧.calls
+        (λ m h old store new store' r. FetchesAlone
+        (parties_of ⟦<FilterOnce<'a, Negotiation<'a, O, NoRefs, HaveList, NoObjects, AllocError>> as Negotiate>⟧.calls
         ⟦<ShallowMemory as ShallowStore>⟧.calls ⟦<NeverInterrupt as Interrupt>⟧.polls
         ⟦<LeavePack as ConsumePack<Discard>>⟧.consumes T.is_plain)
-        (OffersAlone objects.now input.haves.items m input.shallow) input.boundary.items
-        (engine_call h (shallow_value input.shallow)) old new r)
-        input.specs T.is_plain (T.reading transport.old) (T.reading transport.new) result }
+        (OffersAlone objects.now input.haves.items m input.shallow input.filter)
+        (engine_call h (shallow_value input.shallow)) old store r new store')
+        input.specs input.filter input.boundary.items T.is_plain (T.reading transport.old) (T.reading transport.new) result }
 {
     let SessionInput {
         specs,
         haves,
         shallow,
         boundary,
+        filter,
     } = input;
     let mut handshake = match handshake_without_account(alloc, transport) {
         Ok(handshake) => handshake,
         Err(e) => return Err(EngineError::Handshake(e)),
     };
+    match expect_filters(alloc, &handshake, &filter) {
+        Ok(()) => {}
+        Err(e) => return Err(e),
+    }
     let made = map_refs(alloc, &mut handshake, specs, transport);
     let map = match map_of_whole(made, is_at_flush(transport)) {
         Ok(map) => map,
@@ -242,15 +291,17 @@ pub(crate) fn run<'a, O: Objects, T: Transport>(
         return Ok(None);
     }
     let version = handshake.server_protocol_version;
-    let here = Here { haves, boundary };
+    let mut boundary = ShallowMemory::new(boundary);
+    let terms = Terms { haves, filter };
     let fetched = fetch_mapped(
         alloc,
         objects,
         &map,
-        here,
+        terms,
         &shallow,
         &mut handshake,
         transport,
+        &mut boundary,
     );
-    end_of(version, fetched)
+    end_of(version, boundary, fetched)
 }

@@ -8,8 +8,9 @@ ghost use Rattle.gixp_engine.specs.NextStep.{start_of_last, BeginsPack, StepsTo,
 
 use crate::consumer::LeavePack;
 use crate::error::EngineError;
+use crate::filter::FilterOnce;
 use crate::read::{answers_of, objects_of};
-use crate::session::run;
+use crate::session::{Received, run};
 use bstr::BString;
 use gixp_fetch::consume::ConsumePack;
 use gixp_graph::{NoObjects, NoRefs, Objects, Shared};
@@ -38,6 +39,8 @@ pub struct SessionInput {
     pub shallow: Shallow,
     /// The shallow boundary of the local repository.
     pub boundary: Vec<ObjectId>,
+    /// Which objects the server leaves out (git-rev-list, `--filter`).
+    pub filter: Option<String>,
 }
 
 /// The caller's next action.
@@ -45,8 +48,14 @@ pub struct SessionInput {
 pub enum EngineStep {
     /// Send these bytes. The server's reply is the next response.
     Request(Vec<u8>),
-    /// Take the pack from the last response. It begins at this offset of all bytes.
-    Pack(usize),
+    /// Take the pack from the last response.
+    Pack {
+        /// The offset of the pack in all bytes.
+        place: usize,
+        /// The shallow boundary after the server's shallow updates (gitprotocol-pack, "Packfile Negotiation"). A server whose
+        /// own repository is shallow sends updates even if the session requests no depth.
+        boundary: ShallowMemory,
+    },
     /// Nothing: there is nothing to request.
     Nothing,
 }
@@ -76,16 +85,16 @@ fn start_of_last(ends: &[usize]) -> usize
 fn step_after(
     bytes: &[u8],
     ends: &[usize],
-    pack: Option<Protocol>,
+    received: Option<Received>,
 ) -> Result<EngineStep, EngineError>
     requires { start_of_last ends.now ≤ length bytes.now }
-    ensures { (sent : List (List ℕ)) → length sent + 1 ≡ length ends.now → StepsTo bytes.now ends.now sent (Ok pack) result }
+    ensures { (sent : List (List ℕ)) → length sent + 1 ≡ length ends.now → StepsTo bytes.now ends.now sent (Ok received) result }
 {
-    let Some(version) = pack else {
+    let Some(Received { version, boundary }) = received else {
         return Ok(EngineStep::Nothing);
     };
     match pack_place(bytes, start_of_last(ends), version) {
-        Ok(place) => Ok(EngineStep::Pack(place)),
+        Ok(place) => Ok(EngineStep::Pack { place, boundary }),
         Err(e) => Err(EngineError::Pack(e)),
     }
 }
@@ -95,18 +104,18 @@ fn step_unasked(
     bytes: &[u8],
     ends: &[usize],
     requests: usize,
-    ended: Result<Option<Protocol>, EngineError>,
+    ended: Result<Option<Received>, EngineError>,
 ) -> Result<EngineStep, EngineError>
     requires fewer { requests < length ends.now }
     requires within { start_of_last ends.now ≤ length bytes.now }
     ensures { (sent : List (List ℕ)) → length sent ≡ requests → StepsTo bytes.now ends.now sent ended result }
 {
     match ended {
-        Ok(pack) => {
+        Ok(received) => {
             if requests + 1 < ends.len() {
                 return Err(EngineError::TooManyAnswers);
             }
-            step_after(bytes, ends, pack)
+            step_after(bytes, ends, received)
         }
         Err(e) => Err(e),
     }
@@ -118,7 +127,7 @@ fn step_of(
     bytes: &[u8],
     ends: &[usize],
     sent: &[Vec<u8>],
-    ended: Result<Option<Protocol>, EngineError>,
+    ended: Result<Option<Received>, EngineError>,
 ) -> Result<EngineStep, EngineError>
     requires some { 0 < length ends.now }
     requires within { start_of_last ends.now ≤ length bytes.now }
@@ -147,12 +156,12 @@ pub fn next_step(
     input: SessionInput,
 ) -> Result<EngineStep, EngineError>
     ensures { IsNextStep ⟦<Shared<'static, StoredObjects> as Objects>⟧.contents
-        (λ objects m h old new r. FetchesAlone
-        (parties_of ⟦<Negotiation<'static, Shared<'static, StoredObjects>, NoRefs, HaveList, NoObjects, AllocError> as Negotiate>⟧.calls
+        (λ objects m h old store new store' r. FetchesAlone
+        (parties_of ⟦<FilterOnce<'static, Negotiation<'static, Shared<'static, StoredObjects>, NoRefs, HaveList, NoObjects, AllocError>> as Negotiate>⟧.calls
         ⟦<ShallowMemory as ShallowStore>⟧.calls ⟦<NeverInterrupt as Interrupt>⟧.polls
         ⟦<LeavePack as ConsumePack<Discard>>⟧.consumes true)
-        (OffersAlone objects input.haves.items m input.shallow) input.boundary.items
-        (engine_call h (shallow_value input.shallow)) old new r)
+        (OffersAlone objects input.haves.items m input.shallow input.filter)
+        (engine_call h (shallow_value input.shallow)) old store r new store')
         bytes.now ends.now input result }
 {
     let answers = match answers_of(alloc, bytes, ends) {

@@ -1,4 +1,4 @@
-use Rattle.std.proofs.Common.{Ok, Err, arith}
+use Rattle.std.proofs.Common.{Ok, Err}
 use Rattle.gixp_calls.proofs.next.write_next.Goals as goal
 
 pub returns-in-Ok-clause-next : goal.returns-in-Ok-clause-next
@@ -6,6 +6,3 @@ returns-in-Ok-clause-next c = record { step = Ok c.in-Ok.found; steps = c.in-Ok.
 
 pub returns-in-Err-clause-next : goal.returns-in-Err-clause-next
 returns-in-Err-clause-next c = record { step = Err c.in-Err.e; steps = c.in-Err.ensures; reports = c.tell_refusal.ensures.input_record }
-
-pub returns-in-Ok-clause-refused : goal.returns-in-Ok-clause-refused
-returns-in-Ok-clause-refused c = λ h. absurd (omega (arith, h, c.tell_step.ensures.few))

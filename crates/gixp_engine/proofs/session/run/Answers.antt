@@ -1,26 +1,33 @@
 use Rattle.std.proofs.Common.{refl}
-use Rattle.gixp_engine.specs.Alone.{unshaken, unmapped, empty}
+use Rattle.gixp_engine.specs.Alone.{unshaken, unfiltered, unmapped, empty}
 use Rattle.gixp_engine.proofs.AloneLemmas.{session-ran, maps-made, took-refs, ends-whole, refused-by, untold}
 use Rattle.gixp_engine.proofs.session.run.Goals as goal
 
 pub returns-in-Err : goal.returns-in-Err
 returns-in-Err g c = unshaken c.in-Err.e c.in-Err.ensures refl
 
+pub returns-in-Err-expect_filters : goal.returns-in-Err-expect_filters
+returns-in-Err-expect_filters g c =
+    unfiltered c.in-Ok.handshake c.in-Err-expect_filters.e c.in-Ok.ensures c.in-Err-expect_filters.ensures refl
+
 pub returns-in-Err-map_of_whole : goal.returns-in-Err-map_of_whole
 returns-in-Err-map_of_whole g c =
-    unmapped c.in-Ok.handshake _ c.map_refs-made.result c.in-Err-map_of_whole.e c.in-Ok.ensures c.map_refs-made.ensures.map
+    unmapped c.in-Ok.handshake _ c.map_refs-made.result c.in-Err-map_of_whole.e c.in-Ok.ensures c.in-Ok-expect_filters.ensures
+    c.map_refs-made.ensures.map
     (refused-by _ _ _ _ c.in-Err-map_of_whole.ensures.whole c.is_at_flush.ensures) refl
 
 pub returns-then-is_empty : goal.returns-then-is_empty
 returns-then-is_empty g c =
-    empty c.in-Ok.handshake _ c.in-Ok-map_of_whole.map c.in-Ok.ensures
+    empty c.in-Ok.handshake _ c.in-Ok-map_of_whole.map c.in-Ok.ensures c.in-Ok-expect_filters.ensures
     (maps-made _ _ _ _ _ _ _ c.in-Ok-map_of_whole.ensures.made.0 c.map_refs-made.ensures.map)
     (ends-whole _ _ c.in-Ok-map_of_whole.ensures.made.1 c.is_at_flush.ensures) (c.is_empty.ensures.0 c.if-is_empty.true) refl
 
 pub returns : goal.returns
 returns g c =
-    session-ran _ _ _ _ _ _ _ c.in-Ok.handshake _ c.in-Ok-map_of_whole.map c.fetch_mapped-fetched.result _ c.in-Ok.ensures
+    session-ran _ _ _ _ _ _ _ _ _ c.in-Ok.handshake _ c.in-Ok-map_of_whole.map c.fetch_mapped-fetched.result c.new-boundary.result _ _
+    c.in-Ok.ensures c.in-Ok-expect_filters.ensures
     (maps-made _ _ _ _ _ _ _ c.in-Ok-map_of_whole.ensures.made.0 c.map_refs-made.ensures.map)
     (ends-whole _ _ c.in-Ok-map_of_whole.ensures.made.1 c.is_at_flush.ensures)
     (took-refs c.in-Ok.handshake _ _ _ c.in-Ok-map_of_whole.ensures.made.0 c.map_refs-made.ensures.handshake)
-    (untold _ c.is_empty.ensures c.if-is_empty.false) c.fetch_mapped-fetched.ensures c.end_of.ensures
+    (untold _ c.is_empty.ensures c.if-is_empty.false) c.new-boundary.ensures.ids c.new-boundary.ensures.locked
+    c.fetch_mapped-fetched.ensures c.end_of.ensures
