@@ -79,7 +79,23 @@ def shallow_fetch(folder, place):
     git("init", "-q", "--bare", to)
     git("index-pack", "--stdin", folder=to, stdin=open(pack, "rb"))
     kinds = git("cat-file", "--batch-all-objects", "--batch-check=%(objecttype)", folder=to).split()
-    return status == 0 and kinds.count("commit") == 2, err
+    by_git = os.path.join(place, "by-git.git")
+    git("clone", "-q", "--bare", "--depth=1", "--no-single-branch", "file://" + folder, by_git)
+    boundary = ["shallow " + id for id in sorted(pathlib.Path(by_git, "shallow").read_text().split())]
+    return status == 0 and kinds.count("commit") == 2 and sorted(out.splitlines()[1:]) == boundary, out + err
+
+
+def filtered_fetch(folder, place):
+    git("config", "uploadpack.allowFilter", "true", folder=folder)
+    status, out, err, pack = fetched(folder, place, "--filter", "blob:none")
+    to = os.path.join(place, "filtered.git")
+    git("init", "-q", "--bare", to)
+    git("index-pack", "--stdin", "--promisor", folder=to, stdin=open(pack, "rb"))
+    kinds = git("cat-file", "--batch-all-objects", "--batch-check=%(objecttype)", folder=to).split()
+    git("config", "uploadpack.allowFilter", "false", folder=folder)
+    refused, _, said, _ = fetched(folder, place, "--filter", "blob:none")
+    is_refused = refused != 0 and "the server offers no filters" in said
+    return status == 0 and set(kinds) == {"commit", "tree"} and is_refused, out + err + said
 
 
 def nothing(folder, place):
@@ -98,7 +114,7 @@ def main(build):
     with tempfile.TemporaryDirectory() as place:
         folder = os.path.join(place, "served")
         make(folder)
-        for case in (listing, whole_fetch, fetch_of_what_is_new, shallow_fetch, nothing, no_repository):
+        for case in (listing, whole_fetch, fetch_of_what_is_new, shallow_fetch, filtered_fetch, nothing, no_repository):
             ok, said = case(folder, place)
             passed, failed = passed + bool(ok), failed + (not ok)
             if not ok:

@@ -320,6 +320,91 @@ static void session(void)
     free(room);
 }
 
+static const char FILTERS[] = "000eversion 2\n0013ls-refs=unborn\n0019fetch=shallow filter\n0000";
+static const char LACKING[] = "000eversion 2\n000cls-refs\n000afetch\n0000";
+#define NEW "1111111111111111111111111111111111111111"
+#define OLD "3031323334353637383930313233343536373839"
+
+/* The step of a session whose texts are these. `ids` has the boundary: OLD, as 20 bytes. */
+static uint32_t limited(const char *greeting, const char *more, const char *filter, const char *excluded, const int64_t limit[3],
+                        uint8_t *request, size_t room, gixp_step *step)
+{
+    char answers[1024];
+    size_t ends[3], count = 2;
+    snprintf(answers, sizeof answers, "%s%s%s", greeting, LISTED, more);
+    ends[0] = strlen(greeting);
+    ends[1] = ends[0] + strlen(LISTED);
+    ends[2] = strlen(answers);
+    count += ends[2] > ends[1];
+    uint8_t *bytes = copy(answers, ends[2]), *spec = copy(SPEC, strlen(SPEC)), *none = copy("", 0), *ids = copy("01234567890123456789", 20);
+    uint8_t *text = copy(filter, strlen(filter)), *names = copy(excluded, strlen(excluded));
+    gixp_session_input input = {spec,   strlen(SPEC), none,  0, ids, 20, text, strlen(filter), names, strlen(excluded), limit[1],
+                                (uint32_t)limit[2], (uint32_t)limit[0]};
+    uint32_t code = gixp_next(bytes, ends[count - 1], ends, count, &input, request, room, step);
+    free(names);
+    free(text);
+    free(ids);
+    free(none);
+    free(spec);
+    free(bytes);
+    return code;
+}
+
+static int has(const uint8_t *request, size_t len, const char *line)
+{
+    size_t size = strlen(line);
+    for (size_t at = 0; at + size <= len; at++)
+        if (memcmp(request + at, line, size) == 0)
+            return 1;
+    return 0;
+}
+
+static void limits(void)
+{
+    static const struct { int64_t limit[3]; const char *filter, *excluded, *first, *second; } rows[] = {
+        {{GIXP_DEPTH, 9, 3}, "", "x", "000ddeepen 3\n", "shallow " OLD},
+        {{GIXP_DEEPEN, 9, 3}, "", "x", "000ddeepen 3\n", "0014deepen-relative\n"},
+        {{GIXP_SINCE, -9, 3}, "", "x", "0014deepen-since -9\n", "0035shallow " OLD "\n"},
+        {{GIXP_EXCLUDE, 9, 3}, "", "x\nrefs/y", "0011deepen-not x\n", "0016deepen-not refs/y\n"},
+        {{GIXP_SINCE_EXCLUDE, 9, 3}, "", "x\n", "0013deepen-since 9\n", "0011deepen-not x\n"},
+        {{GIXP_DEPTH, 9, 0}, "blob:none", "", "0015filter blob:none\n", "want"},
+    };
+    uint8_t *room = __real_malloc(4096), *few = __real_malloc(10);
+    gixp_step step = {9, 9, 9};
+    for (size_t i = 0; i < sizeof rows / sizeof *rows; i++) {
+        CHECK(limited(FILTERS, "", rows[i].filter, rows[i].excluded, rows[i].limit, room, 4096, &step) == GIXP_OK && step.kind == 1);
+        CHECK(has(room, step.length, rows[i].first) && has(room, step.length, rows[i].second));
+        uint32_t code = *rows[i].filter ? GIXP_NO_FILTERS : GIXP_NO_FEATURE;
+        CHECK(limited(LACKING, "", rows[i].filter, rows[i].excluded, rows[i].limit, room, 4096, &step) == code && step.length == 0);
+    }
+    static const int64_t none[3] = {GIXP_DEPTH, 0, 0}, one[3] = {GIXP_DEPTH, 0, 1}, unknown[3] = {5, 0, 0}, not[3] = {GIXP_EXCLUDE, 0, 0};
+    CHECK(limited(FILTERS, "", "\xff", "", none, room, 4096, &step) == GIXP_BAD_FILTER);
+    CHECK(limited(FILTERS, "", "", "a..b", not, room, 4096, &step) == GIXP_BAD_NAME);
+    CHECK(limited(FILTERS, "", "", "a..b", none, room, 4096, &step) == GIXP_OK);
+    CHECK(limited(FILTERS, "", "", "", unknown, room, 4096, &step) == GIXP_BAD_LIMIT);
+    static const char pack[] = "0010shallow-info0034shallow " NEW "0036unshallow " OLD "0001000dpackfile\n";
+    memset(room, 0, 40);
+    step = (gixp_step){9, 9, 9};
+    CHECK(limited(FILTERS, pack, "", "", one, few, 10, &step) == GIXP_NO_ROOM && step.kind == 9 && step.length == 20 && step.place == 9);
+    CHECK(limited(FILTERS, pack, "", "", one, room, 20, &step) == GIXP_OK && step.kind == 2 && step.length == 20);
+    CHECK(step.place == strlen(FILTERS) + strlen(LISTED) + strlen(pack) && room[0] == 0x11 && room[19] == 0x11 && room[20] == 0);
+    CHECK(limited(FILTERS, "000dpackfile\n", "", "", one, room, 4096, &step) == GIXP_OK && memcmp(room, "01234567890123456789", 20) == 0);
+    uint32_t code = GIXP_NO_MEMORY;
+    long tried = 0;
+    for (; tried < 1000; tried++) {
+        allowed = tried;
+        step.length = 9;
+        code = limited(FILTERS, pack, "tree:0", "x", one, room, 4096, &step);
+        if (allowed >= 0)
+            break;
+        CHECK(code == GIXP_NO_MEMORY ? step.length == 0 : code == GIXP_OK && step.length == 20);
+    }
+    allowed = -1;
+    CHECK(code == GIXP_OK && tried > 10);
+    free(few);
+    free(room);
+}
+
 int main(void)
 {
     refs();
@@ -329,6 +414,7 @@ int main(void)
     maps();
     prefixes();
     session();
+    limits();
     printf("%d passed, %d failed\n", passed, failed);
     return failed != 0;
 }
