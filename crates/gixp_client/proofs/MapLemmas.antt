@@ -10,7 +10,10 @@ use Rattle.gixp_requests.specs.Command.{TableValue, git_table}
 use Rattle.gixp_packetline.specs.declared.protocol.MessageKind.{MessageKind}
 use Rattle.gixp_packetline.specs.declared.protocol.Protocol.{Protocol}
 use Rattle.gixp_refmap.specs.Listing.{Listing, listing, Lists}
+use Rattle.gixp_progress.specs.Progress.{ProgressCall, ReportedCalls}
+use Rattle.gixp_refmap.specs.ListingProgress.{listing_calls, ReportsListing}
 use Rattle.gixp_refmap.specs.declared.ls_refs.error.Error.{Error as ListError}
+use Rattle.gixp_refmap.specs.declared.ls_refs.error.Error.TheVariants as list
 use Rattle.gixp_refmap.specs.declared.refmap.init.Context.{Context}
 use Rattle.gixp_refmap.specs.declared.refmap.init.Error.{Error as MapError}
 use Rattle.gixp_refmap.specs.declared.refmap.init.Error.TheVariants.{Memory}
@@ -120,3 +123,13 @@ gives_by agent shaken plain old new kept found refs None e stays lists is lent =
 pub some_is_not_none : {A : Type 0} (o : Option A) (v : A) → o ≡ Some v → o ≢ None
 some_is_not_none None v e h = search (rules, e)
 some_is_not_none (Some w) v e h = search (rules, h)
+
+-- the calls of the progress reporter for a list that was read or failed
+pub asked_calls : {P : Type 0} (reported : P → ProgressCall → P → Type 0) (old new : P) (listed : Result (Vec Ref Global) ListError)
+    → ReportsListing reported old listed new → (new ≡ old) ⊎ ReportedCalls reported old listing_calls new
+asked_calls reported old new (Ok refs) r = inr r
+asked_calls reported old new (Err (list.Io kind)) r = inr r
+asked_calls reported old new (Err (list.Transport e)) r = inr r
+asked_calls reported old new (Err (list.Parse e)) r = inr r
+asked_calls reported old new (Err (list.ArgumentValidation e)) r = inl r
+asked_calls reported old new (Err list.Memory) r = r

@@ -18,19 +18,18 @@ use Rattle.gixp_fetch.specs.Fetch.{World, Parties}
 use Rattle.gixp_fetch.specs.Fetched.{FetchCall, unlocked_world}
 use Rattle.gixp_fetch.specs.Mapped.{Knowledge}
 use Rattle.gixp_fetch.specs.Headline.{Run, Promise}
-use Rattle.gixp_client.specs.ClientCalls.{OpensSession, MapsInSession, FetchesInSession, session_call}
+use Rattle.gixp_client.specs.ClientCalls.{CheckedNegotiation, OpensSession, MapsInSession, FetchesInSession, session_call}
 use Rattle.gixp_client.specs.ClientNames.{client_feature, named_by, own_features, id_features}
 use Rattle.gixp_client.specs.ClientPromise.{IsOneRun}
 use Rattle.gixp_client.specs.declared.error.Error.{Error}
 use Rattle.gixp_client.specs.declared.name.ClientName.{ClientName}
 use Rattle.gixp_client.specs.declared.request.Request.{Request}
-use Rattle.gixp_client.specs.declared.unshallow_check.UnshallowCheck.{UnshallowCheck}
 
 -- a handshake, a ref map and a fetch of the mapped refs, with the promise of the law
-pub one_run : {N I A C P X : Type 0} (parties : Parties (UnshallowCheck N) I A ShallowMemory C P X)
-    (converts : X → Error → Type 0) (map_of : UnshallowCheck N → RefMap) (knows : UnshallowCheck N → Knowledge)
-    → ((call : FetchCall) (context : Context) (start : Reading) (made : RefMap) (old : World (UnshallowCheck N) I ShallowMemory C)
-    (received : Result (Option Outcome) (FetchError A X)) (new : World (UnshallowCheck N) I ShallowMemory C) (progress : P)
+pub one_run : {N I A C P X : Type 0} (parties : Parties (CheckedNegotiation N) I A ShallowMemory C P X)
+    (converts : X → Error → Type 0) (map_of : CheckedNegotiation N → RefMap) (knows : CheckedNegotiation N → Knowledge)
+    → ((call : FetchCall) (context : Context) (start : Reading) (made : RefMap) (old : World (CheckedNegotiation N) I ShallowMemory C)
+    (received : Result (Option Outcome) (FetchError A X)) (new : World (CheckedNegotiation N) I ShallowMemory C) (progress : P)
     (run : Run parties map_of knows call context start made old received new progress)
     → Promise parties map_of knows call context start made old received new progress run)
     → (parameters : List Parameter) (agent : FeatureValue) (more : List FeatureValue) (request : Request)
@@ -47,7 +46,7 @@ one_run parties converts map_of knows promises parameters agent more request sta
     boundary boundary' consumer report new
     consumer' opens maps keeps fetched =
     let f = fetched.fetches in let h = f.holds in
-    let run : Run parties map_of knows (session_call kept agent more request) maps.context start made
+    let run : Run parties map_of knows (session_call kept agent more request).fetch maps.context start made
     (unlocked_world f.first middle h.interrupt fetched.store consumer) f.received
     (unlocked_world f.last new h.interrupt' fetched.store' consumer') h.progress = record {
       service = UploadPack;
@@ -75,6 +74,7 @@ one_run parties converts map_of knows promises parameters agent more request sta
       store = fetched.store;
       store' = fetched.store';
       before = fetched.before;
+      unlocked = fetched.unlocked;
       progress = h.progress;
       received = f.received;
       reports = f.reports;
@@ -91,8 +91,8 @@ nothing_more : (name : ClientName) (caps : List CapabilityValue) → name.sessio
 nothing_more name caps i = ap (id_features caps) i ∙ nothing_either (has_named (codes "session-id") caps)
 
 -- the same with the agent that the session stores
-pub named_run : {N I A C P X : Type 0} (parties : Parties (UnshallowCheck N) I A ShallowMemory C P X)
-    (converts : X → Error → Type 0) (map_of : UnshallowCheck N → RefMap) (knows : UnshallowCheck N → Knowledge)
+pub named_run : {N I A C P X : Type 0} (parties : Parties (CheckedNegotiation N) I A ShallowMemory C P X)
+    (converts : X → Error → Type 0) (map_of : CheckedNegotiation N → RefMap) (knows : CheckedNegotiation N → Knowledge)
     → ((parameters : List Parameter) (agent : FeatureValue) (more : List FeatureValue) (request : Request)
     (start shaken middle : Reading)
     (handshake kept : Handshake) (made : RefMap) (known : Knowledge) (boundary boundary' : List ObjectId) (consumer : C)

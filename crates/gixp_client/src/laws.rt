@@ -19,7 +19,9 @@ ghost use Rattle.gixp_client.specs.declared.error.Error.{Error as SessionError};
 ghost use Rattle.gixp_client.specs.declared.request.Request.{Request};
 
 use crate::error::Error;
+use crate::filter::Filtered;
 use crate::unshallow_check::UnshallowCheck;
+use crate::windows::Windowed;
 use gixp_fetch::consume::ConsumePack;
 use gixp_fetch::laws::headline;
 use gixp_fetch::mapped::NegotiatesMap;
@@ -42,16 +44,16 @@ where
         → MapsInSession request agent handshake plain shaken middle (Ok made)
         → kept ≡ record handshake { refs = kept.refs }
         → FetchesInSession
-        (parties_of ⟦<UnshallowCheck<'a, N> as Negotiate>⟧.calls ⟦<ShallowMemory as ShallowStore>⟧.calls I.polls C.consumes plain)
+        (parties_of ⟦<UnshallowCheck<'a, Filtered<'a, Windowed<N>>> as Negotiate>⟧.calls ⟦<ShallowMemory as ShallowStore>⟧.calls I.polls C.consumes plain)
         ⟦<C::Error as Into<Error>>⟧.converts
-        ⟦<UnshallowCheck<'a, N> as NegotiatesMap>⟧.map_of ⟦<UnshallowCheck<'a, N> as NegotiatesMap>⟧.knows (session_call kept agent more request)
+        ⟦<UnshallowCheck<'a, Filtered<'a, Windowed<N>>> as NegotiatesMap>⟧.map_of ⟦<UnshallowCheck<'a, Filtered<'a, Windowed<N>>> as NegotiatesMap>⟧.knows (session_call kept agent more request)
         made known boundary after middle consumer report new consumer'
-        → IsOneRun (parties_of ⟦<UnshallowCheck<'a, N> as Negotiate>⟧.calls ⟦<ShallowMemory as ShallowStore>⟧.calls I.polls C.consumes plain)
+        → IsOneRun (parties_of ⟦<UnshallowCheck<'a, Filtered<'a, Windowed<N>>> as Negotiate>⟧.calls ⟦<ShallowMemory as ShallowStore>⟧.calls I.polls C.consumes plain)
         ⟦<C::Error as Into<Error>>⟧.converts
-        ⟦<UnshallowCheck<'a, N> as NegotiatesMap>⟧.map_of ⟦<UnshallowCheck<'a, N> as NegotiatesMap>⟧.knows agent more request start made known boundary
+        ⟦<UnshallowCheck<'a, Filtered<'a, Windowed<N>>> as NegotiatesMap>⟧.map_of ⟦<UnshallowCheck<'a, Filtered<'a, Windowed<N>>> as NegotiatesMap>⟧.knows agent more request start made known boundary
         consumer report new consumer' }
 {
-    headline::<UnshallowCheck<'a, N>, ShallowMemory, I, P, C>();
+    headline::<UnshallowCheck<'a, Filtered<'a, Windowed<N>>>, ShallowMemory, I, P, C>();
 }
 
 /// If the session already has the server's refs, it makes a ref map from them and sends nothing. Otherwise the server lists the

@@ -1,5 +1,5 @@
 //! A session with a server.
-ghost use Rattle.std.specs.Prelude.{◌≡◌, ◌≢◌, ◌⊎◌, true, [], Some, None, Ok, Err, IfOk, IfErr, OnOk, MatchResult, is_some, string_bytes, Result};
+ghost use Rattle.std.specs.Prelude.{◌≡◌, ◌≢◌, ◌⊎◌, true, [], Some, None, Ok, Err, IfOk, IfErr, OnOk, OnErr, MatchResult, is_some, string_bytes, Result};
 ghost use Rattle.std.specs.Option.{option_map};
 ghost use Rattle.gixp_transport.specs.declared.service.Service.TheVariants.{UploadPack};
 ghost use Rattle.gixp_transport.specs.Greeting.{parameters_of};
@@ -14,7 +14,7 @@ ghost use Rattle.gixp_client.specs.ClientCalls.{OpensSession, FailsToOpen, Fails
 ghost use Rattle.gixp_client.specs.ClientNames.{is_session_id, named_by};
 ghost use Rattle.gixp_client.specs.Filters.{offers_filter};
 ghost use Rattle.gixp_client.specs.ListEnds.{IsUnasked, are_whole, whole_map};
-ghost use Rattle.gixp_client.specs.SessionRefs.{KeepsListedRefs, ListFailsInSession};
+ghost use Rattle.gixp_client.specs.SessionRefs.{KeepsListedRefs, ListFailsInSession, ReportsAsked};
 ghost use Rattle.gixp_client.specs.SessionStates.{state_after_map};
 ghost use Rattle.gixp_client.specs.declared.session.Session.{Session as AnySession};
 
@@ -258,6 +258,7 @@ impl<T: Transport + Drop, L: Listener + Drop, P: NestedProgress + Drop> Session<
         ensures listed { OnOk result (KeepsListedRefs T.is_plain T.reading self.old self.new) }
         ensures ended { OnOk result (is_flush (T.reading self.new.transport.inner).stopped ≡ true) }
         ensures refused { IfErr result (ListFailsInSession T.is_plain T.reading self.old self.new) }
+        ensures report { ReportsAsked P.reported self.old.progress result self.new.progress }
         ensures stays { OnOk result (self.new.state ≡ self.old.state) }
         ensures name { self.new.name ≡ self.old.name }
     {
@@ -304,6 +305,7 @@ impl<T: Transport + Drop, L: Listener + Drop, P: NestedProgress + Drop> Session<
         ensures listed { self.old.shaken.refs ≡ None → OnOk result (KeepsListedRefs T.is_plain T.reading self.old self.new) }
         ensures ended { self.old.shaken.refs ≡ None → OnOk result (is_flush (T.reading self.new.transport.inner).stopped ≡ true) }
         ensures refused { IfErr result (ListFailsInSession T.is_plain T.reading self.old self.new) }
+        ensures report { self.old.shaken.refs ≡ None → ReportsAsked P.reported self.old.progress result self.new.progress }
         ensures stays { OnOk result (self.new.state ≡ self.old.state) }
         ensures name { self.new.name ≡ self.old.name }
     {
@@ -321,6 +323,7 @@ impl<T: Transport + Drop, L: Listener + Drop, P: NestedProgress + Drop> Session<
     pub fn refs(&mut self) -> Result<&[Ref], Error>
         ensures given { IfOk result (λ refs. GivesRefs (named_by self.old.name) self.old.shaken T.is_plain
             (T.reading self.old.transport.inner) self.old.shaken.refs refs.now) }
+        ensures here { OnErr result (self.old.shaken.refs ≡ None) }
         ensures refused { IfErr result (λ e. (new : AnySession T L P P.SubProgress) × ListFailsInSession T.is_plain T.reading self.old new e) }
     {
         match self.list() {
