@@ -29,6 +29,7 @@ use Rattle.gixp_fetch.specs.Fetched.{FetchCall, Fetches, unprepared, call_of}
 use Rattle.gixp_fetch.specs.Prepare.{no_room}
 use Rattle.gixp_fetch.specs.declared.error.Error.TheVariants.{Memory}
 use Rattle.gixp_fetch.specs.Mapped.{Knowledge}
+use Rattle.gixp_client.specs.SentTags.{sent_tags}
 use Rattle.gixp_client.specs.Tables.{asked_table}
 use Rattle.gixp_client.specs.Boundaries.{has_id}
 use Rattle.gixp_client.specs.Unshallowed.{unknown_id, unknown_unshallow, unless_taken, known_alone}
@@ -42,19 +43,22 @@ use Rattle.gixp_packetline.specs.declared.protocol.Protocol.{Protocol}
 -- a fetch with equal arguments is the session's fetch
 pub as_session : {N I S A C P X : Type 0} (parties : Parties N I A S C P X) (table : TableValue) (agent agent' : FeatureValue)
     (more more' : List FeatureValue) (shaken : Handshake) (request : Request) (old : World N I S C)
-    (received : Result (Option Outcome) (FetchError A X)) (new : World N I S C) (progress : P)
+    (received : Result (Option Outcome) (FetchError A X)) (new : World N I S C) (progress : P) (tags : Tags)
     → table ≡ asked_table request.wants_progress request.uri_protocols → agent ≡ agent' → more ≡ more'
-    → Fetches parties (call_of table shaken agent more request.tags (shallow_value request.shallow) request.rejects_shallow)
+    → tags ≡ sent_tags shaken.server_protocol_version shaken.capabilities request.tags
+    → Fetches parties (call_of table shaken agent more tags (shallow_value request.shallow) request.rejects_shallow)
     old received new progress
     → CarriesFetch parties (session_call shaken agent' more' request).fetch old received new progress
-as_session parties table agent agent' more more' shaken request old received new progress t a m f = record {
+as_session parties table agent agent' more more' shaken request old received new progress tags t a m s f = record {
   fetched =
-      subst (λ (x : TableValue). Fetches parties (call_of x shaken agent' more' request.tags (shallow_value request.shallow)
+      subst (λ (x : Tags). Fetches parties (call_of (asked_table request.wants_progress request.uri_protocols) shaken agent' more' x
+      (shallow_value request.shallow) request.rejects_shallow) old received new progress) s
+      (subst (λ (x : TableValue). Fetches parties (call_of x shaken agent' more' tags (shallow_value request.shallow)
       request.rejects_shallow) old received new progress) t
-      (subst (λ (x : List FeatureValue). Fetches parties (call_of table shaken agent' x request.tags (shallow_value request.shallow)
+      (subst (λ (x : List FeatureValue). Fetches parties (call_of table shaken agent' x tags (shallow_value request.shallow)
       request.rejects_shallow) old received new progress) m
-      (subst (λ (x : FeatureValue). Fetches parties (call_of table shaken x more request.tags (shallow_value request.shallow)
-      request.rejects_shallow) old received new progress) a f));
+      (subst (λ (x : FeatureValue). Fetches parties (call_of table shaken x more tags (shallow_value request.shallow)
+      request.rejects_shallow) old received new progress) a f)));
 }
 
 -- a fetch that failed to allocate its arguments is a fetch, too

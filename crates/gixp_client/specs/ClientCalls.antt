@@ -1,5 +1,5 @@
 -- The calls of a client's session: one handshake, then ref maps and fetches.
-use Rattle.std.specs.Prelude.{◌≡◌, ◌⊎◌, ℕ, Bool, false, List, [], ◌∷◌, map, Option, Some, None, Vec, Result, Ok, Err, string_bytes}
+use Rattle.std.specs.Prelude.{◌≡◌, ◌⊎◌, ◌||◌, is_some, ℕ, Bool, false, List, [], ◌∷◌, map, Option, Some, None, Vec, Result, Ok, Err, string_bytes}
 use Rattle.std.specs.BTreeSet.{contains}
 use Rattle.std.specs.Option.{option_map, option_copied}
 use Rattle.std.specs.declared.alloc.Global.{Global}
@@ -40,6 +40,8 @@ use Rattle.gixp_fetch.specs.Mapped.{Knowledge}
 use Rattle.gixp_client.specs.Boundaries.{has_id}
 use Rattle.gixp_client.specs.Unshallowed.{known_alone}
 use Rattle.gixp_client.specs.ClientError.{IsReportOf, of_request, of_shake}
+use Rattle.gixp_client.specs.IdSpecs.{are_ids, SeesRefs}
+use Rattle.gixp_client.specs.SentTags.{sent_tags}
 use Rattle.gixp_client.specs.Tables.{asked_table}
 use Rattle.gixp_client.specs.Windows.{most_haves}
 use Rattle.gixp_client.specs.declared.filter.Filtered.{Filtered}
@@ -85,12 +87,19 @@ GivesRefs agent shaken plain old (Some here) refs = refs ≡ here.items
 GivesRefs agent shaken plain old None refs =
     (listed : Vec Ref Global) × (new : Reading) × ListsInSession agent shaken plain old new (Ok listed) × (refs ≡ listed.items)
 
--- the result of a ref map by the refspecs of a request, as the handshake obtains it
+-- no list of refs is needed for a ref map: the session has the refs, or the refspecs are ids
+abbrev pub needs_no_list : Request → Handshake → Bool
+needs_no_list request shaken = is_some shaken.refs || are_ids (asked_specs request)
+
+-- the result of a ref map by the refspecs of a request, as the handshake obtains it from these refs
 pub record MapsInSession (request : Request) (agent : FeatureValue) (shaken : Handshake) (plain : Bool) (old new : Reading)
     (r : Result RefMap MapError) : Type 0 where
   pub context : Context
   pub asked : context_value context ≡ asked_specs request
-  pub obtains : Obtains (asked_table request.wants_progress request.uri_protocols) agent context shaken plain old new r
+  pub seen : Option (Vec Ref Global)
+  pub sees : SeesRefs (are_ids (asked_specs request)) shaken.refs seen
+  pub obtains : Obtains (asked_table request.wants_progress request.uri_protocols) agent context (record shaken { refs = seen })
+      plain old new r
 
 -- the result of a fetch, without a type of the caller's
 abbrev pub IsReportedResult : {A X : Type 0} → (X → Error → Type 0) → Result (Option Outcome) (FetchError A X) → Result (Option Outcome) Error
@@ -162,7 +171,8 @@ module _ {N I S A C P X : Type 0} (parties : Parties (CheckedNegotiation N) I A 
 abbrev pub session_call : Handshake → FeatureValue → List FeatureValue → Request → SessionCall
 session_call shaken agent more request = record {
   fetch = call_of (asked_table request.wants_progress request.uri_protocols) shaken agent more
-      request.tags (shallow_value request.shallow) request.rejects_shallow;
+      (sent_tags shaken.server_protocol_version shaken.capabilities request.tags) (shallow_value request.shallow)
+      request.rejects_shallow;
   most_haves = most_haves shaken.server_protocol_version request.is_over_pipes;
   filter = option_map string_bytes request.filter;
 }

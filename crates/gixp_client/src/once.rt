@@ -20,7 +20,7 @@ use gixp_transport::Transport;
 use std::alloc::Global;
 
 /// Opens a session, maps and fetches what the request asks for, and closes the session. This is one run of the law
-/// [`headline`](gixp_fetch::laws::headline), unless the map is empty.
+/// [`headline`](gixp_fetch::laws::headline), unless the map is empty or ids were fetched without a list of refs.
 ///
 /// # Errors
 ///

@@ -13,6 +13,7 @@ use crate::filter::Filtered;
 use crate::name::{SentName, identified, named};
 use crate::refusal::report;
 use crate::request::Request;
+use crate::tags::sent_tags;
 use crate::unshallow_check::{UnshallowCheck, known_alone};
 use crate::windows::{MOST_HAVES, Windowed};
 use gixp_fetch::consume::ConsumePack;
@@ -115,6 +116,7 @@ where
         shaken.v1_shallow_updates = None;
         return Err(Error::Memory);
     };
+    let tags = sent_tags(request.tags, shaken);
     let context = Context {
         handshake: shaken,
         transport,
@@ -123,7 +125,7 @@ where
     let options = Options {
         shallow_file: store,
         shallow: &request.shallow,
-        tags: request.tags,
+        tags,
         reject_shallow_remote: request.rejects_shallow,
     };
     let mut never = NeverInterrupt;
