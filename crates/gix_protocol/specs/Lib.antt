@@ -334,11 +334,13 @@ pub use Rattle.gixp_client.specs.ClientMaps
 pub use Rattle.gixp_client.specs.ClientNames
 pub use Rattle.gixp_client.specs.ClientPromise
 pub use Rattle.gixp_client.specs.Filters
+pub use Rattle.gixp_client.specs.IdSpecs
 pub use Rattle.gixp_client.specs.ListEnds
 pub use Rattle.gixp_client.specs.Listening
 pub use Rattle.gixp_client.specs.Reasons
 pub use Rattle.gixp_client.specs.Requests
 pub use Rattle.gixp_client.specs.Sentences
+pub use Rattle.gixp_client.specs.SentTags
 pub use Rattle.gixp_client.specs.ServerWords
 pub use Rattle.gixp_client.specs.SessionFetch
 pub use Rattle.gixp_client.specs.SessionRefs

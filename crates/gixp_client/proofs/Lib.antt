@@ -5,6 +5,7 @@ pub mod ShownLemmas
 pub mod ChangeLemmas
 pub mod BoundaryLemmas
 pub mod MapLemmas
+pub mod SpecLemmas
 pub mod SettleLemmas
 pub mod UnsentLemmas
 pub mod OpenLemmas

@@ -1,6 +1,6 @@
 -- The refs that a session lists, and those from which it makes a ref map.
-use Rattle.std.proofs.Common.{rules, ◌≡◌, ◌≢◌, ◌⊎◌, Bool, true, List, Option, Some, None, Result, Ok, Err, subst, sym, ap, ◌∙◌, inl, inr}
-use Rattle.std.specs.Prelude.{Vec, unwrap_or}
+use Rattle.std.proofs.Common.{rules, ◌≡◌, ◌≢◌, ◌⊎◌, Bool, true, false, List, [], Option, Some, None, Result, Ok, Err, subst, sym, ap, ◌∙◌, inl, inr}
+use Rattle.std.specs.Prelude.{Vec, unwrap_or, ◌||◌, is_some, not}
 use Rattle.std.specs.declared.alloc.Global.{Global}
 use Rattle.gixp_packetline.specs.Reading.{Reading}
 use Rattle.gixp_capabilities.specs.Capabilities.{CapabilityValue}
@@ -10,7 +10,10 @@ use Rattle.gixp_requests.specs.Command.{TableValue, git_table}
 use Rattle.gixp_packetline.specs.declared.protocol.MessageKind.{MessageKind}
 use Rattle.gixp_packetline.specs.declared.protocol.Protocol.{Protocol}
 use Rattle.gixp_refmap.specs.Listing.{Listing, listing, Lists}
+use Rattle.gixp_progress.specs.Progress.{ProgressCall, ReportedCalls}
+use Rattle.gixp_refmap.specs.ListingProgress.{listing_calls, ReportsListing, ReportsListedMap}
 use Rattle.gixp_refmap.specs.declared.ls_refs.error.Error.{Error as ListError}
+use Rattle.gixp_refmap.specs.declared.ls_refs.error.Error.TheVariants as list
 use Rattle.gixp_refmap.specs.declared.refmap.init.Context.{Context}
 use Rattle.gixp_refmap.specs.declared.refmap.init.Error.{Error as MapError}
 use Rattle.gixp_refmap.specs.declared.refmap.init.Error.TheVariants.{Memory}
@@ -20,7 +23,10 @@ use Rattle.gixp_handshake.specs.declared.handshake.ref_map.ObtainRefMap.{ObtainR
 use Rattle.gixp_handshake.specs.declared.handshake.ref_map.ObtainRefMap.TheVariants.{Existing, LsRefsCommand}
 use Rattle.gixp_handshake.specs.Obtain.{MakesMap, PreparesBy, ObtainsBy, FetchesList}
 use Rattle.gixp_client.specs.Tables.{asked_table}
-use Rattle.gixp_client.specs.ClientCalls.{ListsInSession, GivesRefs, MapsInSession}
+use Rattle.gixp_client.specs.ClientCalls.{asked_specs, ListsInSession, GivesRefs, MapsInSession}
+use Rattle.gixp_client.specs.IdSpecs.{are_ids, SeesRefs}
+use Rattle.gixp_client.specs.SessionRefs.{ReportsMap}
+use Rattle.gixp_handshake.specs.ObtainProgress.{ReportsObtained}
 use Rattle.gixp_client.specs.ListEnds.{whole_refs, are_whole, whole_map}
 use Rattle.gixp_client.specs.SessionStates.{state_after_map}
 use Rattle.gixp_client.specs.declared.error.Error.{Error}
@@ -80,6 +86,45 @@ made_of_none table agent context shaken plain old new r (Ok (LsRefsCommand comma
     (subst (λ (x : Listing). FetchesList x handed plain old new r) p.0 o))
 made_of_none table agent context shaken plain old new r (Err e) p o = inl (o.0, o.1 ∙ ap Err p)
 
+-- a session sees the refs that it has
+sees_own : (by_id : Bool) (refs : Vec Ref Global) (seen : Option (Vec Ref Global)) → SeesRefs by_id (Some refs) seen → seen ≡ Some refs
+sees_own by_id refs seen h = h
+
+-- without refs it sees none if the refspecs aren't ids, and an empty list if they are
+pub sees_none : (by_id : Bool) (here seen : Option (Vec Ref Global)) → by_id ≡ false → here ≡ None → SeesRefs by_id here seen
+    → seen ≡ None
+sees_none by_id here seen b e h =
+    subst (λ (x : Bool). SeesRefs x None seen) b (subst (λ (x : Option (Vec Ref Global)). SeesRefs by_id x seen) e h)
+
+sees_empty : (by_id : Bool) (here seen : Option (Vec Ref Global)) → by_id ≡ true → here ≡ None → SeesRefs by_id here seen
+    → (none : Vec Ref Global) × (none.items ≡ []) × (seen ≡ Some none)
+sees_empty by_id here seen b e h =
+    subst (λ (x : Bool). SeesRefs x None seen) b (subst (λ (x : Option (Vec Ref Global)). SeesRefs by_id x seen) e h)
+
+-- what a session sees is as its refs, if the refspecs aren't ids or it has refs
+pub sees_same : (by_id : Bool) (here seen : Option (Vec Ref Global)) → (is_some here || not by_id) ≡ true → SeesRefs by_id here seen
+    → seen ≡ here
+sees_same by_id (Some refs) seen e h = h
+sees_same true None seen e h = search (rules, e)
+sees_same false None seen e h = h
+
+-- whether a session sees refs
+pub sees_some : (by_id by_id' : Bool) (here seen : Option (Vec Ref Global)) (is_here : Bool) → SeesRefs by_id here seen
+    → is_here ≡ is_some seen → by_id ≡ by_id' → is_here ≡ (is_some here || by_id')
+sees_some by_id by_id' (Some refs) seen is_here h e b = e ∙ ap (λ (x : Option (Vec Ref Global)). is_some x) h
+sees_some true by_id' None seen is_here h e b = e ∙ (ap (λ (x : Option (Vec Ref Global)). is_some x) h.2 ∙ b)
+sees_some false by_id' None seen is_here h e b = e ∙ (ap (λ (x : Option (Vec Ref Global)). is_some x) h ∙ b)
+
+-- the calls of the progress reporter for a ref map, by whether a session sees refs
+pub mapped_calls : {P : Type 0} (reported : P → ProgressCall → P → Type 0) (old new : P) (seen : Option (Vec Ref Global))
+    (made : Result RefMap MapError) (is_here needs_no_list : Bool) (m : RefMap) → ReportsObtained reported seen old made new
+    → is_here ≡ is_some seen → is_here ≡ needs_no_list → made ≡ Ok m → ReportsMap reported needs_no_list old (Ok m) new
+mapped_calls reported old new (Some refs) made is_here needs_no_list m r e f k =
+    subst (λ (x : Bool). ReportsMap reported x old (Ok m) new) (sym e ∙ f) r
+mapped_calls reported old new None made is_here needs_no_list m r e f k =
+    subst (λ (x : Bool). ReportsMap reported x old (Ok m) new) (sym e ∙ f)
+    (subst (λ (x : Result RefMap MapError). ReportsListedMap reported old x new) k r)
+
 pub maps_refs_here : (request : Request) (agent : FeatureValue) (shaken : Handshake) (refs : Vec Ref Global) (plain : Bool)
     (old new : Reading)
     (r : Result RefMap MapError) → shaken.refs ≡ Some refs → MapsInSession request agent shaken plain old new r
@@ -87,19 +132,39 @@ pub maps_refs_here : (request : Request) (agent : FeatureValue) (shaken : Handsh
 maps_refs_here request agent shaken refs plain old new r e m =
     let made = made_of_refs (asked_table request.wants_progress request.uri_protocols) agent m.context shaken.capabilities refs plain old new r m.obtains.prepared
     (subst (λ (x : Option (Vec Ref Global)). PreparesBy x (asked_table request.wants_progress request.uri_protocols) true agent m.context shaken.capabilities
-    m.obtains.prepared) e m.obtains.prepares) m.obtains.obtains in
+    m.obtains.prepared) (sees_own (are_ids (asked_specs request)) refs m.seen
+    (subst (λ (x : Option (Vec Ref Global)). SeesRefs (are_ids (asked_specs request)) x m.seen) e m.sees)) m.obtains.prepares)
+    m.obtains.obtains in
     record { context = m.context; asked = m.asked; unsent = made.0; maps = made.1 }
 
 pub lists_for_map : (request : Request) (agent : FeatureValue) (shaken : Handshake) (plain : Bool) (old new : Reading)
-    (r : Result RefMap MapError) → shaken.refs ≡ None → MapsInSession request agent shaken plain old new r
-    → ListsForMap request agent shaken plain old new r
-lists_for_map request agent shaken plain old new r e m = record {
+    (r : Result RefMap MapError) → shaken.refs ≡ None → are_ids (asked_specs request) ≡ false
+    → MapsInSession request agent shaken plain old new r → ListsForMap request agent shaken plain old new r
+lists_for_map request agent shaken plain old new r e names m = record {
   context = m.context;
   asked = m.asked;
   lists = made_of_none (asked_table request.wants_progress request.uri_protocols) agent m.context shaken plain old new r m.obtains.prepared
       (subst (λ (x : Option (Vec Ref Global)). PreparesBy x (asked_table request.wants_progress request.uri_protocols) true agent m.context shaken.capabilities
-      m.obtains.prepared) e m.obtains.prepares) m.obtains.obtains;
+      m.obtains.prepared) (sees_none (are_ids (asked_specs request)) shaken.refs m.seen names e m.sees) m.obtains.prepares)
+      m.obtains.obtains;
 }
+
+-- for ids the ref map is made from no refs, and nothing is sent
+pub maps_ids : (request : Request) (agent : FeatureValue) (shaken : Handshake) (plain : Bool) (old new : Reading)
+    (r : Result RefMap MapError) → shaken.refs ≡ None → are_ids (asked_specs request) ≡ true
+    → MapsInSession request agent shaken plain old new r → MapsRefsHere request shaken [] old new r
+maps_ids request agent shaken plain old new r e ids m =
+    let empty = sees_empty (are_ids (asked_specs request)) shaken.refs m.seen ids e m.sees in
+    let made = made_of_refs (asked_table request.wants_progress request.uri_protocols) agent m.context shaken.capabilities empty.0 plain
+    old new r m.obtains.prepared
+    (subst (λ (x : Option (Vec Ref Global)). PreparesBy x (asked_table request.wants_progress request.uri_protocols) true agent m.context
+    shaken.capabilities m.obtains.prepared) empty.2 m.obtains.prepares) m.obtains.obtains in
+    record {
+      context = m.context;
+      asked = m.asked;
+      unsent = made.0;
+      maps = subst (λ (x : List Ref). MakesMap shaken.capabilities m.context x r) empty.1 made.1;
+    }
 
 -- the refs that `Session::refs` returns, by whether the session had refs
 pub gives_by : (agent : FeatureValue) (shaken : Handshake) (plain : Bool) (old new : Reading) (kept : Handshake) (found : Vec Ref Global)
@@ -120,3 +185,13 @@ gives_by agent shaken plain old new kept found refs None e stays lists is lent =
 pub some_is_not_none : {A : Type 0} (o : Option A) (v : A) → o ≡ Some v → o ≢ None
 some_is_not_none None v e h = search (rules, e)
 some_is_not_none (Some w) v e h = search (rules, h)
+
+-- the calls of the progress reporter for a list that was read or failed
+pub asked_calls : {P : Type 0} (reported : P → ProgressCall → P → Type 0) (old new : P) (listed : Result (Vec Ref Global) ListError)
+    → ReportsListing reported old listed new → (new ≡ old) ⊎ ReportedCalls reported old listing_calls new
+asked_calls reported old new (Ok refs) r = inr r
+asked_calls reported old new (Err (list.Io kind)) r = inr r
+asked_calls reported old new (Err (list.Transport e)) r = inr r
+asked_calls reported old new (Err (list.Parse e)) r = inr r
+asked_calls reported old new (Err (list.ArgumentValidation e)) r = inl r
+asked_calls reported old new (Err list.Memory) r = r

@@ -29,10 +29,11 @@ use Rattle.gixp_fetch.specs.Fetched.{FetchCall, Fetches, unprepared, call_of}
 use Rattle.gixp_fetch.specs.Prepare.{no_room}
 use Rattle.gixp_fetch.specs.declared.error.Error.TheVariants.{Memory}
 use Rattle.gixp_fetch.specs.Mapped.{Knowledge}
+use Rattle.gixp_client.specs.SentTags.{sent_tags}
 use Rattle.gixp_client.specs.Tables.{asked_table}
 use Rattle.gixp_client.specs.Boundaries.{has_id}
 use Rattle.gixp_client.specs.Unshallowed.{unknown_id, unknown_unshallow, unless_taken, known_alone}
-use Rattle.gixp_client.specs.ClientCalls.{session_call, ReportsKnown, CarriesFetch, HoldsFetch, FetchesMap, FetchesInSession}
+use Rattle.gixp_client.specs.ClientCalls.{SessionCall, CheckedNegotiation, session_call, ReportsKnown, CarriesFetch, HoldsFetch, FetchesMap, FetchesInSession}
 use Rattle.gixp_client.specs.declared.request.Request.{Request}
 use Rattle.gixp_client.specs.SessionStates.{state_after_fetch, IsRefusedFetch}
 use Rattle.gixp_client.specs.declared.state.State.{State}
@@ -42,19 +43,22 @@ use Rattle.gixp_packetline.specs.declared.protocol.Protocol.{Protocol}
 -- a fetch with equal arguments is the session's fetch
 pub as_session : {N I S A C P X : Type 0} (parties : Parties N I A S C P X) (table : TableValue) (agent agent' : FeatureValue)
     (more more' : List FeatureValue) (shaken : Handshake) (request : Request) (old : World N I S C)
-    (received : Result (Option Outcome) (FetchError A X)) (new : World N I S C) (progress : P)
+    (received : Result (Option Outcome) (FetchError A X)) (new : World N I S C) (progress : P) (tags : Tags)
     → table ≡ asked_table request.wants_progress request.uri_protocols → agent ≡ agent' → more ≡ more'
-    → Fetches parties (call_of table shaken agent more request.tags (shallow_value request.shallow) request.rejects_shallow)
+    → tags ≡ sent_tags shaken.server_protocol_version shaken.capabilities request.tags
+    → Fetches parties (call_of table shaken agent more tags (shallow_value request.shallow) request.rejects_shallow)
     old received new progress
-    → CarriesFetch parties (session_call shaken agent' more' request) old received new progress
-as_session parties table agent agent' more more' shaken request old received new progress t a m f = record {
+    → CarriesFetch parties (session_call shaken agent' more' request).fetch old received new progress
+as_session parties table agent agent' more more' shaken request old received new progress tags t a m s f = record {
   fetched =
-      subst (λ (x : TableValue). Fetches parties (call_of x shaken agent' more' request.tags (shallow_value request.shallow)
+      subst (λ (x : Tags). Fetches parties (call_of (asked_table request.wants_progress request.uri_protocols) shaken agent' more' x
+      (shallow_value request.shallow) request.rejects_shallow) old received new progress) s
+      (subst (λ (x : TableValue). Fetches parties (call_of x shaken agent' more' tags (shallow_value request.shallow)
       request.rejects_shallow) old received new progress) t
-      (subst (λ (x : List FeatureValue). Fetches parties (call_of table shaken agent' x request.tags (shallow_value request.shallow)
+      (subst (λ (x : List FeatureValue). Fetches parties (call_of table shaken agent' x tags (shallow_value request.shallow)
       request.rejects_shallow) old received new progress) m
-      (subst (λ (x : FeatureValue). Fetches parties (call_of table shaken x more request.tags (shallow_value request.shallow)
-      request.rejects_shallow) old received new progress) a f));
+      (subst (λ (x : FeatureValue). Fetches parties (call_of table shaken x more tags (shallow_value request.shallow)
+      request.rejects_shallow) old received new progress) a f)));
 }
 
 -- a fetch that failed to allocate its arguments is a fetch, too
@@ -116,48 +120,51 @@ tells_alike converts f g first last received report report' same e t = record {
 }
 
 -- a fetch that starts from this boundary, and its result
-pub in_session : {N I A C P X : Type 0} (parties : Parties (UnshallowCheck N) I A ShallowMemory C P X)
-    (converts : X → Error → Type 0) (map_of : UnshallowCheck N → RefMap) (knows : UnshallowCheck N → Knowledge)
+pub in_session : {N I A C P X : Type 0} (parties : Parties (CheckedNegotiation N) I A ShallowMemory C P X)
+    (converts : X → Error → Type 0) (map_of : CheckedNegotiation N → RefMap) (knows : CheckedNegotiation N → Knowledge)
     (shaken : Handshake) (request : Request) (made : RefMap) (known : Knowledge)
     (is_in : ObjectId → Bool) (boundary boundary' : List ObjectId) (old : Reading) (consumer : C)
     (report report' : Result (Option Outcome) Error) (new new' : Reading) (consumer' : C) (store store' : ShallowMemory)
-    (agent agent' : FeatureValue) (more more' : List FeatureValue) → store.ids.items ≡ boundary → store'.ids.items ≡ boundary'
+    (agent agent' : FeatureValue) (more more' : List FeatureValue) → store.ids.items ≡ boundary → store.locked ≡ false → store'.ids.items ≡ boundary'
     → agent ≡ agent' → more ≡ more' → report ≡ report' → new ≡ new'
     → ((id : ObjectId) → is_in id ≡ has_id boundary id)
     → FetchesMap parties converts map_of knows (session_call shaken agent more request) made known is_in old store consumer report new store' consumer'
     → FetchesInSession parties converts map_of knows (session_call shaken agent' more' request) made known boundary boundary' old
     consumer report' new' consumer'
 in_session parties converts map_of knows shaken request made known is_in boundary boundary' old consumer report report' new new' consumer' store store'
-    agent agent' more more' before after named message_text reports position same f = record {
+    agent agent' more more' before unlocked after named message_text reports position same f = record {
       store = store;
       store' = store';
       before = before;
+      unlocked = unlocked;
       after = after;
       fetches = record {
         first = f.first;
         last = f.last;
         negotiates = f.negotiates;
         knowing = f.knowing;
+        limited = f.limited;
+        filtered = f.filtered;
         received = f.received;
         reports = tells_alike converts is_in (has_id boundary) f.first f.last f.received report report' same reports f.reports;
         holds =
-            subst (λ (x : Reading). HoldsFetch parties (session_call shaken agent' more' request) f.first old store consumer f.received f.last x
-            store' consumer') position (subst (λ (x : List FeatureValue). HoldsFetch parties (session_call shaken agent' x request) f.first
+            subst (λ (x : Reading). HoldsFetch parties (session_call shaken agent' more' request).fetch f.first old store consumer f.received f.last x
+            store' consumer') position (subst (λ (x : List FeatureValue). HoldsFetch parties (session_call shaken agent' x request).fetch f.first
             old store consumer f.received f.last new store' consumer') message_text
-            (subst (λ (x : FeatureValue). HoldsFetch parties (session_call shaken x more request) f.first old store
+            (subst (λ (x : FeatureValue). HoldsFetch parties (session_call shaken x more request).fetch f.first old store
             consumer f.received f.last new store' consumer') named f.holds));
         unsent = λ h. let u = f.unsent h in (sym position ∙ u.0, u.1);
       };
     }
 
 -- the same for a failed fetch, and the state after it
-pub refused_in_session : {N I A C P X : Type 0} (parties : Parties (UnshallowCheck N) I A ShallowMemory C P X)
-    (converts : X → Error → Type 0) (map_of : UnshallowCheck N → RefMap) (knows : UnshallowCheck N → Knowledge)
+pub refused_in_session : {N I A C P X : Type 0} (parties : Parties (CheckedNegotiation N) I A ShallowMemory C P X)
+    (converts : X → Error → Type 0) (map_of : CheckedNegotiation N → RefMap) (knows : CheckedNegotiation N → Knowledge)
     (shaken : Handshake) (request : Request) (made : RefMap) (known : Knowledge)
     (is_in : ObjectId → Bool) (boundary boundary' : List ObjectId) (old : Reading) (consumer : C)
     (report : Result (Option Outcome) Error) (new new' : Reading) (consumer' : C) (store store' : ShallowMemory)
     (agent agent' : FeatureValue) (more more' : List FeatureValue) (version : Protocol)
-    (e : Error) (state : State) (held kept : Handshake) → store.ids.items ≡ boundary → store'.ids.items ≡ boundary'
+    (e : Error) (state : State) (held kept : Handshake) → store.ids.items ≡ boundary → store.locked ≡ false → store'.ids.items ≡ boundary'
     → agent ≡ agent' → more ≡ more' → new ≡ new'
     → ((id : ObjectId) → is_in id ≡ has_id boundary id)
     → (f : FetchesMap parties converts map_of knows (session_call shaken agent more request) made known is_in old store consumer report new store'
@@ -167,9 +174,9 @@ pub refused_in_session : {N I A C P X : Type 0} (parties : Parties (UnshallowChe
     × (s.fetches.last.negotiated ≡ false → kept ≡ held)
 unfolding in_session
 refused_in_session parties converts map_of knows shaken request made known is_in boundary boundary' old consumer report new new' consumer' store
-    store' agent agent' more more' version e state held kept before after named message_text position same f h k = (
+    store' agent agent' more more' version e state held kept before unlocked after named message_text position same f h k = (
       in_session parties converts map_of knows shaken request made known is_in boundary boundary' old consumer report report new new' consumer'
-          store store' agent agent' more more' before after named message_text refl position same f,
+          store store' agent agent' more more' before unlocked after named message_text refl position same f,
       h,
       k,
     )
@@ -180,12 +187,12 @@ pub same_call : (shaken : Handshake) (report : Option (Vec ShallowUpdate Global)
     → session_call (record shaken { v1_shallow_updates = report }) agent more request ≡ session_call shaken agent more request
 same_call shaken report agent more request e =
     ap (λ (x : List ShallowUpdate). let call = session_call shaken agent more request in
-    record call { fetch_options = record call.fetch_options { reported = x } }) e
+    record call { fetch = record call.fetch { fetch_options = record call.fetch.fetch_options { reported = x } } }) e
 
 -- a fetch with the same call, and the state after it
-pub carried_by : {N I S A C P X : Type 0} (parties : Parties (UnshallowCheck N) I A S C P X) (converts : X → Error → Type 0)
-    (map_of : UnshallowCheck N → RefMap) (knows : UnshallowCheck N → Knowledge) (made : RefMap) (known : Knowledge) (is_in : ObjectId → Bool) (old : Reading) (store : S)
-    (consumer : C) (report : Result (Option Outcome) Error) (new : Reading) (store' : S) (consumer' : C) (call call' : FetchCall)
+pub carried_by : {N I S A C P X : Type 0} (parties : Parties (CheckedNegotiation N) I A S C P X) (converts : X → Error → Type 0)
+    (map_of : CheckedNegotiation N → RefMap) (knows : CheckedNegotiation N → Knowledge) (made : RefMap) (known : Knowledge) (is_in : ObjectId → Bool) (old : Reading) (store : S)
+    (consumer : C) (report : Result (Option Outcome) Error) (new : Reading) (store' : S) (consumer' : C) (call call' : SessionCall)
     (is_negotiated : Bool) (version : Protocol) (state : State) (shaken kept : Handshake) → call ≡ call'
     → ((f : FetchesMap parties converts map_of knows call made known is_in old store consumer report new store' consumer')
     × (f.last.negotiated ≡ is_negotiated)) → state ≡ state_after_fetch is_negotiated version report
@@ -194,7 +201,7 @@ pub carried_by : {N I S A C P X : Type 0} (parties : Parties (UnshallowCheck N) 
     × (state ≡ state_after_fetch f.last.negotiated version report) × (f.last.negotiated ≡ false → kept ≡ shaken)
 carried_by parties converts map_of knows made known is_in old store consumer report new store' consumer' call call' is_negotiated version state
     shaken kept e f s k =
-    subst (λ (x : FetchCall). (f : FetchesMap parties converts map_of knows x made known is_in old store consumer report new store' consumer')
+    subst (λ (x : SessionCall). (f : FetchesMap parties converts map_of knows x made known is_in old store consumer report new store' consumer')
     × (state ≡ state_after_fetch f.last.negotiated version report) × (f.last.negotiated ≡ false → kept ≡ shaken)) e
     (f.0, s ∙ ap (λ (b : Bool). state_after_fetch b version report) (sym f.1), λ h. k (sym f.1 ∙ h))
 

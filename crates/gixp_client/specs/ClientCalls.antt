@@ -1,6 +1,7 @@
 -- The calls of a client's session: one handshake, then ref maps and fetches.
-use Rattle.std.specs.Prelude.{◌≡◌, ◌⊎◌, ℕ, Bool, false, List, [], ◌∷◌, map, Option, Some, None, Vec, Result, Ok, Err}
+use Rattle.std.specs.Prelude.{◌≡◌, ◌⊎◌, ◌||◌, is_some, ℕ, Bool, false, List, [], ◌∷◌, map, Option, Some, None, Vec, Result, Ok, Err, string_bytes}
 use Rattle.std.specs.BTreeSet.{contains}
+use Rattle.std.specs.Option.{option_map, option_copied}
 use Rattle.std.specs.declared.alloc.Global.{Global}
 use Rattle.gixp_packetline.specs.Reading.{Reading}
 use Rattle.gixp_transport.specs.Greeting.{Parameter}
@@ -39,7 +40,12 @@ use Rattle.gixp_fetch.specs.Mapped.{Knowledge}
 use Rattle.gixp_client.specs.Boundaries.{has_id}
 use Rattle.gixp_client.specs.Unshallowed.{known_alone}
 use Rattle.gixp_client.specs.ClientError.{IsReportOf, of_request, of_shake}
+use Rattle.gixp_client.specs.IdSpecs.{are_ids, SeesRefs}
+use Rattle.gixp_client.specs.SentTags.{sent_tags}
 use Rattle.gixp_client.specs.Tables.{asked_table}
+use Rattle.gixp_client.specs.Windows.{most_haves}
+use Rattle.gixp_client.specs.declared.filter.Filtered.{Filtered}
+use Rattle.gixp_client.specs.declared.windows.Windowed.{Windowed}
 use Rattle.gixp_client.specs.declared.error.Error.{Error}
 use Rattle.gixp_client.specs.declared.error.Error.TheVariants.{Memory}
 use Rattle.gixp_client.specs.declared.request.Request.{Request}
@@ -81,12 +87,19 @@ GivesRefs agent shaken plain old (Some here) refs = refs ≡ here.items
 GivesRefs agent shaken plain old None refs =
     (listed : Vec Ref Global) × (new : Reading) × ListsInSession agent shaken plain old new (Ok listed) × (refs ≡ listed.items)
 
--- the result of a ref map by the refspecs of a request, as the handshake obtains it
+-- no list of refs is needed for a ref map: the session has the refs, or the refspecs are ids
+abbrev pub needs_no_list : Request → Handshake → Bool
+needs_no_list request shaken = is_some shaken.refs || are_ids (asked_specs request)
+
+-- the result of a ref map by the refspecs of a request, as the handshake obtains it from these refs
 pub record MapsInSession (request : Request) (agent : FeatureValue) (shaken : Handshake) (plain : Bool) (old new : Reading)
     (r : Result RefMap MapError) : Type 0 where
   pub context : Context
   pub asked : context_value context ≡ asked_specs request
-  pub obtains : Obtains (asked_table request.wants_progress request.uri_protocols) agent context shaken plain old new r
+  pub seen : Option (Vec Ref Global)
+  pub sees : SeesRefs (are_ids (asked_specs request)) shaken.refs seen
+  pub obtains : Obtains (asked_table request.wants_progress request.uri_protocols) agent context (record shaken { refs = seen })
+      plain old new r
 
 -- the result of a fetch, without a type of the caller's
 abbrev pub IsReportedResult : {A X : Type 0} → (X → Error → Type 0) → Result (Option Outcome) (FetchError A X) → Result (Option Outcome) Error
@@ -126,39 +139,58 @@ module _ {N I A S C P X : Type 0} (parties : Parties N I A S C P X) where
     pub reports : IsReportedResult converts received report
     pub holds : HoldsFetch call negotiate old store consumer received negotiate' new store' consumer'
 
-module _ {N I S A C P X : Type 0} (parties : Parties (UnshallowCheck N) I A S C P X) (converts : X → Error → Type 0)
-    (map_of : UnshallowCheck N → RefMap) (knows : UnshallowCheck N → Knowledge) where
-  -- a fetch whose negotiation is over this map, has this knowledge, and checks the shallow updates against this boundary
-  pub record FetchesMap (call : FetchCall) (made : RefMap) (known : Knowledge) (is_in : ObjectId → Bool) (old : Reading) (store : S)
+-- a fetch of a session: the call of the lower fetch, the limit of haves in a request, and the filter of the first request
+pub record SessionCall : Type 0 where
+  pub fetch : FetchCall
+  pub most_haves : ℕ
+  pub filter : Option (List ℕ)
+
+-- a negotiation with a limit of haves and a filter, which checks the shallow updates
+abbrev pub CheckedNegotiation : Type 0 → Type 0
+CheckedNegotiation N = UnshallowCheck (Filtered (Windowed N))
+
+module _ {N I S A C P X : Type 0} (parties : Parties (CheckedNegotiation N) I A S C P X) (converts : X → Error → Type 0)
+    (map_of : CheckedNegotiation N → RefMap) (knows : CheckedNegotiation N → Knowledge) where
+  -- a fetch whose negotiation is over this map, has this knowledge, this limit of haves and this filter, and checks the shallow
+  -- updates against this boundary
+  pub record FetchesMap (call : SessionCall) (made : RefMap) (known : Knowledge) (is_in : ObjectId → Bool) (old : Reading) (store : S)
       (consumer : C) (report : Result (Option Outcome) Error) (new : Reading) (store' : S) (consumer' : C) : Type 0 where
-    pub first : UnshallowCheck N
-    pub last : UnshallowCheck N
+    pub first : CheckedNegotiation N
+    pub last : CheckedNegotiation N
     pub negotiates : map_of first ≡ made
     pub knowing : knows first ≡ known
+    pub limited : first.negotiation.negotiation.most ≡ call.most_haves
+    pub filtered : option_copied first.negotiation.filter ≡ call.filter
     pub received : Result (Option Outcome) (FetchError A X)
     pub reports : ReportsKnown converts is_in first last received report
-    pub holds : HoldsFetch parties call first old store consumer received last new store' consumer'
+    pub holds : HoldsFetch parties call.fetch first old store consumer received last new store' consumer'
     -- without a negotiated round nothing was sent, and the consumer received nothing
     pub unsent : last.negotiated ≡ false → (new ≡ old) × (consumer' ≡ consumer)
 
 -- the arguments of a session's fetch
-abbrev pub session_call : Handshake → FeatureValue → List FeatureValue → Request → FetchCall
-session_call shaken agent more request = call_of (asked_table request.wants_progress request.uri_protocols) shaken agent more
-    request.tags (shallow_value request.shallow) request.rejects_shallow
+abbrev pub session_call : Handshake → FeatureValue → List FeatureValue → Request → SessionCall
+session_call shaken agent more request = record {
+  fetch = call_of (asked_table request.wants_progress request.uri_protocols) shaken agent more
+      (sent_tags shaken.server_protocol_version shaken.capabilities request.tags) (shallow_value request.shallow)
+      request.rejects_shallow;
+  most_haves = most_haves shaken.server_protocol_version request.is_over_pipes;
+  filter = option_map string_bytes request.filter;
+}
 
 -- the knowledge of its negotiation
 abbrev pub session_knowledge : Request → Objects → LocalRefs → Knowledge
 session_knowledge request objects refs =
     record { tags = request.tags; shallow = request.shallow; commits = objects; existing = objects; refs = refs }
 
-module _ {N I A C P X : Type 0} (parties : Parties (UnshallowCheck N) I A ShallowMemory C P X) (converts : X → Error → Type 0)
-    (map_of : UnshallowCheck N → RefMap) (knows : UnshallowCheck N → Knowledge) where
-  -- a session's fetch, which leads from one shallow boundary to another
-  pub record FetchesInSession (call : FetchCall) (made : RefMap) (known : Knowledge) (boundary boundary' : List ObjectId) (old : Reading)
+module _ {N I A C P X : Type 0} (parties : Parties (CheckedNegotiation N) I A ShallowMemory C P X) (converts : X → Error → Type 0)
+    (map_of : CheckedNegotiation N → RefMap) (knows : CheckedNegotiation N → Knowledge) where
+  -- a session's fetch, which leads from one shallow boundary to another; the store isn't locked before it
+  pub record FetchesInSession (call : SessionCall) (made : RefMap) (known : Knowledge) (boundary boundary' : List ObjectId) (old : Reading)
       (consumer : C) (report : Result (Option Outcome) Error) (new : Reading) (consumer' : C) : Type 0 where
     pub store : ShallowMemory
     pub store' : ShallowMemory
     pub before : store.ids.items ≡ boundary
+    pub unlocked : store.locked ≡ false
     pub after : store'.ids.items ≡ boundary'
     pub fetches : FetchesMap parties converts map_of knows call made known (has_id boundary) old store consumer report new store' consumer'
 

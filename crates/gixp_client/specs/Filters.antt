@@ -1,5 +1,6 @@
 -- The filter in the first request of a fetch (gitprotocol-v2, "fetch"; git-rev-list, "--filter").
-use Rattle.std.specs.Prelude.{if◌then◌else◌, Bool, List, ℕ, Option, Some, None, codes}
+use Rattle.std.specs.Prelude.{◌≡◌, ◌⊎◌, if◌then◌else◌, Bool, true, List, ℕ, Option, Some, None, codes, String}
+use Rattle.std.specs.declared.alloc.Global.{Global}
 use Rattle.gixp_requests.specs.Arguments.{ArgumentsValue, can_use, asks_filter}
 use Rattle.gixp_requests.specs.Command.{git_table}
 use Rattle.gixp_requests.specs.Feature.{has_feature}
@@ -15,3 +16,7 @@ with_filter (Some filter) a = if can_use (codes "filter") a then asks_filter fil
 -- the server offers filters: as a feature of the command `fetch` under version 2, as a capability under the others
 abbrev pub offers_filter : Handshake → Bool
 offers_filter shaken = has_feature (codes "filter") (default_features git_table Fetch shaken.server_protocol_version shaken.capabilities)
+
+-- there is no filter, or the server offers filters
+abbrev pub IsOffered : Option (String Global) → Handshake → Type 0
+IsOffered filter shaken = (filter ≡ None) ⊎ (offers_filter shaken ≡ true)

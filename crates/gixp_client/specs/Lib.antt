@@ -1,5 +1,7 @@
 pub mod Windows
 pub mod Tables
+pub mod SentTags
+pub mod IdSpecs
 pub mod Unshallowed
 pub mod Filters
 pub mod ClientError

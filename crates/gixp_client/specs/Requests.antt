@@ -1,5 +1,7 @@
 -- The request of a session (git-fetch, "OPTIONS").
-use Rattle.std.specs.Prelude.{◌≡◌, ℕ, ⊤, true, false, List, [], ◌∷◌, ◌++◌, Some, None, Ok, Err, String, string_bytes}
+use Rattle.std.specs.Prelude.{◌≡◌, ◌==◌, ◌||◌, ℕ, nat_eq, ⊤, Bool, true, false, if◌then◌else◌, List, [], ◌∷◌, ◌++◌, drop, codes, Some, None, Ok, Err, String, string_bytes}
+use Rattle.std.specs.List.{starts_with}
+use Rattle.std.specs.Str.{bytes_eq}
 use Rattle.std.specs.declared.alloc.Global.{Global}
 use Rattle.bstr.specs.Owned.{bstring_bytes}
 use Rattle.gixp_shallow.specs.declared.shallow.Shallow.TheVariants.{NoChange}
@@ -26,15 +28,32 @@ pub record IsDefaultRequest (r : Request) : Type 0 where
   pub wants_progress : r.wants_progress ≡ true
   pub without_uris : r.uri_protocols ≡ Neither
 
+-- a refspec without its sign whose source is `@` alone
+abbrev pub has_at : List ℕ → Bool
+has_at body = bytes_eq body (codes "@") || starts_with nat_eq body (codes "@:")
+
+-- this source means `HEAD` (gitrevisions, "@")
+abbrev pub with_head : List ℕ → List ℕ
+with_head body = if has_at body then codes "HEAD" ++ drop 1 body else body
+
+-- the sign of a refspec: `+` or `^`
+abbrev pub is_sign : ℕ → Bool
+is_sign b = b == 43 || b == 94
+
+-- the text of a refspec, with `HEAD` for a source that is `@` alone
+abbrev pub spelled : List ℕ → List ℕ
+spelled [] = []
+spelled (b ∷ body) = if is_sign b then b ∷ with_head body else with_head (b ∷ body)
+
 -- the refspec of this text is appended
 pub record AddsSpec (text : List ℕ) (old new : Request) : Type 0 where
   pub added : RefSpec
-  pub value : spec_of text ≡ Ok (owned_value_of added)
+  pub value : spec_of (spelled text) ≡ Ok (owned_value_of added)
   pub following : new.refspecs.items ≡ old.refspecs.items ++ added ∷ []
 
 -- the text isn't a refspec, for this reason; or an allocation failed
 abbrev pub IsSpecRefusal : List ℕ → Error → Type 0
-IsSpecRefusal text (error.Refspec spec why) = (bstring_bytes spec ≡ text) × (spec_of text ≡ Err why)
+IsSpecRefusal text (error.Refspec spec why) = (bstring_bytes spec ≡ text) × (spec_of (spelled text) ≡ Err why)
 IsSpecRefusal text error.Memory = ⊤
 IsSpecRefusal text _ = ⊥
 

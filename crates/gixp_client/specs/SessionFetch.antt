@@ -11,19 +11,18 @@ use Rattle.gixp_fetch.specs.FetchShallow.{shallow_value, is_change}
 use Rattle.gixp_fetch.specs.Mapped.{Knowledge}
 use Rattle.gixp_fetch.specs.declared.options.Outcome.{Outcome}
 use Rattle.gixp_client.specs.Boundaries.{IsLeftBoundary, IsBoundaryAfter}
-use Rattle.gixp_client.specs.ClientCalls.{session_call, session_knowledge, FetchesInSession}
+use Rattle.gixp_client.specs.ClientCalls.{CheckedNegotiation, session_call, session_knowledge, FetchesInSession}
 use Rattle.gixp_client.specs.ClientError.{IsUnsent}
 use Rattle.gixp_client.specs.ClientNames.{client_feature, named_by, id_features}
-use Rattle.gixp_client.specs.ClientPromise.{IsOneRun}
+use Rattle.gixp_client.specs.ClientPromise.{IsRunOrIds}
 use Rattle.gixp_client.specs.SessionStates.{IsRefusedFetch}
 use Rattle.gixp_client.specs.declared.error.Error.{Error}
 use Rattle.gixp_client.specs.declared.fetched.Fetched.{Fetched}
 use Rattle.gixp_client.specs.declared.request.Request.{Request}
 use Rattle.gixp_client.specs.declared.session.Session.{Session}
-use Rattle.gixp_client.specs.declared.unshallow_check.UnshallowCheck.{UnshallowCheck}
 
-module _ {N I A C P X T L S : Type 0} (parties : Parties (UnshallowCheck N) I A ShallowMemory C P X)
-    (converts : X → Error → Type 0) (map_of : UnshallowCheck N → RefMap) (knows : UnshallowCheck N → Knowledge)
+module _ {N I A C P X T L S : Type 0} (parties : Parties (CheckedNegotiation N) I A ShallowMemory C P X)
+    (converts : X → Error → Type 0) (map_of : CheckedNegotiation N → RefMap) (knows : CheckedNegotiation N → Knowledge)
     (reading : T → Reading) where
   -- a session fetches the refs of a map into a repository with these objects, refs and shallow boundary, with this result
   abbrev pub FetchesRefs : RefMap → Request → Objects → LocalRefs → (boundary boundary' : List ObjectId) → (old new : Session T L P S)
@@ -53,13 +52,14 @@ module _ {N I A C P X T L S : Type 0} (parties : Parties (UnshallowCheck N) I A 
       × IsRefusedFetch f.fetches.last.negotiated old.shaken.server_protocol_version report e new.state
       × (f.fetches.last.negotiated ≡ false → new.shaken ≡ old.shaken))
 
-module _ {N I A C P X T : Type 0} (parties : Parties (UnshallowCheck N) I A ShallowMemory C P X)
-    (converts : X → Error → Type 0) (map_of : UnshallowCheck N → RefMap) (knows : UnshallowCheck N → Knowledge)
+module _ {N I A C P X T : Type 0} (parties : Parties (CheckedNegotiation N) I A ShallowMemory C P X)
+    (converts : X → Error → Type 0) (map_of : CheckedNegotiation N → RefMap) (knows : CheckedNegotiation N → Knowledge)
     (reading : T → Reading) where
-  -- a session of one fetch is one run of the law `headline`; if the map is empty, there was no fetch
+  -- a session with one fetch is one run of the law `headline`, or fetched ids without a list of refs; if the map is empty, there was
+  -- no fetch
   abbrev pub FetchesOnce : List ℕ → Request → Objects → LocalRefs → List ObjectId → T → (consumer consumer' : C) → RefMap × Fetched → Type 0
   FetchesOnce agent request objects refs boundary transport consumer consumer' received =
       ((received.0.mappings.items ≡ []) × (received.1.outcome ≡ None) × (consumer' ≡ consumer))
       ⊎ ((end : Reading)
-      × IsOneRun parties converts map_of knows (client_feature agent) [] request (reading transport) received.0
+      × IsRunOrIds parties converts map_of knows (client_feature agent) [] request (reading transport) received.0
       (session_knowledge request objects refs) boundary consumer (Ok received.1.outcome) end consumer')

@@ -1,10 +1,14 @@
 -- The list of refs that a session asks for and keeps (gitprotocol-v2, "ls-refs").
-use Rattle.std.specs.Prelude.{◌≡◌, ◌⊎◌, Bool, Some, Vec, Result, Ok, Err}
+use Rattle.std.specs.Prelude.{◌≡◌, ◌⊎◌, Bool, true, false, Some, Vec, Result, Ok, Err}
 use Rattle.std.specs.declared.alloc.Global.{Global}
 use Rattle.gixp_packetline.specs.Reading.{Reading}
+use Rattle.gixp_progress.specs.Progress.{ProgressCall, ReportedCalls}
 use Rattle.gixp_refs.specs.declared.handshake.Ref.{Ref}
 use Rattle.gixp_response.specs.Sections.{is_flush}
+use Rattle.gixp_refmap.specs.ListingProgress.{listing_calls, ReportsListedMap}
 use Rattle.gixp_refmap.specs.declared.ls_refs.error.Error.{Error as ListError}
+use Rattle.gixp_refmap.specs.declared.refmap.init.Error.{Error as MapError}
+use Rattle.gixp_refmap.specs.declared.refmap.map.RefMap.{RefMap}
 use Rattle.gixp_client.specs.ClientCalls.{ListsInSession}
 use Rattle.gixp_client.specs.ClientNames.{named_by}
 use Rattle.gixp_client.specs.ListEnds.{IsUnasked, whole_refs}
@@ -29,3 +33,14 @@ module _ {T L P S : Type 0} (plain : Bool) (reading : T → Reading) where
       ⊎ ((listed : Result (Vec Ref Global) ListError) × AsksForRefs old new listed
       × (whole_refs listed (is_flush (reading new.transport.inner).stopped) ≡ Err e)
       × (new.state ≡ state_after_refusal old.shaken.server_protocol_version e) × (new.shaken ≡ old.shaken))
+
+module _ {P : Type 0} (reported : P → ProgressCall → P → Type 0) where
+  -- the calls of the progress reporter for the command `ls-refs`; a list that failed before its command was sent makes none
+  abbrev pub ReportsAsked : P → Result (Unit {0}) Error → P → Type 0
+  ReportsAsked old (Ok u) new = ReportedCalls reported old listing_calls new
+  ReportsAsked old (Err e) new = (new ≡ old) ⊎ ReportedCalls reported old listing_calls new
+
+  -- the calls for a ref map: none if no list of refs is needed
+  abbrev pub ReportsMap : (needs_no_list : Bool) → P → Result RefMap MapError → P → Type 0
+  ReportsMap true old r new = new ≡ old
+  ReportsMap false old r new = ReportsListedMap reported old r new

@@ -1,6 +1,8 @@
 -- The state of a session after a failed call: at a stop, ended by the server, or broken (gitprotocol-pack, "pkt-line Format";
 -- gitprotocol-v2, "Command Request").
-use Rattle.std.specs.Prelude.{◌≡◌, ◌⊎◌, ⊤, Bool, true, false, not, ◌&&◌, if◌then◌else◌, Option, Some, None, is_some, Result, Ok, Err}
+use Rattle.std.specs.Option.{option_map}
+use Rattle.bstr.specs.Owned.{bstring_bytes}
+use Rattle.std.specs.Prelude.{◌≡◌, ◌⊎◌, ⊤, find, Bool, true, false, not, ◌&&◌, if◌then◌else◌, ℕ, List, Option, Some, None, is_some, Result, Ok, Err}
 use Rattle.gixp_packetline.specs.declared.protocol.Protocol.{Protocol}
 use Rattle.gixp_packetline.specs.declared.protocol.Protocol.TheVariants.{V0, V1, V2}
 use Rattle.gixp_capabilities.specs.declared.client.Error.{Error as ClientError}
@@ -11,6 +13,7 @@ use Rattle.gixp_fetch.specs.declared.options.Outcome.{Outcome}
 use Rattle.gixp_client.specs.ClientError.{message_in}
 use Rattle.gixp_client.specs.declared.error.Error.{Error}
 use Rattle.gixp_client.specs.declared.error.Error.TheVariants.{Refspec, UnsupportedListing, UnknownObjectFormat, Conflicts, Request, Answer, Unnegotiated, Objects, LocalRefs, MissingFeature, UnknownUnshallow, Reported, Memory}
+use Rattle.gixp_client.specs.declared.listen.Kept.{Kept}
 use Rattle.gixp_client.specs.declared.state.State.{State}
 use Rattle.gixp_client.specs.declared.state.State.TheVariants.{AtStop, Ended, Broken}
 
@@ -74,17 +77,22 @@ state_after_fetch false version (Err e) = AtStop
 abbrev pub is_reported : Bool → Bool → Bool
 is_reported goes_on has_error = not goes_on && has_error
 
--- the error of such a fetch
-abbrev pub IsReport : Error → Type 0
-IsReport (Reported message) = ⊤
-IsReport Memory = ⊤
-IsReport _ = ⊥
+-- the text of the first error that was kept
+abbrev pub first_error : Kept → Option (List ℕ)
+first_error messages = option_map (λ t. bstring_bytes t.text) (find (λ t. t.is_error) messages.texts.items)
 
-abbrev pub IsReportIn : Result (Option Outcome) Error → Type 0
-IsReportIn (Ok outcome) = ⊥
-IsReportIn (Err e) = IsReport e
+-- the error of such a fetch: that text; or an allocation failure, if none was kept or it can't be copied
+abbrev pub IsReport : Kept → Error → Type 0
+IsReport messages (Reported message) = first_error messages ≡ Some (bstring_bytes message)
+IsReport messages Memory = ⊤
+IsReport messages _ = ⊥
+
+abbrev pub IsReportIn : Kept → Result (Option Outcome) Error → Type 0
+IsReportIn messages (Ok outcome) = ⊥
+IsReportIn messages (Err e) = IsReport messages e
 
 -- a fetch failed: with its own error or a later allocation failure; or the server reported an error, and the session has ended
 abbrev pub IsRefusedFetch : (is_negotiated : Bool) → Protocol → Result (Option Outcome) Error → Error → State → Type 0
 IsRefusedFetch is_negotiated version report e state =
-    (((report ≡ Err e) ⊎ (e ≡ Memory)) × (state ≡ state_after_fetch is_negotiated version report)) ⊎ (IsReport e × (state ≡ Ended))
+    (((report ≡ Err e) ⊎ (e ≡ Memory)) × (state ≡ state_after_fetch is_negotiated version report))
+    ⊎ ((messages : Kept) × IsReport messages e × (state ≡ Ended))

@@ -5,6 +5,10 @@ use Rattle.gixp_requests.specs.Command.{TableValue, always, by, git_table}
 use Rattle.gixp_client.specs.declared.tables.UriProtocols.{UriProtocols}
 use Rattle.gixp_client.specs.declared.tables.UriProtocols.TheVariants.{Neither, Http, Https, Both}
 
+-- git's table without `ref-in-want`: a fetch requests objects by their ids, and no refs by their names
+abbrev pub id_table : TableValue
+id_table = record git_table { v2_fetch = codes "shallow" ∷ codes "filter" ∷ codes "sideband-all" ∷ [] }
+
 -- `no-progress` is the last feature and argument
 abbrev pub quiet : TableValue → TableValue
 quiet t = record t {
@@ -13,8 +17,8 @@ quiet t = record t {
 }
 
 abbrev pub plain_table : Bool → TableValue
-plain_table true = git_table
-plain_table false = quiet git_table
+plain_table true = id_table
+plain_table false = quiet id_table
 
 -- under version 2 this line names the protocols, if the server offers `packfile-uris`
 abbrev pub naming : List ℕ → TableValue → TableValue

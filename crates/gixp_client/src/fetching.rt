@@ -1,5 +1,5 @@
 //! The fetches of a session.
-ghost use Rattle.std.specs.Prelude.{◌≡◌, ◌≢◌, ◌⊎◌, true, false, None, Ok, Err, IfOk, IfErr, Option, Result};
+ghost use Rattle.std.specs.Prelude.{◌≡◌, ◌≢◌, ◌⊎◌, [], true, false, None, Ok, Err, IfOk, IfErr, OnOk, Option, Result};
 ghost use Rattle.std.specs.BTreeSet.{contains};
 ghost use Rattle.gixp_hash.specs.ObjectId.{id_cmp};
 ghost use Rattle.gixp_response.specs.Answer.{update_items};
@@ -8,6 +8,7 @@ ghost use Rattle.gixp_fetch.specs.Fetch.{parties_of};
 ghost use Rattle.gixp_client.specs.ClientCalls.{session_call, session_knowledge, FetchesMap};
 ghost use Rattle.gixp_client.specs.ClientError.{IsUnsent};
 ghost use Rattle.gixp_client.specs.ClientNames.{agent_of, own_features};
+ghost use Rattle.gixp_client.specs.Filters.{IsOffered};
 ghost use Rattle.gixp_client.specs.Unshallowed.{TakesKnown, KnowsAll};
 ghost use Rattle.gixp_client.specs.SessionStates.{state_after_outcome, state_after_fetch, is_reported, IsReportIn};
 
@@ -45,7 +46,8 @@ where
 {
     // Returns `MissingFeature` if the request has a filter and the server offers none.
     fn expect_filter(&self, request: &Request) -> Result<(), Error>
-        ensures { IfErr result (IsUnsent self.now.state request.now self.now.shaken) }
+        ensures offered { OnOk result (IsOffered request.now.filter self.now.shaken) }
+        ensures refused { IfErr result (IsUnsent self.now.state request.now self.now.shaken) }
     {
         if request.filter.is_none() || can_filter(self.alloc, &self.shaken)? {
             Ok(())
@@ -80,6 +82,8 @@ where
             × (self.new.state ≡ state_after_fetch f.last.negotiated self.old.shaken.server_protocol_version result)
             × (f.last.negotiated ≡ false → self.new.shaken ≡ self.old.shaken) }
         ensures known { IfOk result (TakesKnown (contains id_cmp wanted.entry.boundary.now)) }
+        ensures handshake { self.new.shaken ≡ record self.old.shaken { v1_shallow_updates = self.new.shaken.v1_shallow_updates } }
+        ensures name { self.new.name ≡ self.old.name }
     {
         let version = self.shaken.server_protocol_version;
         let alloc = self.alloc;
@@ -105,7 +109,7 @@ where
         goes_on: bool,
     ) -> Result<Option<Outcome>, Error>
         ensures reported { ((is_reported goes_on messages.now.has_error ≡ false) × (result ≡ received) × (self.new.state ≡ self.old.state))
-            ⊎ ((is_reported goes_on messages.now.has_error ≡ true) × IsReportIn result × (self.new.state ≡ State.Ended)) }
+            ⊎ ((is_reported goes_on messages.now.has_error ≡ true) × IsReportIn messages.now result × (self.new.state ≡ State.Ended)) }
         ensures transport { self.new.transport.inner ≡ self.old.transport.inner }
         ensures others { self.new ≡ record self.old { state = self.new.state } }
     {
@@ -143,6 +147,10 @@ where
         ensures known { IfOk result (λ f. KnowsAll repository.entry.boundary.now f.outcome) }
         ensures refused { IfErr result (⟦<AnyNegotiator as SessionFetch<'a, T, L, P, F, R, C>>⟧.fails map.now repository.entry
             request.now self.old self.new pack.old pack.new) }
+        ensures unreported { IfOk result (λ f. is_reported request.now.goes_on f.messages.has_error ≡ false) }
+        ensures filtered { OnOk result ((map.now.mappings.items ≡ []) ⊎ IsOffered request.now.filter self.old.shaken) }
+        ensures handshake { self.new.shaken ≡ record self.old.shaken { v1_shallow_updates = self.new.shaken.v1_shallow_updates } }
+        ensures name { self.new.name ≡ self.old.name }
     {
         let mut negotiator = request.algorithm.negotiator(self.alloc);
         self.fetch_with(map, repository, request, &mut negotiator, pack)
@@ -170,6 +178,10 @@ where
         ensures known { IfOk result (λ f. KnowsAll repository.entry.boundary.now f.outcome) }
         ensures refused { IfErr result (⟦<N as SessionFetch<'a, T, L, P, F, R, C>>⟧.fails map.now repository.entry
             request.now self.old self.new pack.old pack.new) }
+        ensures unreported { IfOk result (λ f. is_reported request.now.goes_on f.messages.has_error ≡ false) }
+        ensures filtered { OnOk result ((map.now.mappings.items ≡ []) ⊎ IsOffered request.now.filter self.old.shaken) }
+        ensures handshake { self.new.shaken ≡ record self.old.shaken { v1_shallow_updates = self.new.shaken.v1_shallow_updates } }
+        ensures name { self.new.name ≡ self.old.name }
     {
         self.expect_open()?;
         let alloc = self.alloc;

@@ -1,5 +1,5 @@
 //! Laws of the definitions, each a function whose contract is the law.
-ghost use Rattle.std.specs.Prelude.{◌≡◌, ℕ, Bool, List, Option, Some, None, Vec, Result, Ok};
+ghost use Rattle.std.specs.Prelude.{◌≡◌, ◌||◌, not, is_some, true, false, [], ℕ, Bool, List, Option, Some, None, Vec, Result, Ok};
 ghost use Rattle.std.specs.declared.alloc.Global.{Global as Allocator};
 ghost use Rattle.gixp_refs.specs.declared.handshake.Ref.{Ref};
 ghost use Rattle.gixp_refmap.specs.declared.refmap.init.Error.{Error as MapError};
@@ -12,14 +12,17 @@ ghost use Rattle.gixp_handshake.specs.declared.handshake.read.Handshake.{Handsha
 ghost use Rattle.gixp_fetch.specs.declared.options.Outcome.{Outcome};
 ghost use Rattle.gixp_fetch.specs.Fetch.{parties_of};
 ghost use Rattle.gixp_fetch.specs.Mapped.{Knowledge};
-ghost use Rattle.gixp_client.specs.ClientCalls.{OpensSession, MapsInSession, FetchesInSession, session_call};
+ghost use Rattle.gixp_client.specs.IdSpecs.{are_ids};
+ghost use Rattle.gixp_client.specs.ClientCalls.{asked_specs, OpensSession, MapsInSession, FetchesInSession, session_call};
 ghost use Rattle.gixp_client.specs.ClientMaps.{MapsRefsHere, ListsForMap};
 ghost use Rattle.gixp_client.specs.ClientPromise.{IsOneRun};
 ghost use Rattle.gixp_client.specs.declared.error.Error.{Error as SessionError};
 ghost use Rattle.gixp_client.specs.declared.request.Request.{Request};
 
 use crate::error::Error;
+use crate::filter::Filtered;
 use crate::unshallow_check::UnshallowCheck;
+use crate::windows::Windowed;
 use gixp_fetch::consume::ConsumePack;
 use gixp_fetch::laws::headline;
 use gixp_fetch::mapped::NegotiatesMap;
@@ -30,7 +33,7 @@ use gixp_sidebands::Interrupt;
 
 /// Opening a session, mapping its refs, and fetching the mapped refs is one run of the law
 /// [`headline`](gixp_fetch::laws::headline). So its clauses `refs`, `mappings`, `requests`, `few`, `pack` hold. Between these calls
-/// only the refs of the handshake may change.
+/// only the refs of the handshake may change. A session that maps ids without a list of refs is no such run.
 pub fn sessions_are_runs<'a, N: PaysForHaves + NegotiatesMap, I: Interrupt, P, C: ConsumePack<P>>()
 where
     C::Error: Into<Error>,
@@ -40,28 +43,33 @@ where
         (report : Result (Option Outcome) SessionError) (new : Reading) (consumer' : C)
         → OpensSession parameters plain start shaken handshake
         → MapsInSession request agent handshake plain shaken middle (Ok made)
+        → (is_some handshake.refs || not (are_ids (asked_specs request))) ≡ true
         → kept ≡ record handshake { refs = kept.refs }
         → FetchesInSession
-        (parties_of ⟦<UnshallowCheck<'a, N> as Negotiate>⟧.calls ⟦<ShallowMemory as ShallowStore>⟧.calls I.polls C.consumes plain)
+        (parties_of ⟦<UnshallowCheck<'a, Filtered<'a, Windowed<N>>> as Negotiate>⟧.calls ⟦<ShallowMemory as ShallowStore>⟧.calls I.polls C.consumes plain)
         ⟦<C::Error as Into<Error>>⟧.converts
-        ⟦<UnshallowCheck<'a, N> as NegotiatesMap>⟧.map_of ⟦<UnshallowCheck<'a, N> as NegotiatesMap>⟧.knows (session_call kept agent more request)
+        ⟦<UnshallowCheck<'a, Filtered<'a, Windowed<N>>> as NegotiatesMap>⟧.map_of ⟦<UnshallowCheck<'a, Filtered<'a, Windowed<N>>> as NegotiatesMap>⟧.knows (session_call kept agent more request)
         made known boundary after middle consumer report new consumer'
-        → IsOneRun (parties_of ⟦<UnshallowCheck<'a, N> as Negotiate>⟧.calls ⟦<ShallowMemory as ShallowStore>⟧.calls I.polls C.consumes plain)
+        → IsOneRun (parties_of ⟦<UnshallowCheck<'a, Filtered<'a, Windowed<N>>> as Negotiate>⟧.calls ⟦<ShallowMemory as ShallowStore>⟧.calls I.polls C.consumes plain)
         ⟦<C::Error as Into<Error>>⟧.converts
-        ⟦<UnshallowCheck<'a, N> as NegotiatesMap>⟧.map_of ⟦<UnshallowCheck<'a, N> as NegotiatesMap>⟧.knows agent more request start made known boundary
+        ⟦<UnshallowCheck<'a, Filtered<'a, Windowed<N>>> as NegotiatesMap>⟧.map_of ⟦<UnshallowCheck<'a, Filtered<'a, Windowed<N>>> as NegotiatesMap>⟧.knows agent more request start made known boundary
         consumer report new consumer' }
 {
-    headline::<UnshallowCheck<'a, N>, ShallowMemory, I, P, C>();
+    headline::<UnshallowCheck<'a, Filtered<'a, Windowed<N>>>, ShallowMemory, I, P, C>();
 }
 
-/// If the session already has the server's refs, it makes a ref map from them and sends nothing. Otherwise the server lists the
-/// refs that have the prefixes of the refspecs, at each call anew. So a list for other refspecs is never used.
+/// If the session already has the server's refs, it makes a ref map from them and sends nothing. Otherwise, if the refspecs are ids,
+/// it makes the ref map from no refs and sends nothing, as git does. Otherwise the server lists the refs that have the prefixes of the
+/// refspecs, at each call anew. So a list for other refspecs is never used.
 pub fn maps_list_again()
     ensures here { (request : Request) (agent : FeatureValue) (shaken : Handshake) (refs : Vec Ref Allocator) (plain : Bool)
         (old new : Reading) (made : Result RefMap MapError) → shaken.refs ≡ Some refs
         → MapsInSession request agent shaken plain old new made
         → MapsRefsHere request shaken refs.items old new made }
+    ensures ids { (request : Request) (agent : FeatureValue) (shaken : Handshake) (plain : Bool) (old new : Reading)
+        (made : Result RefMap MapError) → shaken.refs ≡ None → are_ids (asked_specs request) ≡ true
+        → MapsInSession request agent shaken plain old new made → MapsRefsHere request shaken [] old new made }
     ensures again { (request : Request) (agent : FeatureValue) (shaken : Handshake) (plain : Bool) (old new : Reading)
-        (made : Result RefMap MapError) → shaken.refs ≡ None → MapsInSession request agent shaken plain old new made
-        → ListsForMap request agent shaken plain old new made }
+        (made : Result RefMap MapError) → shaken.refs ≡ None → are_ids (asked_specs request) ≡ false
+        → MapsInSession request agent shaken plain old new made → ListsForMap request agent shaken plain old new made }
 {}

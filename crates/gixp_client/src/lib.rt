@@ -2,6 +2,7 @@
 #![tactic(auto)]
 
 mod boundary;
+mod by_id;
 mod changes;
 mod class;
 mod conflict;
@@ -29,6 +30,7 @@ mod session;
 mod session_fetch;
 mod state;
 mod tables;
+mod tags;
 mod tap;
 mod unshallow_check;
 mod windows;

@@ -7,7 +7,7 @@ use crate::laws::sessions_are_runs;
 use crate::listen::Listener;
 use crate::repository::Repository;
 use crate::request::Request;
-use crate::run::FilteredNegotiation;
+use crate::run::MapNegotiation;
 use crate::session::Session;
 use crate::session_fetch::SessionFetch;
 use gixp_fetch::consume::ConsumePack;
@@ -20,7 +20,7 @@ use gixp_transport::Transport;
 use std::alloc::Global;
 
 /// Opens a session, maps and fetches what the request asks for, and closes the session. This is one run of the law
-/// [`headline`](gixp_fetch::laws::headline), unless the map is empty.
+/// [`headline`](gixp_fetch::laws::headline), unless the map is empty or ids were fetched without a list of refs.
 ///
 /// # Errors
 ///
@@ -90,7 +90,7 @@ where
     let mut session = Session::open(alloc, transport, agent, listener)?;
     let map = session.map(request)?;
     let fetched = session.fetch_with(&map, repository, request, negotiator, pack)?;
-    sessions_are_runs::<FilteredNegotiation<'a, F, R, N>, NeverInterrupt, Discard, C>();
+    sessions_are_runs::<MapNegotiation<'a, F, R, N>, NeverInterrupt, Discard, C>();
     let _ = session.close();
     Ok((map, fetched))
 }

@@ -1,5 +1,5 @@
 //! The parts of a session's fetch before and after its run.
-ghost use Rattle.std.specs.Prelude.{◌≡◌, ◌⊎◌, if◌then◌else◌, None, IfOk, IfErr, Ok, Err};
+ghost use Rattle.std.specs.Prelude.{◌≡◌, ◌⊎◌, if◌then◌else◌, false, None, IfOk, IfErr, Ok, Err};
 ghost use Rattle.gixp_response.specs.Answer.{update_items};
 ghost use Rattle.gixp_fetch.specs.FetchShallow.{shallow_value, is_change};
 ghost use Rattle.gixp_client.specs.Filters.{offers_filter};
@@ -21,7 +21,8 @@ use gixp_shallow::{Shallow, ShallowMemory, ShallowUpdate};
 use std::alloc::{AllocError, Global};
 
 pub(crate) fn store_of(alloc: Global, boundary: &[ObjectId]) -> Result<ShallowMemory, AllocError>
-    ensures { IfOk result (λ store. store.ids.items ≡ boundary.now) }
+    ensures ids { IfOk result (λ store. store.ids.items ≡ boundary.now) }
+    ensures unlocked { IfOk result (λ store. store.locked ≡ false) }
 {
     let ids = Vec::from_slice(alloc, boundary)?;
     Ok(ShallowMemory::new(ids))
@@ -70,7 +71,7 @@ pub(crate) fn is_reported(messages: &Kept, goes_on: bool) -> bool
 
 /// The error that the server reported, with its message if that was kept.
 pub(crate) fn reported(messages: &Kept) -> Error
-    ensures { IsReport result }
+    ensures { IsReport messages.now result }
 {
     match messages.first_error() {
         Some(message_text) => match message_text.text.clone() {

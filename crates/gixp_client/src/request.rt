@@ -1,10 +1,11 @@
 //! The request of a client.
-ghost use Rattle.std.specs.Prelude.{◌≡◌, IfOk, IfErr, OnOk, OnErr, map};
+ghost use Rattle.std.specs.Prelude.{◌≡◌, ◌++◌, IfOk, IfErr, OnOk, OnErr, map};
 ghost use Rattle.gixp_refspec.specs.RefSpec.{owned_value_of};
 ghost use Rattle.gixp_refmap.specs.Tags.{tags_asked};
 ghost use Rattle.gixp_refmap.specs.Values.{context_value};
 ghost use Rattle.gixp_requests.specs.Command.{table_of};
 ghost use Rattle.gixp_client.specs.ClientCalls.{some_spec};
+ghost use Rattle.gixp_client.specs.Requests.{has_at, with_head, spelled};
 ghost use Rattle.gixp_client.specs.Tables.{asked_table};
 
 use crate::error::Error;
@@ -25,7 +26,8 @@ pub struct Request {
     alloc: Global,
     /// The refspecs. Without any, only tags are mapped.
     pub refspecs: Vec<RefSpec>,
-    /// Which tags to fetch. The default is the tags that point into the fetched history.
+    /// Which tags to fetch. The default is the tags that point into the fetched history. A server of version 0 or 1 without
+    /// `include-tag` isn't asked for these. It may send them without being asked.
     pub tags: Tags,
     /// How much of the history to fetch. The default is everything that is missing.
     pub shallow: Shallow,
@@ -71,7 +73,8 @@ impl Request {
         }
     }
 
-    /// Adds a refspec, for example `+refs/heads/*:refs/remotes/origin/*` (git-fetch, "<refspec>").
+    /// Adds a refspec, for example `+refs/heads/*:refs/remotes/origin/*` (git-fetch, "<refspec>"). A source that is `@` alone
+    /// means `HEAD` (gitrevisions, "@").
     ///
     /// # Errors
     ///
@@ -82,7 +85,8 @@ impl Request {
         ensures stays { OnErr result (self.new.refspecs.items ≡ self.old.refspecs.items) }
         ensures others { self.new ≡ record self.old { refspecs = self.new.refspecs } }
     {
-        match parse(BStr::new(text), Operation::Fetch) {
+        let spelled = spelled(self.alloc, text)?;
+        match parse(BStr::new(&spelled), Operation::Fetch) {
             Ok(spec) => {
                 let spec = spec.to_owned(self.alloc)?;
                 self.refspecs.push(spec)?;
@@ -126,6 +130,41 @@ impl Request {
             extra_refspecs,
         })
     }
+}
+
+// Whether the source of a refspec without its sign is `@` alone.
+fn has_at(body: &[u8]) -> bool
+    ensures { result ≡ has_at body.now }
+{
+    body == b"@".as_slice() || body.starts_with(b"@:")
+}
+
+// Appends a refspec without its sign, with `HEAD` for a source that is `@` alone.
+fn push_with_head(text: &mut Vec<u8>, body: &[u8]) -> Result<(), AllocError>
+    ensures { OnOk result (text.new.items ≡ text.old.items ++ with_head body.now) }
+{
+    match body {
+        [_, rest @ ..] if has_at(body) => {
+            text.extend_from_slice(b"HEAD")?;
+            text.extend_from_slice(rest)
+        }
+        _ => text.extend_from_slice(body),
+    }
+}
+
+// The text of a refspec with `HEAD` for a source that is `@` alone.
+fn spelled(alloc: Global, text: &[u8]) -> Result<Vec<u8>, AllocError>
+    ensures { IfOk result (λ t. t.items ≡ spelled text.now) }
+{
+    let mut spelled = Vec::new(alloc);
+    match text {
+        [sign @ (b'+' | b'^'), body @ ..] => {
+            spelled.push(*sign)?;
+            push_with_head(&mut spelled, body)?;
+        }
+        _ => push_with_head(&mut spelled, text)?,
+    }
+    Ok(spelled)
 }
 
 fn copied_specs(specs: &Vec<RefSpec>) -> Result<Vec<RefSpec>, AllocError>

@@ -1,18 +1,19 @@
 //! One fetch of a session.
-ghost use Rattle.std.specs.Prelude.{◌≡◌, ◌≢◌, ◌≤◌, true, false, None, IfOk, string_bytes};
+ghost use Rattle.std.specs.Prelude.{◌≡◌, ◌≤◌, None, IfOk};
 ghost use Rattle.std.specs.BTreeSet.{contains};
 ghost use Rattle.gixp_hash.specs.ObjectId.{id_cmp};
-ghost use Rattle.gixp_packetline.specs.declared.protocol.Protocol.TheVariants.{V2};
 ghost use Rattle.gixp_fetch.specs.Fetch.{parties_of};
 ghost use Rattle.gixp_client.specs.ClientCalls.{HoldsAndReports, FetchesMap, session_call, session_knowledge};
 ghost use Rattle.gixp_client.specs.ClientNames.{agent_of, own_features};
 ghost use Rattle.gixp_client.specs.Unshallowed.{TakesKnown};
+ghost use Rattle.gixp_client.specs.Windows.{most_haves};
 
 use crate::error::Error;
 use crate::filter::Filtered;
 use crate::name::{SentName, identified, named};
 use crate::refusal::report;
 use crate::request::Request;
+use crate::tags::sent_tags;
 use crate::unshallow_check::{UnshallowCheck, known_alone};
 use crate::windows::{MOST_HAVES, Windowed};
 use gixp_fetch::consume::ConsumePack;
@@ -34,11 +35,18 @@ use gixp_transport::Transport;
 use std::alloc::Global;
 use std::collections::BTreeSet;
 
-/// The negotiation of a session's fetch, without the check of shallow updates.
-pub type FilteredNegotiation<'a, F, R, N> = Filtered<
+/// The negotiation over a ref map, without the parts that a session adds.
+pub(crate) type MapNegotiation<'a, F, R, N> = Negotiation<
     'a,
-    Windowed<Negotiation<'a, Shared<'a, F>, R, N, Shared<'a, F>, NoAlternates>>,
+    Shared<'a, F>,
+    R,
+    N,
+    Shared<'a, F>,
+    NoAlternates,
 >;
+
+/// The negotiation of a session's fetch, without the check of shallow updates.
+pub type FilteredNegotiation<'a, F, R, N> = Filtered<'a, Windowed<MapNegotiation<'a, F, R, N>>>;
 
 /// The negotiation of a session's fetch.
 pub type SessionNegotiation<'a, F, R, N> = UnshallowCheck<'a, FilteredNegotiation<'a, F, R, N>>;
@@ -46,9 +54,7 @@ pub type SessionNegotiation<'a, F, R, N> = UnshallowCheck<'a, FilteredNegotiatio
 /// The limit of haves in one request.
 pub(crate) fn most_haves(version: Protocol, is_over_pipes: bool) -> usize
     ensures some { 16 ≤ result }
-    ensures whole { version ≡ V2 → result ≡ usize.MAX }
-    ensures pipes { version ≢ V2 → is_over_pipes ≡ true → result ≡ MOST_HAVES }
-    ensures sockets { is_over_pipes ≡ false → result ≡ usize.MAX }
+    ensures limit { result ≡ most_haves version is_over_pipes }
 {
     match version {
         Protocol::V2 => usize::MAX,
@@ -97,7 +103,7 @@ where
     ensures fetched { HoldsAndReports
         (parties_of N.calls ⟦<ShallowMemory as ShallowStore>⟧.calls ⟦<NeverInterrupt as Interrupt>⟧.polls C.consumes T.is_plain)
         ⟦<C::Error as Into<Error>>⟧.converts
-        (session_call peer.entry.shaken.now (agent_of name.agent) (own_features name.session_id) request.now) negotiation.old
+        (session_call peer.entry.shaken.now (agent_of name.agent) (own_features name.session_id) request.now).fetch negotiation.old
         (T.reading peer.entry.transport.now) store.old pack.old result negotiation.new (T.reading peer.exit.1.0.now) store.new
         pack.new }
 {
@@ -110,6 +116,7 @@ where
         shaken.v1_shallow_updates = None;
         return Err(Error::Memory);
     };
+    let tags = sent_tags(request.tags, shaken);
     let context = Context {
         handshake: shaken,
         transport,
@@ -118,7 +125,7 @@ where
     let options = Options {
         shallow_file: store,
         shallow: &request.shallow,
-        tags: request.tags,
+        tags,
         reject_shallow_remote: request.rejects_shallow,
     };
     let mut never = NeverInterrupt;

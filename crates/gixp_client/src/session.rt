@@ -1,5 +1,5 @@
 //! A session with a server.
-ghost use Rattle.std.specs.Prelude.{◌≡◌, ◌≢◌, ◌⊎◌, true, [], Some, None, Ok, Err, IfOk, IfErr, OnOk, MatchResult, is_some, string_bytes, Result};
+ghost use Rattle.std.specs.Prelude.{◌≡◌, ◌≢◌, ◌⊎◌, true, [], Some, None, Ok, Err, IfOk, IfErr, OnOk, OnErr, MatchResult, is_some, string_bytes, Result};
 ghost use Rattle.std.specs.Option.{option_map};
 ghost use Rattle.gixp_transport.specs.declared.service.Service.TheVariants.{UploadPack};
 ghost use Rattle.gixp_transport.specs.Greeting.{parameters_of};
@@ -8,16 +8,16 @@ ghost use Rattle.gixp_refmap.specs.declared.refmap.map.RefMap.{RefMap as MadeMap
 ghost use Rattle.gixp_response.specs.Sections.{is_flush};
 ghost use Rattle.gixp_refmap.specs.Mapping.{unknown_format};
 ghost use Rattle.gixp_handshake.specs.HandshakeValues.{refs_value};
-ghost use Rattle.gixp_handshake.specs.ObtainProgress.{ReportsObtained};
 ghost use Rattle.gixp_handshake.specs.ShakeProgress.{ReportsHandshake};
-ghost use Rattle.gixp_client.specs.ClientCalls.{OpensSession, FailsToOpen, FailsWithoutAccount, GivesRefs, MapsInSession, ClosesSession};
+ghost use Rattle.gixp_client.specs.ClientCalls.{OpensSession, FailsToOpen, FailsWithoutAccount, GivesRefs, MapsInSession, ClosesSession, needs_no_list};
 ghost use Rattle.gixp_client.specs.ClientNames.{is_session_id, named_by};
 ghost use Rattle.gixp_client.specs.Filters.{offers_filter};
 ghost use Rattle.gixp_client.specs.ListEnds.{IsUnasked, are_whole, whole_map};
-ghost use Rattle.gixp_client.specs.SessionRefs.{KeepsListedRefs, ListFailsInSession};
+ghost use Rattle.gixp_client.specs.SessionRefs.{KeepsListedRefs, ListFailsInSession, ReportsAsked, ReportsMap};
 ghost use Rattle.gixp_client.specs.SessionStates.{state_after_map};
 ghost use Rattle.gixp_client.specs.declared.session.Session.{Session as AnySession};
 
+use crate::by_id::{are_ids, seen_refs};
 use crate::error::Error;
 use crate::list_ends::{are_whole, is_at_flush, unknown_format, whole_map, whole_refs};
 use crate::listen::Listener;
@@ -258,6 +258,7 @@ impl<T: Transport + Drop, L: Listener + Drop, P: NestedProgress + Drop> Session<
         ensures listed { OnOk result (KeepsListedRefs T.is_plain T.reading self.old self.new) }
         ensures ended { OnOk result (is_flush (T.reading self.new.transport.inner).stopped ≡ true) }
         ensures refused { IfErr result (ListFailsInSession T.is_plain T.reading self.old self.new) }
+        ensures report { ReportsAsked P.reported self.old.progress result self.new.progress }
         ensures stays { OnOk result (self.new.state ≡ self.old.state) }
         ensures name { self.new.name ≡ self.old.name }
     {
@@ -304,6 +305,7 @@ impl<T: Transport + Drop, L: Listener + Drop, P: NestedProgress + Drop> Session<
         ensures listed { self.old.shaken.refs ≡ None → OnOk result (KeepsListedRefs T.is_plain T.reading self.old self.new) }
         ensures ended { self.old.shaken.refs ≡ None → OnOk result (is_flush (T.reading self.new.transport.inner).stopped ≡ true) }
         ensures refused { IfErr result (ListFailsInSession T.is_plain T.reading self.old self.new) }
+        ensures report { self.old.shaken.refs ≡ None → ReportsAsked P.reported self.old.progress result self.new.progress }
         ensures stays { OnOk result (self.new.state ≡ self.old.state) }
         ensures name { self.new.name ≡ self.old.name }
     {
@@ -321,6 +323,7 @@ impl<T: Transport + Drop, L: Listener + Drop, P: NestedProgress + Drop> Session<
     pub fn refs(&mut self) -> Result<&[Ref], Error>
         ensures given { IfOk result (λ refs. GivesRefs (named_by self.old.name) self.old.shaken T.is_plain
             (T.reading self.old.transport.inner) self.old.shaken.refs refs.now) }
+        ensures here { OnErr result (self.old.shaken.refs ≡ None) }
         ensures refused { IfErr result (λ e. (new : AnySession T L P P.SubProgress) × ListFailsInSession T.is_plain T.reading self.old new e) }
     {
         match self.list() {
@@ -345,9 +348,10 @@ impl<T: Transport + Drop, L: Listener + Drop, P: NestedProgress + Drop> Session<
 
     /// Maps the server's refs by the refspecs of a request and the refspec of its tags (git-fetch, "<refspec>").
     ///
-    /// If the session has all refs, from the handshake or a call of `refs`, nothing is sent. Otherwise the server lists the refs
-    /// that have the prefixes of these refspecs, at each call anew, and only the map keeps them. A list for other refspecs is never
-    /// used ([`laws::maps_list_again`](crate::laws::maps_list_again)).
+    /// If the session has all refs, from the handshake or a call of `refs`, nothing is sent. Nor is it if each refspec names an
+    /// object by its id and no tags are requested. Otherwise the server lists the refs that have the prefixes of these refspecs, at
+    /// each call anew, and only the map keeps them. A list for other refspecs is never used
+    /// ([`laws::maps_list_again`](crate::laws::maps_list_again)).
     ///
     /// # Errors
     ///
@@ -361,16 +365,16 @@ impl<T: Transport + Drop, L: Listener + Drop, P: NestedProgress + Drop> Session<
         ensures mapped { IfOk result (λ m. MapsInSession request.now (named_by self.old.name)
             self.old.shaken T.is_plain
             (T.reading self.old.transport.inner) (T.reading self.new.transport.inner) (Ok m)) }
-        ensures whole { OnOk result (are_whole (is_some self.old.shaken.refs) (T.reading self.new.transport.inner).stopped ≡ true) }
+        ensures whole { OnOk result (are_whole (needs_no_list request.now self.old.shaken) (T.reading self.new.transport.inner).stopped ≡ true) }
         ensures format { OnOk result (unknown_format self.old.shaken.capabilities ≡ None) }
         ensures other { unknown_format self.old.shaken.capabilities ≢ None → self.new ≡ self.old }
         ensures refused { IfErr result (λ e. ((self.new ≡ self.old) × IsUnasked self.old.state self.old.shaken.capabilities e)
             ⊎ ((made : Result MadeMap MapError) × MapsInSession request.now (named_by self.old.name)
             self.old.shaken T.is_plain (T.reading self.old.transport.inner) (T.reading self.new.transport.inner) made
-            × (whole_map made (are_whole (is_some self.old.shaken.refs) (T.reading self.new.transport.inner).stopped) ≡ Err e)
-            × (self.new.state ≡ state_after_map (is_some self.old.shaken.refs) self.old.shaken.server_protocol_version e))) }
+            × (whole_map made (are_whole (needs_no_list request.now self.old.shaken) (T.reading self.new.transport.inner).stopped) ≡ Err e)
+            × (self.new.state ≡ state_after_map (needs_no_list request.now self.old.shaken) self.old.shaken.server_protocol_version e))) }
         ensures stays { OnOk result (self.new.state ≡ self.old.state) }
-        ensures report { IfOk result (λ m. ReportsObtained P.reported self.old.shaken.refs self.old.progress (Ok m) self.new.progress) }
+        ensures report { IfOk result (λ m. ReportsMap P.reported (needs_no_list request.now self.old.shaken) self.old.progress (Ok m) self.new.progress) }
         ensures handshake { self.new.shaken ≡ record self.old.shaken { refs = self.new.shaken.refs } }
         ensures refs { option_map refs_value self.new.shaken.refs ≡ option_map refs_value self.old.shaken.refs }
         ensures name { self.new.name ≡ self.old.name }
@@ -380,6 +384,8 @@ impl<T: Transport + Drop, L: Listener + Drop, P: NestedProgress + Drop> Session<
         let context = request.context()?;
         let name = self.name.agent_feature(self.alloc)?;
         let here = self.refs_here()?;
+        let refs = self.shaken.refs.take();
+        self.shaken.refs = seen_refs(self.alloc, refs, are_ids(&context));
         let is_here = has_refs(&self.shaken.refs);
         let version = self.shaken.server_protocol_version;
         let made = obtain(

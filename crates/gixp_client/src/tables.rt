@@ -1,7 +1,7 @@
 //! The commands and features that a client uses by itself.
 ghost use Rattle.std.specs.Prelude.{◌≡◌, ◌≢◌};
 ghost use Rattle.gixp_requests.specs.Command.{table_of, entries_of};
-ghost use Rattle.gixp_client.specs.Tables.{plain_table, with_uris, asked_table};
+ghost use Rattle.gixp_client.specs.Tables.{id_table, plain_table, with_uris, asked_table};
 
 use gixp_requests::command::CommandTable;
 
@@ -65,13 +65,9 @@ static QUIET_HTTPS: [(&str, Option<&str>); 5] = [THIN, OFFSETS, BANDS, QUIET, HT
 
 static QUIET_BOTH: [(&str, Option<&str>); 5] = [THIN, OFFSETS, BANDS, QUIET, BOTH];
 
-static URI_FEATURES: [&str; 5] = [
-    "shallow",
-    "filter",
-    "ref-in-want",
-    "sideband-all",
-    "packfile-uris",
-];
+static FEATURES: [&str; 3] = ["shallow", "filter", "sideband-all"];
+
+static URI_FEATURES: [&str; 4] = ["shallow", "filter", "sideband-all", "packfile-uris"];
 
 static URI_PREFIXES: [&str; 16] = [
     "want ",
@@ -92,17 +88,27 @@ static URI_PREFIXES: [&str; 16] = [
     "packfile-uris ",
 ];
 
-// git's table, with `no-progress` last if no progress is wanted.
+// git's table without `ref-in-want`: a response may give a ref that is requested by its name another id than the ref map has.
+fn id_table() -> CommandTable
+    ensures { table_of result ≡ id_table }
+{
+    CommandTable {
+        v2_fetch: &FEATURES,
+        ..CommandTable::git()
+    }
+}
+
+// The same table, with `no-progress` last if no progress is wanted.
 fn plain_table(wants_progress: bool) -> CommandTable
     ensures { table_of result ≡ plain_table wants_progress }
 {
     if wants_progress {
-        return CommandTable::git();
+        return id_table();
     }
     CommandTable {
         v1_fetch: &QUIET_V1_FETCH,
         fetch_arguments: &QUIET_ARGUMENTS,
-        ..CommandTable::git()
+        ..id_table()
     }
 }
 
@@ -122,9 +128,10 @@ fn uri_arguments(wants_progress: bool, protocols: UriProtocols) -> Lines
     }
 }
 
-/// git's table, with `no-progress` added if no progress is wanted: a feature of versions 0 and 1 where the server offers it, a line
-/// under version 2 (gitprotocol-capabilities, "no-progress"; gitprotocol-v2, "fetch"). If packfile URIs are allowed, a line
-/// `packfile-uris` with their protocols follows, only under version 2 and if the server offers it.
+/// git's table without `ref-in-want`, so that each want is an id. If no progress is wanted, `no-progress` is added: a feature of
+/// versions 0 and 1 where the server offers it, a line under version 2 (gitprotocol-capabilities, "no-progress"; gitprotocol-v2,
+/// "fetch"). If packfile URIs are allowed, a line `packfile-uris` with their protocols follows, only under version 2 and if the
+/// server offers it.
 pub(crate) fn table_by(wants_progress: bool, protocols: UriProtocols) -> CommandTable
     ensures { table_of result ≡ asked_table wants_progress protocols }
 {

@@ -4,7 +4,7 @@ ghost use Rattle.gixp_packetline.specs.Reading.{Reading};
 ghost use Rattle.gixp_fetch.specs.Fetch.{parties_of};
 ghost use Rattle.gixp_client.specs.ClientCalls.{session_knowledge};
 ghost use Rattle.gixp_client.specs.ClientNames.{client_feature};
-ghost use Rattle.gixp_client.specs.ClientPromise.{IsOneRun};
+ghost use Rattle.gixp_client.specs.ClientPromise.{IsRunOrIds};
 
 use crate::fetches::branches;
 use crate::servers::{GREETING, PACK, REFS, server};
@@ -35,7 +35,7 @@ fn fetch_leniently<'a, T: Transport + Drop, W: Write>(
     pack: &mut CopyPack<W>,
 ) -> Result<(RefMap, Fetched), Error>
     ensures { IfOk result (λ received. ((received.0.mappings.items ≡ []) × (received.1.outcome ≡ None) × (pack.new ≡ pack.old))
-        ⊎ ((end : Reading) × IsOneRun
+        ⊎ ((end : Reading) × IsRunOrIds
         (parties_of ⟦<SessionNegotiation<'a, StoredObjects, StoredRefs, Lenient> as Negotiate>⟧.calls
         ⟦<ShallowMemory as ShallowStore>⟧.calls ⟦<NeverInterrupt as Interrupt>⟧.polls ⟦<CopyPack<W> as ConsumePack<Discard>>⟧.consumes
         T.is_plain)

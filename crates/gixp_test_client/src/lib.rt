@@ -3,6 +3,8 @@
 #![tactic(auto)]
 
 #[cfg(test)]
+mod as_git;
+#[cfg(test)]
 mod fetches;
 #[cfg(test)]
 mod growth;

@@ -4,7 +4,7 @@ ghost use Rattle.gix_protocol.specs.Reading.{Reading};
 ghost use Rattle.gix_protocol.specs.Fetch.{parties_of};
 ghost use Rattle.gix_protocol.specs.ClientCalls.{session_knowledge};
 ghost use Rattle.gix_protocol.specs.ClientNames.{client_feature};
-ghost use Rattle.gix_protocol.specs.ClientPromise.{IsOneRun};
+ghost use Rattle.gix_protocol.specs.ClientPromise.{IsRunOrIds};
 
 use crate::objects::SortedObjects;
 use crate::pack::{LimitedPack, PackTooLarge};
@@ -18,8 +18,9 @@ use gix_protocol::transport::{Discard, Interrupt, NeverInterrupt, Transport};
 use std::alloc::Global;
 use std::io::Write;
 
-/// Fetches what a request asks for. Unless the map is empty, the fetch is one run of the law `headline`. The field `promise` of
-/// `IsOneRun` has the law's promises: about its refs, its mappings, its requests and their number, and the bytes of its pack.
+/// Fetches what a request asks for. Unless the map is empty or the refspecs are ids, the fetch is one run of the law `headline`. The
+/// field `promise` of `IsOneRun` has the law's promises: about its refs, its mappings, its requests and their number, and the bytes
+/// of its pack.
 pub fn promised_fetch<'a, T: Transport + Drop, W: Write>(
     alloc: Global,
     transport: T,
@@ -28,7 +29,7 @@ pub fn promised_fetch<'a, T: Transport + Drop, W: Write>(
     pack: &mut LimitedPack<W>,
 ) -> Result<(RefMap, Fetched), Error>
     ensures { IfOk result (λ received. ((received.0.mappings.items ≡ []) × (received.1.outcome ≡ None) × (pack.new ≡ pack.old))
-        ⊎ ((end : Reading) × IsOneRun
+        ⊎ ((end : Reading) × IsRunOrIds
         (parties_of ⟦<SessionNegotiation<'a, SortedObjects, SortedRefs, AnyNegotiator> as Negotiate>⟧.calls
         ⟦<ShallowMemory as ShallowStore>⟧.calls ⟦<NeverInterrupt as Interrupt>⟧.polls ⟦<LimitedPack<W> as ConsumePack<Discard>>⟧.consumes
         T.is_plain)

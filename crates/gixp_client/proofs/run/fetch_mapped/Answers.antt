@@ -1,6 +1,7 @@
 -- The negotiation of a session's fetch is over its map. The result is checked for unknown unshallowed ids.
 use Rattle.std.proofs.Common.{ap, sym, ◌∙◌}
 use Rattle.std.specs.BTreeSet.{contains}
+use Rattle.std.specs.Option.{option_copied}
 use Rattle.gixp_client.specs.Unshallowed.{known_alone}
 use Rattle.gixp_hash.specs.ObjectId.{id_cmp}
 use Rattle.gixp_client.proofs.RunLemmas.{same_knowledge}
@@ -23,6 +24,10 @@ returns-clause-fetched g c =
             (ap (λ m. g.F.Find.contents m.context.objects.now.objects.now) e ∙ ap (λ x. g.F.Find.contents x.objects.now.objects.now) n.context
             ∙ ap g.F.Find.contents c.new-shared.ensures.objects)
             (ap (λ m. g.R.RefStore.refs m.context.refs.now) e ∙ ap (λ x. g.R.RefStore.refs x.refs.now) n.context);
+        limited = ap (λ w. w.negotiation.most) c.new-unshallow_check.ensures.negotiation
+            ∙ (ap (λ w. w.most) c.new-filtered.ensures.negotiation ∙ (c.new-windowed.ensures.most ∙ c.most_haves-most.ensures.limit));
+        filtered = ap (λ w. option_copied w.filter) c.new-unshallow_check.ensures.negotiation
+            ∙ (ap option_copied c.new-filtered.ensures.filter ∙ c.as_deref.ensures.value);
         received = f.received;
         reports = record {
           watches = λ id. ap (λ b. contains id_cmp b id) c.new-unshallow_check.ensures.boundary;

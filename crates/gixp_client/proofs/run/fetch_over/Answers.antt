@@ -12,8 +12,8 @@ returns-clause-fetched g c = record {
     interrupt = _;
     interrupt' = _;
     progress = _;
-    carries = as_session _ _ _ _ _ _ c.args.peer.shaken.now c.args.request.now _ _ _ _
-        c.table.ensures c.named.ensures c.in-Ok.ensures c.fetch_with_features-received.ensures.fetched;
+    carries = as_session _ _ _ _ _ _ c.args.peer.shaken.now c.args.request.now _ _ _ _ _
+        c.table.ensures c.named.ensures c.in-Ok.ensures c.sent_tags-tags.ensures c.fetch_with_features-received.ensures.fetched;
   };
 }
 

@@ -1,5 +1,5 @@
 use Rattle.std.proofs.Common.{refl, inr}
-use Rattle.gixp_client.proofs.MapLemmas.{as_lists, refused_by}
+use Rattle.gixp_client.proofs.MapLemmas.{as_lists, refused_by, asked_calls}
 use Rattle.gixp_client.proofs.session.Session.ask_refs.Goals as goal
 
 pub returns-in-Ok-clause-listed : goal.returns-in-Ok-clause-listed
@@ -19,3 +19,6 @@ returns-in-Err-clause-refused g c = inr (
   c.state_after_refusal-self.ensures,
   refl,
 )
+
+pub returns-in-Err-clause-report : goal.returns-in-Err-clause-report
+returns-in-Err-clause-report g c = asked_calls g.P.Progress.reported _ _ _ c.invoke_blocking-listed.ensures.reported
