@@ -6,6 +6,7 @@ pub mod ChangeLemmas
 pub mod BoundaryLemmas
 pub mod MapLemmas
 pub mod SpecLemmas
+pub mod ArgumentLemmas
 pub mod SettleLemmas
 pub mod UnsentLemmas
 pub mod OpenLemmas

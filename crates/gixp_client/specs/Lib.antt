@@ -22,3 +22,4 @@ pub mod Listening
 pub mod Boundaries
 pub mod Changes
 pub mod Requests
+pub mod FirstArguments

@@ -1,11 +1,12 @@
 //! Laws of the definitions, each a function whose contract is the law.
-ghost use Rattle.std.specs.Prelude.{◌≡◌, ◌||◌, not, is_some, true, false, [], ℕ, Bool, List, Option, Some, None, Vec, Result, Ok};
+ghost use Rattle.std.specs.Prelude.{◌≡◌, ◌||◌, not, is_some, true, false, [], codes, ℕ, Bool, List, Option, Some, None, Vec, Result, Ok};
 ghost use Rattle.std.specs.declared.alloc.Global.{Global as Allocator};
 ghost use Rattle.gixp_refs.specs.declared.handshake.Ref.{Ref};
 ghost use Rattle.gixp_refmap.specs.declared.refmap.init.Error.{Error as MapError};
 ghost use Rattle.gixp_packetline.specs.Reading.{Reading};
 ghost use Rattle.gixp_hash.specs.declared.object_id.ObjectId.{ObjectId};
 ghost use Rattle.gixp_transport.specs.Greeting.{Parameter};
+ghost use Rattle.gixp_requests.specs.Arguments.{ArgumentsValue, can_use};
 ghost use Rattle.gixp_requests.specs.Feature.{FeatureValue};
 ghost use Rattle.gixp_refmap.specs.declared.refmap.map.RefMap.{RefMap};
 ghost use Rattle.gixp_handshake.specs.declared.handshake.read.Handshake.{Handshake};
@@ -14,6 +15,8 @@ ghost use Rattle.gixp_fetch.specs.Fetch.{parties_of};
 ghost use Rattle.gixp_fetch.specs.Mapped.{Knowledge};
 ghost use Rattle.gixp_client.specs.IdSpecs.{are_ids};
 ghost use Rattle.gixp_client.specs.ClientCalls.{asked_specs, OpensSession, MapsInSession, FetchesInSession, session_call};
+ghost use Rattle.gixp_client.specs.FirstArguments.{call_by, first_arguments, tagged_arguments};
+ghost use Rattle.gixp_client.specs.declared.name.ClientName.{ClientName as AnyName};
 ghost use Rattle.gixp_client.specs.ClientMaps.{MapsRefsHere, ListsForMap};
 ghost use Rattle.gixp_client.specs.ClientPromise.{IsOneRun};
 ghost use Rattle.gixp_client.specs.declared.error.Error.{Error as SessionError};
@@ -72,4 +75,13 @@ pub fn maps_list_again()
     ensures again { (request : Request) (agent : FeatureValue) (shaken : Handshake) (plain : Bool) (old new : Reading)
         (made : Result RefMap MapError) → shaken.refs ≡ None → are_ids (asked_specs request) ≡ false
         → MapsInSession request agent shaken plain old new made → ListsForMap request agent shaken plain old new made }
+{}
+
+/// A fetch never fails because the server can't include tags: such a server isn't asked to (gitprotocol-capabilities, "include-tag").
+/// A fetch requests objects by their ids, and never refs by their names: no server is sent `want-ref` (gitprotocol-v2, "fetch").
+pub fn servers_may_lack_features()
+    ensures tags { (shaken : Handshake) (name : AnyName) (request : Request)
+        → (asked : ArgumentsValue) × (tagged_arguments (call_by shaken name request) ≡ Ok asked) }
+    ensures ids { (shaken : Handshake) (name : AnyName) (request : Request)
+        → can_use (codes "ref-in-want") (first_arguments (call_by shaken name request)) ≡ false }
 {}
