@@ -334,6 +334,7 @@ pub use Rattle.gixp_client.specs.ClientMaps
 pub use Rattle.gixp_client.specs.ClientNames
 pub use Rattle.gixp_client.specs.ClientPromise
 pub use Rattle.gixp_client.specs.Filters
+pub use Rattle.gixp_client.specs.FirstArguments
 pub use Rattle.gixp_client.specs.IdSpecs
 pub use Rattle.gixp_client.specs.ListEnds
 pub use Rattle.gixp_client.specs.Listening
