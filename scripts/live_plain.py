@@ -141,6 +141,8 @@ def few_objects(name, t, without):
 def cut(name, t, without, action):
     """A server that dies: in its list, after it, in its acknowledgements, in the pack. Nothing is kept."""
     server, sent = served(t), t.folder("sent")
+    # threads make packs of different sizes
+    t.git("config", "pack.threads", "1", at=server)
     more, _ = plain(without, SENT=sent)
     whole = t.folder("whole")
     t.run("git", "clone", "-q", f"gixp::ssh://host{server}", whole, more=more)

@@ -1,6 +1,6 @@
 -- The first ref line of a reference advertisement, with the names of capabilities that the server lacks (gitprotocol-pack,
 -- "Reference Discovery").
-use Rattle.std.specs.Prelude.{ℕ, ◌+◌, nat_lt, Bool, true, false, not, ◌&&◌, ◌||◌, if◌then◌else◌, List, [], ◌++◌, length, take, drop, slice_range, codes, Option, Some, None}
+use Rattle.std.specs.Prelude.{ℕ, ◌+◌, ◌==◌, nat_lt, Bool, true, false, not, ◌&&◌, ◌||◌, if◌then◌else◌, List, [], ◌++◌, length, take, drop, slice_range, codes, Option, Some, None}
 use Rattle.std.specs.Option.{option_map}
 use Rattle.std.specs.Str.{bytes_eq}
 use Rattle.std.specs.Io.BufRead.{strip_last}
@@ -81,6 +81,10 @@ with_names bytes = named_first bytes ++ drop (line_size bytes) bytes
 abbrev pub advertised : List ℕ → List ℕ
 advertised bytes = take (version_size bytes) bytes ++ with_names (drop (version_size bytes) bytes)
 
+-- what the server lacks by its advertisement
+abbrev pub lacks_advertised : List ℕ → Missing
+lacks_advertised bytes = lacks_first (drop (version_size bytes) bytes)
+
 -- how many bytes are needed before the names can be added
 abbrev pub size_needed : List ℕ → ℕ
 size_needed bytes = version_size bytes + line_size (drop (version_size bytes) bytes)
@@ -93,3 +97,7 @@ passed_on false held bytes = advertised (held ++ bytes)
 -- the same of a reader
 abbrev pub to_come : {R : Type 0} → (R → Option (List ℕ)) → NamedCapabilities R → Option (List ℕ)
 to_come remaining n = option_map (passed_on n.is_named (slice_range n.room.items n.start n.end)) (remaining n.reader)
+
+-- whether the first ref line was passed on, and nothing is held
+abbrev pub is_after_names : {R : Type 0} → NamedCapabilities R → Bool
+is_after_names n = n.is_named && (n.start == n.end)

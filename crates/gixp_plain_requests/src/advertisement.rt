@@ -3,7 +3,7 @@ ghost use Rattle.std.specs.Prelude.{◌≡◌, ◌+◌, ◌≤◌, ◌++◌, len
 ghost use Rattle.gixp_packetline.specs.Frames.{size_of};
 ghost use Rattle.gixp_packetline.specs.FrameText.{payload_text};
 ghost use Rattle.gixp_capabilities.specs.Capabilities.{capabilities_of_line};
-ghost use Rattle.gixp_plain_requests.specs.Advertisement.{text_if, missing_names, named_line, lacks_by, lacks_in, size_by, line_size, is_version_1, version_size, lacks_first, with_names, advertised, size_needed};
+ghost use Rattle.gixp_plain_requests.specs.Advertisement.{text_if, missing_names, named_line, lacks_by, lacks_in, size_by, line_size, is_version_1, version_size, lacks_first, with_names, advertised, lacks_advertised, size_needed};
 
 use crate::line::{MOST_BYTES, push_line};
 use crate::missing::Missing;
@@ -162,7 +162,7 @@ fn with_names(alloc: Global, bytes: &[u8]) -> Result<(Missing, Vec<u8>), AllocEr
 /// The first bytes of an advertisement, with the missing names in its first ref line. Also returns what
 /// is missing.
 pub(crate) fn advertised(alloc: Global, bytes: &[u8]) -> Result<(Missing, Vec<u8>), AllocError>
-    ensures missing { IfOk result (λ r. r.0 ≡ lacks_first (drop (version_size bytes.now) bytes.now)) }
+    ensures missing { IfOk result (λ r. r.0 ≡ lacks_advertised bytes.now) }
     ensures text { IfOk result (λ r. r.1.items ≡ advertised bytes.now) }
 {
     let version = version_size(bytes);

@@ -1,9 +1,9 @@
 //! A reader of an advertisement that names the capabilities that the server lacks.
-ghost use Rattle.std.specs.Prelude.{◌≡◌, ◌+◌, ◌<◌, ◌≤◌, ◌⊎◌, length, take, slice_range, true, false, vec_len, IfOk, OnOk};
+ghost use Rattle.std.specs.Prelude.{◌≡◌, ℕ, List, ◌+◌, ◌<◌, ◌≤◌, ◌⊎◌, length, take, slice_range, true, false, vec_len, IfOk, OnOk};
 ghost use Rattle.std.specs.Option.{option_map};
 ghost use Rattle.std.specs.Io.{ReadsAtMost};
 ghost use Rattle.std.specs.Io.KnownBytes.{Keeps, Consumes, ReadConsumes, IsAtEnd};
-ghost use Rattle.gixp_plain_requests.specs.Advertisement.{advertised, size_needed, to_come};
+ghost use Rattle.gixp_plain_requests.specs.Advertisement.{advertised, lacks_advertised, size_needed, to_come, is_after_names};
 ghost use Rattle.gixp_plain_requests.specs.Reads.{ReadsRoom};
 
 use crate::advertisement::{advertised, size_needed};
@@ -60,7 +60,9 @@ impl<R: Read> NamedCapabilities<R> {
     }
 
     /// Whether the first ref line was passed on, and nothing is held.
-    pub fn is_after_names(&self) -> bool {
+    pub fn is_after_names(&self) -> bool
+        ensures { result ≡ is_after_names self.now }
+    {
         self.is_named && self.start == self.end
     }
 
@@ -99,6 +101,7 @@ impl<R: Read> NamedCapabilities<R> {
         requires { self.old.is_named ≡ false }
         ensures bytes { Keeps (to_come R.remaining self.old) (to_come R.remaining self.new) }
         ensures named { OnOk result (self.new.is_named ≡ true) }
+        ensures missing { OnOk result ((held : List ℕ) × (self.new.room.items ≡ advertised held) × (self.new.missing ≡ lacks_advertised held)) }
     {
         self.fill()?;
         let (missing, named) = advertised(self.alloc, &self.room[..self.end])?;

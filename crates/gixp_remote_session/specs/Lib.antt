@@ -5,6 +5,7 @@ pub mod Errors
 pub mod ShallowLines
 pub mod Downloads
 pub mod History
+pub mod Translation
 pub mod UserConfig
 pub mod Packs
 pub mod WebServer
@@ -13,5 +14,6 @@ pub mod ListedObjects
 pub mod Boundaries
 pub mod ServerLeft
 pub mod Readiness
+pub mod FirstHaves
 pub mod FsckList
 pub mod StartupInput

@@ -1,4 +1,7 @@
 //! Haves for a server that acknowledges only one commit.
+ghost use Rattle.std.specs.Prelude.{◌≡◌, codes};
+ghost use Rattle.gixp_fetch_common.specs.Failures.{FailureIsRefusal};
+
 use crate::transport::HelperSession;
 use gix_protocol::client::Fetched;
 use gix_protocol::fetch::negotiate::{Graph, Negotiator, NegotiatorError, Noop, Objects};
@@ -28,7 +31,10 @@ pub(crate) struct FirstHaves<N> {
 
 impl<N> FirstHaves<N> {
     /// Offers at most 15 haves of a negotiator.
-    pub(crate) fn new(negotiator: N) -> FirstHaves<N> {
+    pub(crate) fn new(negotiator: N) -> FirstHaves<N>
+        ensures left { result.left ≡ 15 }
+        ensures negotiator { result.negotiator ≡ negotiator }
+    {
         FirstHaves {
             negotiator,
             left: MOST_HAVES,
@@ -37,8 +43,9 @@ impl<N> FirstHaves<N> {
 }
 
 impl<N: Negotiator> Negotiator for FirstHaves<N> {
-    ghost use Rattle.std.specs.Prelude.{◌≡◌, ◌+◌, ◌⊎◌, None};
+    ghost use Rattle.std.specs.Prelude.{◌≡◌};
     ghost use Rattle.std.proofs.Common.{arith};
+    ghost use Rattle.gixp_remote_session.specs.FirstHaves.{OffersWithin};
 
     ghost calls = { record {
       count = λ n g. n.left;
@@ -46,8 +53,7 @@ impl<N: Negotiator> Negotiator for FirstHaves<N> {
       knows = λ n g id m h. (m.left ≡ n.left) × N.calls.knows n.negotiator g id m.negotiator h;
       adds = λ n g id m h. (m.left ≡ n.left) × N.calls.adds n.negotiator g id m.negotiator h;
       learns = λ n g id m h. (m.left ≡ n.left) × N.calls.learns n.negotiator g id m.negotiator h;
-      offers = λ n g have m h. ((n.left ≡ 0) × (have ≡ None) × (m ≡ n) × (h ≡ g))
-          ⊎ ((m.left + 1 ≡ n.left) × N.calls.offers n.negotiator g have m.negotiator h);
+      offers = λ n g have m h. OffersWithin n.left m.left have (N.calls.offers n.negotiator g have m.negotiator h) ((m ≡ n) × (h ≡ g));
       knowing_fails = λ n g id e m h. N.calls.knowing_fails n.negotiator g id e m.negotiator h;
       adding_fails = λ n g id e m h. N.calls.adding_fails n.negotiator g id e m.negotiator h;
       learning_fails = λ n g id e m h. N.calls.learning_fails n.negotiator g id e m.negotiator h;
@@ -91,15 +97,17 @@ impl<N: Negotiator> Negotiator for FirstHaves<N> {
         self.negotiator.next_have(graph)
     }
 
-    ghost offer_lowers = { ? };
+    ghost offer_lowers = { λ n g id m h r. Prim.omega (arith, r.0) };
 
-    ghost none_keeps = { ? };
+    ghost none_keeps = { λ n g m h r. r.0 };
 
     ghost learning_keeps = { λ n g id m h r. Prim.omega (arith, r.0) };
 }
 
 // The failure of a fetch whose commits are listed in a text.
-fn listed_failure(alloc: Global, refusal: Option<Refusal>, failure: Failure) -> Failure {
+fn listed_failure(alloc: Global, refusal: Option<Refusal>, failure: Failure) -> Failure
+    ensures { FailureIsRefusal (codes "commits") refusal failure result }
+{
     match refusal {
         Some(Refusal::Read(kind)) => Failure::of_file(alloc, "commits", kind),
         Some(Refusal::Line(line)) => Failure::of_line(alloc, "commits", line),

@@ -1,5 +1,7 @@
 //! The transport over the two pipes of a server.
+ghost use Rattle.std.specs.Prelude.{◌≡◌, true, OnOk};
 ghost use Rattle.std.specs.Io.{ReadsAtMost};
+ghost use Rattle.gixp_remote_session.specs.Translation.{translates_next, is_named, is_translated};
 
 use crate::shallow_observer::ShallowObserver;
 use crate::uris::{UriRecorder, Uris, record_refusal};
@@ -39,7 +41,9 @@ pub(crate) enum StreamOutput {
 
 impl StreamOutput {
     // Begins the translation. The first ref line must have been passed on.
-    fn translate(&mut self, alloc: Global) -> io::Result<()> {
+    fn translate(&mut self, alloc: Global) -> io::Result<()>
+        ensures { is_named self.old ≡ true → OnOk result (is_translated self.new ≡ true) }
+    {
         if let StreamOutput::Named(named) = mem::replace(self, StreamOutput::Lost) {
             let lines = BufReader::new(alloc, named)?;
             *self = StreamOutput::Translated(PlainResponses::new(alloc, lines)?);
@@ -48,7 +52,9 @@ impl StreamOutput {
     }
 
     // Whether the translation must begin before the next read.
-    fn is_translated_next(&self) -> bool {
+    fn is_translated_next(&self) -> bool
+        ensures { result ≡ translates_next self.now }
+    {
         match self {
             StreamOutput::Named(named) => {
                 named.is_after_names() && named.missing().needs_translation()

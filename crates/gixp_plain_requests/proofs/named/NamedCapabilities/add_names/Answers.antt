@@ -2,7 +2,7 @@ use Rattle.std.proofs.Common.{◌≡◌, ◌⊎◌, ◌≤◌, ◌∙◌, ap, sy
 use Rattle.std.specs.Prelude.{slice_range}
 use Rattle.std.specs.Io.KnownBytes.{IsAtEnd}
 use Rattle.std.proofs.lemmas.List.{take_all, length-take-le}
-use Rattle.gixp_plain_requests.specs.Advertisement.{advertised, size_needed}
+use Rattle.gixp_plain_requests.specs.Advertisement.{advertised, lacks_advertised, size_needed}
 use Rattle.gixp_plain_requests.proofs.AdvertisementLemmas.{names_added, keeps_both, from_start}
 use Rattle.gixp_plain_requests.proofs.named.NamedCapabilities.add_names.Goals as goal
 
@@ -22,3 +22,9 @@ returns-clause-bytes g c =
     ∙ take_all c.len-self.result c.in_ok-missing.named.items (omega (arith, c.len-self.ensures)) in
     let whole : (size_needed held ≤ length held) ⊎ IsAtEnd o = subst (λ n. (size_needed held ≤ n) ⊎ IsAtEnd o) (sym len) c.in_ok-fill.ensures.whole in
     keeps_both _ _ _ c.in_ok-fill.ensures.bytes (rw (c.in_ok-fill.ensures.unnamed, old, new) (names_added o held c.in_ok-missing.named.items named whole))
+
+pub returns-clause-missing : goal.returns-clause-missing
+returns-clause-missing g c =
+    let s = c.fill.new.self in
+    let same : take s.end c.deref.result.now ≡ take s.end s.room.items = ap (take s.end) c.deref.ensures.value in
+    (take s.end s.room.items, c.in_ok-missing.ensures.text ∙ ap advertised same, c.in_ok-missing.ensures.missing ∙ ap lacks_advertised same)
