@@ -28,7 +28,7 @@ WORD = rf"({'|'.join(WORDS)})"
 TESTED, ARCHITECTURE = "docs/reference/TESTED.md", "docs/ARCHITECTURE.md"
 DOCUMENTS = ["README.md", "CONTRIBUTING.md", "docs/*.md", TESTED, "models/README.md", "crates/*/README.md", "examples/**/*.md"]
 TEST_MODULES = {
-    "gixp_test_lower": ["streams", "response_end", "packfile_uris", "plain_responses", "fetch", "graph", "negotiators", "memory", "refspecs"],
+    "gixp_test_lower": ["streams", "response_end", "packfile_uris", "plain_responses", "plain_requests", "fetch", "graph", "negotiators", "memory", "refspecs"],
     "gixp_test_fetch": ["handshakes", "negotiations", "fetches", "updates"],
     "gixp_test_client": ["planner"],
 }

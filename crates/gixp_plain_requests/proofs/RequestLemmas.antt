@@ -15,7 +15,7 @@ use Rattle.gixp_utils.specs.Lines.{line_words}
 use Rattle.gixp_packetline.specs.FrameText.{payload_text}
 use Rattle.gixp_plain_requests.specs.declared.missing.Missing.{Missing}
 use Rattle.gixp_plain_requests.specs.declared.request.LineKind.TheVariants.{Want, Shallow, Depth, Other}
-use Rattle.gixp_plain_requests.specs.Lines.{size_of_lines, lines_of, after_lines, FitPackets}
+use Rattle.gixp_plain_requests.specs.Lines.{size_of_lines, lines_of, after_lines, FitLines}
 use Rattle.gixp_plain_requests.specs.Request.{kind_of, of_kind, is_left_out, acknowledgement_words, sent_words, after_blanks, all_sent_words, sent_want, texts_of_lines, request_sent}
 
 onto_length : (x : ℕ) (parts : List (List ℕ)) → 0 < length parts → length (after_blanks (onto_first x parts)) ≡ length (after_blanks parts) + 1
@@ -109,7 +109,7 @@ size_more : (lines : List (List ℕ)) (line : List ℕ) → size_of_lines (lines
 size_more [] line = omega arith
 size_more (l ∷ ls) line = omega (arith, size_more ls line)
 
-one : (line : Bor (List ℕ)) → length line.now ≤ 65516 → FitPackets (line ∷ [])
+one : (line : Bor (List ℕ)) → length line.now ≤ 65516 → FitLines (line ∷ [])
 one line fits zero d h = fits
 one line fits (suc k) d h = absurd (omega arith)
 
@@ -122,9 +122,9 @@ lines_more lines new line rest after request all first is =
     ∙ append_assoc (map (λ x. x.now) lines) (line.now ∷ []) (lines_of after)
     ∙ ap (λ xs. map (λ x. x.now) lines ++ xs) (sym first) ∙ all
 
-pub fit_more : (lines new : List (Bor (List ℕ))) (line : Bor (List ℕ)) → FitPackets lines → length line.now ≤ 65516
-    → new ≡ lines ++ line ∷ [] → FitPackets new
-fit_more lines new line all fits is = subst FitPackets (sym is)
+pub fit_more : (lines new : List (Bor (List ℕ))) (line : Bor (List ℕ)) → FitLines lines → length line.now ≤ 65516
+    → new ≡ lines ++ line ∷ [] → FitLines new
+fit_more lines new line all fits is = subst FitLines (sym is)
     (All-append (λ x. length x.now ≤ 65516) lines (line ∷ []) all (one line fits))
 
 pub rest_more : (lines new : List (Bor (List ℕ))) (line : Bor (List ℕ)) (rest after request : List ℕ)

@@ -23,8 +23,8 @@ abbrev pub after_lines : List ℕ → List ℕ
 after_lines bytes = drop (size_of_lines (lines_of bytes)) bytes
 
 -- each line fits into a packet line
-abbrev pub FitPackets : List (Bor (List ℕ)) → Type 0
-FitPackets lines = All (λ line. length line.now ≤ 65516) lines
+abbrev pub FitLines : List (Bor (List ℕ)) → Type 0
+FitLines lines = All (λ line. length line.now ≤ 65516) lines
 
 -- the LF at the end of a line, if it has one
 abbrev pub line_end : List ℕ → List ℕ

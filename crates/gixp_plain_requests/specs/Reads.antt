@@ -3,6 +3,6 @@ use Rattle.std.specs.Prelude.{◌≡◌, ℕ, ◌+◌, ◌≤◌, List, take, dr
 use Rattle.std.specs.Io.KnownBytes.{Keeps, Consumes, IsAtEnd}
 
 -- a read into this space: no more bytes than fit, and none only at the end
-abbrev pub ReadsRoom : {E : Type 0} → Option (List ℕ) → Option (List ℕ) → (end limit : ℕ) → List ℕ → Result ℕ E → Type 0
-ReadsRoom old new end limit room (Ok n) = (end + n ≤ limit) × Consumes old new (take n (drop end room)) × (n ≡ 0 → IsAtEnd new)
-ReadsRoom old new end limit room (Err e) = Keeps old new
+abbrev pub ReadsSpace : {E : Type 0} → Option (List ℕ) → Option (List ℕ) → (end limit : ℕ) → List ℕ → Result ℕ E → Type 0
+ReadsSpace old new end limit room (Ok n) = (end + n ≤ limit) × Consumes old new (take n (drop end room)) × (n ≡ 0 → IsAtEnd new)
+ReadsSpace old new end limit room (Err e) = Keeps old new

@@ -4,7 +4,7 @@ ghost use Rattle.std.specs.Option.{option_map};
 ghost use Rattle.std.specs.Io.{ReadsAtMost};
 ghost use Rattle.std.specs.Io.KnownBytes.{Keeps, Consumes, ReadConsumes, IsAtEnd};
 ghost use Rattle.gixp_plain_requests.specs.Advertisement.{advertised, lacks_advertised, size_needed, to_come, is_after_names};
-ghost use Rattle.gixp_plain_requests.specs.Reads.{ReadsRoom};
+ghost use Rattle.gixp_plain_requests.specs.Reads.{ReadsSpace};
 
 use crate::advertisement::{advertised, size_needed};
 use crate::missing::Missing;
@@ -24,7 +24,7 @@ fn read_into<R: Read>(
     requires there { limit ≤ vec_len room.old }
     ensures len { vec_len room.new ≡ vec_len room.old }
     ensures front { take end room.new.items ≡ take end room.old.items }
-    ensures bytes { ReadsRoom (R.remaining reader.old) (R.remaining reader.new) end limit room.new.items result }
+    ensures bytes { ReadsSpace (R.remaining reader.old) (R.remaining reader.new) end limit room.new.items result }
 {
     reader.read(&mut room[end..limit])
 }

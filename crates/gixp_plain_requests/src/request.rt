@@ -2,7 +2,7 @@
 ghost use Rattle.std.specs.Prelude.{◌≡◌, ◌≤◌, [], ◌∷◌, ◌++◌, length, map, OnOk, IfOk};
 ghost use Rattle.bstr.specs.BStr.{bstr_bytes};
 ghost use Rattle.gixp_utils.specs.Lines.{line_words};
-ghost use Rattle.gixp_plain_requests.specs.Lines.{lines_of, after_lines, FitPackets};
+ghost use Rattle.gixp_plain_requests.specs.Lines.{lines_of, after_lines, FitLines};
 ghost use Rattle.gixp_plain_requests.specs.Request.{kind_of, is_kind, of_kind, is_left_out, acknowledgement_words, sent_words, after_blanks, all_sent_words, sent_want, texts_of_lines, request_sent};
 
 use crate::line::{push_line, split_line};
@@ -150,7 +150,7 @@ fn push_wants(
     missing: Missing,
     lines: &[&[u8]],
 ) -> Result<(), AllocError>
-    requires { FitPackets lines.now }
+    requires { FitLines lines.now }
     ensures { OnOk result (sent.new.items ≡ sent.old.items
         ++ texts_of_lines (map (sent_want missing) (of_kind LineKind.Want (map (λ l. l.now) lines.now)))) }
 {
@@ -172,7 +172,7 @@ fn push_if(sent: &mut Vec<u8>, kind: LineKind, line: &[u8]) -> Result<(), AllocE
 }
 
 fn push_lines(sent: &mut Vec<u8>, kind: LineKind, lines: &[&[u8]]) -> Result<(), AllocError>
-    requires { FitPackets lines.now }
+    requires { FitLines lines.now }
     ensures { OnOk result (sent.new.items ≡ sent.old.items ++ texts_of_lines (of_kind kind (map (λ l. l.now) lines.now))) }
 {
     for line in lines {
@@ -184,7 +184,7 @@ fn push_lines(sent: &mut Vec<u8>, kind: LineKind, lines: &[&[u8]]) -> Result<(),
 // The lines before the first packet without a payload, and the bytes from that packet on.
 fn first_lines(alloc: Global, request: &[u8]) -> Result<(Vec<&[u8]>, &[u8]), AllocError>
     ensures lines { IfOk result (λ r. map (λ l. l.now) r.0.items ≡ lines_of request.now) }
-    ensures fit { IfOk result (λ r. FitPackets r.0.items) }
+    ensures fit { IfOk result (λ r. FitLines r.0.items) }
     ensures rest { IfOk result (λ r. r.1.now ≡ after_lines request.now) }
 {
     let mut lines = Vec::new(alloc);

@@ -195,11 +195,7 @@ fn requests_what_is_offered(rt: HostRuntime) -> Result<(), Fail> {
             b"0012command=fetch\n0001000ddeepen 1\n0032want 0123456789012345678901234567890123456781\n0000",
         ),
         // no packet lines
-        (
-            [true, true, true, true, true],
-            b"zzzzwant ",
-            b"zzzzwant ",
-        ),
+        ([true, true, true, true, true], b"zzzzwant ", b"zzzzwant "),
     ];
     for (missing, given, wanted) in cases {
         let sent = sent_request(rt.alloc(), missing_of(missing), given)?;
