@@ -48,7 +48,7 @@ enum {
     GIXP_CONFLICT = 51,       /* two refs map to one local name */
     GIXP_UNTERMINATED_REFS = 53, /* a list of refs doesn't end with a flush packet: refs may be missing */
     GIXP_BAD_FETCH = 60,      /* 60 to 79: the fetch failed */
-    GIXP_NO_FEATURE = 63,     /* the server lacks a feature that the limit of the history needs: the fetch isn't requested */
+    GIXP_NO_FEATURE = 63,     /* the server lacks what a limit or a boundary needs: the fetch isn't requested */
     GIXP_NO_FILTERS = 70,     /* there is a filter, and the server offers none: nothing is requested */
     GIXP_BAD_FILTER = 80,     /* 80 to 89: an argument of a session is invalid. 80: the filter isn't UTF-8 */
     GIXP_BAD_NAME = 81,       /* an excluded ref has an invalid name */

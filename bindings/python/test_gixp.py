@@ -209,7 +209,8 @@ class Sessions(unittest.TestCase):
                 (dict(since=1700000000), [b"deepen-since 1700000000"]), (dict(since=-5), [b"deepen-since -5"]),
                 (dict(exclude=[b"refs/tags/v1", b"old"]), [b"deepen-not refs/tags/v1", b"deepen-not old"]),
                 (dict(since=7, exclude=[b"old"]), [b"deepen-since 7", b"deepen-not old"]),
-                (dict(filter=b"blob:none"), [b"filter blob:none"]), (dict(filter=b"tree:0", depth=1), [b"deepen 1", b"filter tree:0"]), ({}, [])]
+                (dict(filter=b"blob:none"), [b"filter blob:none"]),
+                (dict(filter=b"tree:0", depth=1), [b"deepen 1", b"filter tree:0"]), ({}, [])]
         for more, lines in rows:
             data = self.session(filters, self.listed, **more).step().data
             found = [line for line in payloads(data) if line.startswith((b"deepen", b"filter"))]
@@ -372,7 +373,8 @@ class Clones(unittest.TestCase):
         for n in range(10):
             tree = git("rev-parse", "main^{tree}", folder=served).strip().decode()
             env = dict(os.environ, GIT_COMMITTER_DATE="%d +0000" % (1700000000 + n), GIT_AUTHOR_DATE="1700000000 +0000")
-            commit = git("commit-tree", tree, *(["-p", "refs/heads/dated"] if n else []), "-m", str(n), folder=served, env=env).strip().decode()
+            parent = ["-p", "refs/heads/dated"] if n else []
+            commit = git("commit-tree", tree, *parent, "-m", str(n), folder=served, env=env).strip().decode()
             git("update-ref", "refs/heads/dated", commit, folder=served)
         git("update-ref", "refs/heads/main", "refs/heads/dated", folder=served)
         git("update-ref", "refs/tags/cut", "refs/heads/dated~6", folder=served)
