@@ -10,7 +10,7 @@ Prints, with their files:
 - a file name that two folders of one crate's src/ have. Crates of tests are left out: their folders are named for the crates under test;
 - a script name that two of scripts/, models/ and bench/ have.
 
-SAME_TYPE and SAME_FILE list the exceptions with their reasons. An exception that isn't needed is printed too. The status is 1 if anything
+SAME_DEFINITION, SAME_TYPE and SAME_FILE list the exceptions with their reasons. An exception that isn't needed is printed too. The status is 1 if anything
 is printed. Definitions of two crates that say the same under different names are counted. --all lists them, and then they count as a
 failure.
 """
@@ -28,6 +28,10 @@ CAPITALISED = re.compile(r"\s*(?:(?:abbrev|unfoldable) )*pub (?:(?:data|record|a
 NO_DEFINITION = ("--", "use ", "pub use ", "pub mod ")
 TYPE = re.compile(r"(?m)^pub (struct|enum|trait|type) (\w+)([^;{]*)")
 TESTS = re.compile(r"(?ms)^#\[cfg\(test\)\]\nmod tests \{.*?^\}\n")
+# definitions that several crates may have
+SAME_DEFINITION = {
+    "IsOffered": "a server offers a filter, and a negotiator offers a commit",
+}
 # public types that several crates may define
 SAME_TYPE = {
     "Error": "each is the error of its module, as in gitoxide",
@@ -131,7 +135,7 @@ def main():
     given = parser.parse_args()
     paths = sorted(CRATES.glob("*/specs/**/*.antt"))
     found = [
-        *shared_definitions(paths).items(),
+        *unless_allowed(shared_definitions(paths), SAME_DEFINITION),
         *((f"type {name}", files) for name, files in unless_allowed(shared_types(), SAME_TYPE)),
         *((f"file {key[1]} of {key[0]}", files) for key, files in unless_allowed(shared_files(), SAME_FILE)),
         *((f"script {name}", files) for name, files in shared_scripts().items()),
