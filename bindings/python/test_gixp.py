@@ -216,6 +216,12 @@ class Sessions(unittest.TestCase):
             found = [line for line in payloads(data) if line.startswith((b"deepen", b"filter"))]
             self.assertEqual(found, lines, more)
 
+    def test_wants(self):
+        """Each want has the id that the server listed, also if the server offers `ref-in-want` (gitprotocol-v2, "fetch")."""
+        greeting = self.greeting.replace(packet(b"fetch=shallow\n"), packet(b"fetch=shallow ref-in-want filter\n"))
+        wants = [line for line in payloads(self.session(greeting, self.listed).step().data) if line.startswith(b"want")]
+        self.assertEqual(wants, [b"want %040x" % 5])
+
     def test_no_limits(self):
         """A server without a feature: nothing is requested of it that needs the feature."""
         for more in (dict(filter=b"blob:none"), dict(filter=b"tree:0", depth=1)):

@@ -5,7 +5,7 @@ use Rattle.std.specs.declared.alloc.AllocError.{AllocError}
 use Rattle.std.specs.declared.alloc.Global.{Global}
 use Rattle.gixp_hash.specs.declared.object_id.ObjectId.{ObjectId}
 use Rattle.gixp_packetline.specs.Reading.{Reading}
-use Rattle.gixp_requests.specs.Command.{TableValue, git_table}
+use Rattle.gixp_requests.specs.Command.{TableValue}
 use Rattle.gixp_requests.specs.Feature.{FeatureValue}
 use Rattle.gixp_shallow.specs.declared.store.memory.ShallowMemory.{ShallowMemory}
 use Rattle.gixp_refmap.specs.declared.fetch.Tags.TheVariants as tags
@@ -20,6 +20,7 @@ use Rattle.gixp_fetch.specs.FetchShallow.{ShallowValue}
 use Rattle.gixp_response.specs.Sections.{is_flush}
 use Rattle.gixp_fetch.specs.Fetch.{World, Parties}
 use Rattle.gixp_fetch.specs.Fetched.{Fetches, call_of}
+use Rattle.gixp_engine.specs.EngineTable.{engine_table}
 use Rattle.gixp_engine.specs.FilterLine.{AllowsFilter}
 use Rattle.gixp_engine.specs.declared.consumer.Left.{Left}
 use Rattle.gixp_engine.specs.declared.session.Received.{Received}
@@ -27,10 +28,10 @@ use Rattle.gixp_engine.specs.declared.error.EngineError.{EngineError}
 use Rattle.gixp_handshake.specs.WithoutAccount.{GreetsWithoutAccount}
 use Rattle.gixp_engine.specs.Alone.{engine_agent, engine_call, end_of_fetch, CarriesCall, MapsAlone, EngineSession, map_of_whole, fetched}
 
--- the engine passes git's table and its agent
+-- the engine passes its table and its agent
 pub carries-call : {N I A S C P X : Type 0} (parties : Parties N I A S C P X) (first : World N I S C)
     (r : Result (Option Outcome) (FetchError A X)) (last : World N I S C) (progress : P) (h : Handshake) (shallow : ShallowValue)
-    (table : TableValue) (agent : FeatureValue) → table ≡ git_table → agent ≡ engine_agent
+    (table : TableValue) (agent : FeatureValue) → table ≡ engine_table → agent ≡ engine_agent
     → Fetches parties (call_of table h agent [] tags.None shallow false) first r last progress
     → CarriesCall parties (engine_call h shallow) first r last progress
 carries-call parties first r last progress h shallow table agent e f it = record {

@@ -8,7 +8,6 @@ use Rattle.gixp_packetline.specs.declared.protocol.Protocol.{Protocol}
 use Rattle.gixp_packetline.specs.Reading.{Reading}
 use Rattle.gixp_response.specs.Sections.{is_flush}
 use Rattle.gixp_requests.specs.Feature.{FeatureValue}
-use Rattle.gixp_requests.specs.Command.{git_table}
 use Rattle.gixp_graph.specs.GraphData.{graph_of}
 use Rattle.gixp_graph.specs.declared.empty.NoObjects.{NoObjects}
 use Rattle.gixp_graph.specs.declared.empty.NoRefs.{NoRefs}
@@ -31,6 +30,7 @@ use Rattle.gixp_fetch.specs.declared.options.Outcome.{Outcome}
 use Rattle.gixp_fetch.specs.FetchShallow.{ShallowValue}
 use Rattle.gixp_fetch.specs.Fetch.{World, Parties}
 use Rattle.gixp_fetch.specs.Fetched.{FetchCall, Fetches, call_of, unlocked_world}
+use Rattle.gixp_engine.specs.EngineTable.{engine_table}
 use Rattle.gixp_engine.specs.FilterLine.{AllowsFilter}
 use Rattle.gixp_engine.specs.declared.filter.FilterOnce.{FilterOnce}
 use Rattle.gixp_engine.specs.declared.session.Received.{Received}
@@ -44,7 +44,7 @@ engine_agent = record { name = codes "agent"; value = Some (codes "git/gixp") }
 
 -- the ref map of the server, which lists the refs with the prefixes of the refspecs; or an allocation failed first
 abbrev pub MapsAlone : Context → Handshake → Bool → Reading → Reading → Result RefMap MapError → Type 0
-MapsAlone context h plain old new r = ObtainsMappings git_table engine_agent context h plain old new r
+MapsAlone context h plain old new r = ObtainsMappings engine_table engine_agent context h plain old new r
     ⊎ ((new ≡ old) × (r ≡ Err map.Memory))
 
 -- the error of a ref map whose list didn't end with a flush packet: refs that were read are incomplete, whether they can be mapped
@@ -65,7 +65,7 @@ map_of_whole (Err e) false = Err (unmapped_of_cut e)
 
 -- the arguments of the fetch: only mapped tags are requested
 abbrev pub engine_call : Handshake → ShallowValue → FetchCall
-engine_call h shallow = call_of git_table h engine_agent [] tags.None shallow false
+engine_call h shallow = call_of engine_table h engine_agent [] tags.None shallow false
 
 -- a negotiation over these objects and this ref map that offers these haves in order, and whose first request has this filter. It
 -- has no commits, no refs and no alternates

@@ -2,11 +2,11 @@
 use Rattle.std.specs.Prelude.{◌≡◌, ⊤, true, false, if◌then◌else◌, Bool, Option, Some, None, codes, string_bytes, String, Result, Ok, Err}
 use Rattle.std.specs.declared.alloc.Global.{Global}
 use Rattle.gixp_requests.specs.Arguments.{ArgumentsValue, can_use, asks_filter}
-use Rattle.gixp_requests.specs.Command.{git_table}
 use Rattle.gixp_requests.specs.Feature.{has_feature}
 use Rattle.gixp_requests.specs.Offers.{default_features}
 use Rattle.gixp_requests.specs.declared.command.Command.TheVariants.{Fetch}
 use Rattle.gixp_handshake.specs.declared.handshake.read.Handshake.{Handshake}
+use Rattle.gixp_engine.specs.EngineTable.{engine_table}
 use Rattle.gixp_engine.specs.declared.error.EngineError.{EngineError}
 use Rattle.gixp_engine.specs.declared.error.EngineError.TheVariants.{NoFilters, Memory}
 
@@ -17,7 +17,7 @@ with_filter_line None a = a
 
 -- the server offers filters: as a feature of the command `fetch` under version 2, as a capability under the others
 abbrev pub has_filters : Handshake → Bool
-has_filters h = has_feature (codes "filter") (default_features git_table Fetch h.server_protocol_version h.capabilities)
+has_filters h = has_feature (codes "filter") (default_features engine_table Fetch h.server_protocol_version h.capabilities)
 
 -- a filter needs a server that offers filters; or an allocation failed
 abbrev pub AllowsFilter : Option (String Global) → Handshake → Result (Unit {0}) EngineError → Type 0

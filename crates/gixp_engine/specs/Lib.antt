@@ -1,5 +1,6 @@
 pub mod Alone
 pub mod EngineMessage
+pub mod EngineTable
 pub mod FilterLine
 pub mod Handed
 pub mod Leave

@@ -3,11 +3,11 @@ ghost use Rattle.std.specs.Prelude.{◌≡◌, None, OnOk, OnErr, IfOk};
 ghost use Rattle.gixp_engine.specs.FilterLine.{with_filter_line, has_filters, AllowsFilter};
 
 use crate::error::EngineError;
+use crate::table::engine_table;
 use gixp_handshake::Handshake;
 use gixp_negotiate::negotiate::one_round::State;
 use gixp_negotiate::negotiate::{Action, Error, Negotiate, Round};
 use gixp_requests::Command;
-use gixp_requests::command::CommandTable;
 use gixp_requests::fetch::Arguments;
 use gixp_response::fetch::Response;
 use std::alloc::{AllocError, Global};
@@ -102,7 +102,7 @@ impl<N: Negotiate> Negotiate for FilterOnce<'_, N> {
 fn has_filters(alloc: Global, handshake: &Handshake) -> Result<bool, AllocError>
     ensures { IfOk result (λ can. can ≡ has_filters handshake.now) }
 {
-    let table = CommandTable::git();
+    let table = engine_table();
     let version = handshake.server_protocol_version;
     let features = table.default_features(alloc, Command::Fetch, version, &handshake.capabilities)?;
     let arguments = Arguments::new(alloc, &table, version, features)?;

@@ -8,6 +8,7 @@ mod filter;
 mod read;
 mod session;
 mod step;
+mod table;
 
 pub use consumer::{LeavePack, Left};
 pub use error::EngineError;

@@ -11,6 +11,7 @@ use crate::consumer::{LeavePack, Left};
 use crate::error::EngineError;
 use crate::filter::{FilterOnce, expect_filters};
 use crate::step::SessionInput;
+use crate::table::engine_table;
 use gixp_fetch::consume::ConsumePack;
 use gixp_fetch::error::Error as FetchError;
 use gixp_fetch::fetch::fetch;
@@ -28,7 +29,6 @@ use gixp_refmap::RefMap;
 use gixp_refmap::fetch::Tags;
 use gixp_refmap::refmap::init;
 use gixp_requests::agent_feature;
-use gixp_requests::command::CommandTable;
 use gixp_shallow::{Shallow, ShallowMemory, ShallowStore};
 use gixp_sidebands::{Interrupt, NeverInterrupt};
 use gixp_transport::{Feature, Transport};
@@ -95,7 +95,7 @@ fn map_refs<T: Transport>(
 {
     let agent = engine_feature(alloc)?;
     let mut quiet = Discard;
-    let table = CommandTable::git();
+    let table = engine_table();
     obtain_mappings(
         alloc, handshake, &table, agent, context, &mut quiet, transport,
     )
@@ -124,7 +124,7 @@ fn fetch_over<N: Negotiate, T: Transport>(
     let context = Context {
         handshake,
         transport,
-        table: &CommandTable::git(),
+        table: &engine_table(),
     };
     let options = Options {
         shallow_file: boundary,
