@@ -2,6 +2,7 @@
 use crate::fetches::{branches, fetch, unless_memory};
 use crate::lines::lines;
 use crate::servers::{GREETING, OLD, OLD_PACK, PACK, REFS, server};
+use bstr::ByteSlice;
 use gixp_client::{Error, Request, Session, Silent, State, over_streams};
 use gixp_doubles::{Device, Paper};
 use gixp_refmap::fetch::Tags;
@@ -49,7 +50,7 @@ fn written(alloc: Global, answers: &[&[&[u8]]], request: &Request) -> Result<Vec
 
 // Whether a text contains another.
 fn has(text: &[u8], part: &[u8]) -> bool {
-    text.windows(part.len()).any(|window| window == part)
+    text.contains_str(part)
 }
 
 #[test]
