@@ -227,6 +227,19 @@ def grow(t, repository, count, branch="main", seed=2, back=0):
     t.git("fast-import", "--quiet", "--force", "--date-format=raw", given=text, at=repository)
 
 
+def tagged(t, server):
+    """New commits with tags, and a tag of an old commit."""
+    grow(t, server, 5)
+    t.git("tag", "-a", "-m", "x", "new", "main~2", at=server)
+    t.git("tag", "-a", "-m", "x", "old", "main~20", at=server)
+
+
+def pruned(t, server):
+    """A branch and a symbolic ref less."""
+    t.git("branch", "-D", "side", at=server)
+    t.git("symbolic-ref", "--delete", "refs/heads/alias", at=server)
+
+
 # Comparisons
 
 

@@ -6,7 +6,8 @@ import pathlib
 import shlex
 import sys
 
-from live_harness import by_both, clone_both, commits, fetch_again, grow, is_clean, is_early, leaves_nothing, make, same
+from live_harness import (by_both, clone_both, commits, fetch_again, grow, is_clean, is_early, leaves_nothing, make, pruned, same,
+                          tagged)
 from live_servers import ended_after, free_port, has_loopback, wait_for_port
 
 SERVER = pathlib.Path(__file__).resolve().parent / "plain_server.py"
@@ -84,18 +85,6 @@ def grown(t, server):
 
 def rewritten(t, server):
     grow(t, server, 5, back=6)
-
-
-def tagged(t, server):
-    """New commits with tags, and a tag of an old commit."""
-    grow(t, server, 5)
-    t.git("tag", "-a", "-m", "x", "new", "main~2", at=server)
-    t.git("tag", "-a", "-m", "x", "old", "main~20", at=server)
-
-
-def pruned(t, server):
-    t.git("branch", "-D", "side", at=server)
-    t.git("symbolic-ref", "--delete", "refs/heads/alias", at=server)
 
 
 CLONES = ([], ["--mirror"], ["--no-tags"], ["--depth", "1"], ["--depth", "3", "--no-single-branch"], ["--shallow-since=1700000900"],

@@ -5,7 +5,7 @@ import signal
 import time
 
 from live_ends import AT_ONCE, MOMENTS, kill_at, slowly, unlock
-from live_harness import PROCESSES, clone_both, commits, files_left, grow, leaves_nothing, make, running, same, state
+from live_harness import PROCESSES, clone_both, commits, files_left, grow, leaves_nothing, make, pruned, running, same, state, tagged
 from live_httpd import web_of
 from live_web import missing, server_of, urls_of, web_accounts
 
@@ -51,18 +51,6 @@ def relay_clones(name, t, web, way, words, **wish):
 
 def grown(t, server):
     grow(t, server, 5)
-
-
-def tagged(t, server):
-    """New commits with tags, and a tag of an old commit."""
-    grow(t, server, 5)
-    t.git("tag", "-a", "-m", "x", "new", "main~2", at=server)
-    t.git("tag", "-a", "-m", "x", "old", "main~20", at=server)
-
-
-def pruned(t, server):
-    t.git("branch", "-D", "side", at=server)
-    t.git("symbolic-ref", "--delete", "refs/heads/alias", at=server)
 
 
 def relay_fetches(name, t, web, way, words, change, cloned=()):
