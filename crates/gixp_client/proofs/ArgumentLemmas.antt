@@ -79,42 +79,58 @@ none_filtered p q (x ∷ xs) e =
 -- ---- wants are ids
 
 -- no table of a session has `ref-in-want`
-no_word : (wants_progress : Bool) (protocols : UriProtocols)
-    → list_any (λ n. bytes_eq n (codes "ref-in-want")) (asked_table wants_progress protocols).v2_fetch ≡ false
-no_word true Neither = refl
-no_word true Http = refl
-no_word true Https = refl
-no_word true Both = refl
-no_word false Neither = refl
-no_word false Http = refl
-no_word false Https = refl
-no_word false Both = refl
+no_word : (wants_progress wants_thin_pack : Bool) (protocols : UriProtocols)
+    → list_any (λ n. bytes_eq n (codes "ref-in-want")) (asked_table wants_progress wants_thin_pack protocols).v2_fetch ≡ false
+no_word true true Neither = refl
+no_word true false Neither = refl
+no_word true true Http = refl
+no_word true false Http = refl
+no_word true true Https = refl
+no_word true false Https = refl
+no_word true true Both = refl
+no_word true false Both = refl
+no_word false true Neither = refl
+no_word false false Neither = refl
+no_word false true Http = refl
+no_word false false Http = refl
+no_word false true Https = refl
+no_word false false Https = refl
+no_word false true Both = refl
+no_word false false Both = refl
 
-no_entry : (wants_progress : Bool) (protocols : UriProtocols)
-    → list_any (λ (e : WordEntry). bytes_eq e.word (codes "ref-in-want")) (asked_table wants_progress protocols).v1_fetch ≡ false
-no_entry true Neither = refl
-no_entry true Http = refl
-no_entry true Https = refl
-no_entry true Both = refl
-no_entry false Neither = refl
-no_entry false Http = refl
-no_entry false Https = refl
-no_entry false Both = refl
+no_entry : (wants_progress wants_thin_pack : Bool) (protocols : UriProtocols)
+    → list_any (λ (e : WordEntry). bytes_eq e.word (codes "ref-in-want")) (asked_table wants_progress wants_thin_pack protocols).v1_fetch ≡ false
+no_entry true true Neither = refl
+no_entry true false Neither = refl
+no_entry true true Http = refl
+no_entry true false Http = refl
+no_entry true true Https = refl
+no_entry true false Https = refl
+no_entry true true Both = refl
+no_entry true false Both = refl
+no_entry false true Neither = refl
+no_entry false false Neither = refl
+no_entry false true Http = refl
+no_entry false false Http = refl
+no_entry false true Https = refl
+no_entry false false Https = refl
+no_entry false true Both = refl
+no_entry false false Both = refl
 
-v1_unnamed : (wants_progress : Bool) (protocols : UriProtocols) (capabilities : List CapabilityValue)
+v1_unnamed : (wants_progress wants_thin_pack : Bool) (protocols : UriProtocols) (capabilities : List CapabilityValue)
     → list_any (λ n. bytes_eq n (codes "ref-in-want"))
-    (map (λ (e : WordEntry). e.word) (filter (is_offered capabilities) (asked_table wants_progress protocols).v1_fetch)) ≡ false
-v1_unnamed wants_progress protocols capabilities =
-    any_word (codes "ref-in-want") (filter (is_offered capabilities) (asked_table wants_progress protocols).v1_fetch)
-    ∙ none_filtered _ (is_offered capabilities) (asked_table wants_progress protocols).v1_fetch (no_entry wants_progress protocols)
+    (map (λ (e : WordEntry). e.word) (filter (is_offered capabilities) (asked_table wants_progress wants_thin_pack protocols).v1_fetch)) ≡ false
+v1_unnamed wants_progress wants_thin_pack protocols capabilities =
+    any_word (codes "ref-in-want") (filter (is_offered capabilities) (asked_table wants_progress wants_thin_pack protocols).v1_fetch)
+    ∙ none_filtered _ (is_offered capabilities) (asked_table wants_progress wants_thin_pack protocols).v1_fetch (no_entry wants_progress wants_thin_pack protocols)
 
-unnamed : (version : Protocol) (wants_progress : Bool) (protocols : UriProtocols) (capabilities : List CapabilityValue)
-    → list_any (λ n. bytes_eq n (codes "ref-in-want")) (default_names (asked_table wants_progress protocols) Fetch version capabilities)
+unnamed : (version : Protocol) (wants_progress wants_thin_pack : Bool) (protocols : UriProtocols) (capabilities : List CapabilityValue)
+    → list_any (λ n. bytes_eq n (codes "ref-in-want")) (default_names (asked_table wants_progress wants_thin_pack protocols) Fetch version capabilities)
     ≡ false
-unnamed V2 wants_progress protocols capabilities =
-    none_filtered _ (supports capabilities Fetch) (asked_table wants_progress protocols).v2_fetch (no_word wants_progress protocols)
-unnamed V1 wants_progress protocols capabilities = v1_unnamed wants_progress protocols capabilities
-unnamed V0 wants_progress protocols capabilities = v1_unnamed wants_progress protocols capabilities
+unnamed V2 wants_progress wants_thin_pack protocols capabilities =
+    none_filtered _ (supports capabilities Fetch) (asked_table wants_progress wants_thin_pack protocols).v2_fetch (no_word wants_progress wants_thin_pack protocols)
+unnamed V1 wants_progress wants_thin_pack protocols capabilities = v1_unnamed wants_progress wants_thin_pack protocols capabilities
+unnamed V0 wants_progress wants_thin_pack protocols capabilities = v1_unnamed wants_progress wants_thin_pack protocols capabilities
 
 more_unnamed : (has : Bool) (id : Option (String Global))
     → has_feature (codes "ref-in-want") (if has then own_features id else []) ≡ false
@@ -126,9 +142,9 @@ pub no_refs_by_name : (shaken : Handshake) (name : ClientName) (request : Reques
     → can_use (codes "ref-in-want") (first_arguments (call_by shaken name request)) ≡ false
 no_refs_by_name shaken name request =
     with_names (codes "ref-in-want")
-    (default_names (asked_table request.wants_progress request.uri_protocols) Fetch shaken.server_protocol_version shaken.capabilities)
+    (default_names (asked_table request.wants_progress request.wants_thin_pack request.uri_protocols) Fetch shaken.server_protocol_version shaken.capabilities)
     (named_by name ∷ id_features shaken.capabilities name.session_id)
-    ∙ or_none _ _ (unnamed shaken.server_protocol_version request.wants_progress request.uri_protocols shaken.capabilities)
+    ∙ or_none _ _ (unnamed shaken.server_protocol_version request.wants_progress request.wants_thin_pack request.uri_protocols shaken.capabilities)
     (more_unnamed (has_named (codes "session-id") shaken.capabilities) name.session_id)
 
 -- ---- tags
@@ -161,47 +177,63 @@ anywhere capabilities (e ∷ front) back h =
 
 from_loud : (capabilities : List CapabilityValue) → has_named (codes "include-tag") capabilities ≡ true
     → list_any (λ (e : WordEntry). bytes_eq e.word (codes "include-tag"))
-    (filter (is_offered capabilities) (asked_table true Neither).v1_fetch) ≡ true
-from_loud capabilities h =
-    anywhere capabilities (take 9 (asked_table true Neither).v1_fetch) (drop 10 (asked_table true Neither).v1_fetch) h
+    (filter (is_offered capabilities) (asked_table true true Neither).v1_fetch) ≡ true
+from_loud capabilities h = anywhere capabilities (take 9 (asked_table true true Neither).v1_fetch) (drop 10 (asked_table true true Neither).v1_fetch) h
+
+from_loud_whole : (capabilities : List CapabilityValue) → has_named (codes "include-tag") capabilities ≡ true
+    → list_any (λ (e : WordEntry). bytes_eq e.word (codes "include-tag"))
+    (filter (is_offered capabilities) (asked_table true false Neither).v1_fetch) ≡ true
+from_loud_whole capabilities h = anywhere capabilities (take 8 (asked_table true false Neither).v1_fetch) (drop 9 (asked_table true false Neither).v1_fetch) h
 
 from_quiet : (capabilities : List CapabilityValue) → has_named (codes "include-tag") capabilities ≡ true
     → list_any (λ (e : WordEntry). bytes_eq e.word (codes "include-tag"))
-    (filter (is_offered capabilities) (asked_table false Neither).v1_fetch) ≡ true
-from_quiet capabilities h =
-    anywhere capabilities (take 9 (asked_table false Neither).v1_fetch) (drop 10 (asked_table false Neither).v1_fetch) h
+    (filter (is_offered capabilities) (asked_table false true Neither).v1_fetch) ≡ true
+from_quiet capabilities h = anywhere capabilities (take 9 (asked_table false true Neither).v1_fetch) (drop 10 (asked_table false true Neither).v1_fetch) h
 
-from_table : (capabilities : List CapabilityValue) (wants_progress : Bool) (protocols : UriProtocols)
+from_quiet_whole : (capabilities : List CapabilityValue) → has_named (codes "include-tag") capabilities ≡ true
+    → list_any (λ (e : WordEntry). bytes_eq e.word (codes "include-tag"))
+    (filter (is_offered capabilities) (asked_table false false Neither).v1_fetch) ≡ true
+from_quiet_whole capabilities h = anywhere capabilities (take 8 (asked_table false false Neither).v1_fetch) (drop 9 (asked_table false false Neither).v1_fetch) h
+
+from_table : (capabilities : List CapabilityValue) (wants_progress wants_thin_pack : Bool) (protocols : UriProtocols)
     → has_named (codes "include-tag") capabilities ≡ true
     → list_any (λ (e : WordEntry). bytes_eq e.word (codes "include-tag"))
-    (filter (is_offered capabilities) (asked_table wants_progress protocols).v1_fetch) ≡ true
-from_table capabilities true Neither h = from_loud capabilities h
-from_table capabilities true Http h = from_loud capabilities h
-from_table capabilities true Https h = from_loud capabilities h
-from_table capabilities true Both h = from_loud capabilities h
-from_table capabilities false Neither h = from_quiet capabilities h
-from_table capabilities false Http h = from_quiet capabilities h
-from_table capabilities false Https h = from_quiet capabilities h
-from_table capabilities false Both h = from_quiet capabilities h
+    (filter (is_offered capabilities) (asked_table wants_progress wants_thin_pack protocols).v1_fetch) ≡ true
+from_table capabilities true true Neither h = from_loud capabilities h
+from_table capabilities true true Http h = from_loud capabilities h
+from_table capabilities true true Https h = from_loud capabilities h
+from_table capabilities true true Both h = from_loud capabilities h
+from_table capabilities true false Neither h = from_loud_whole capabilities h
+from_table capabilities true false Http h = from_loud_whole capabilities h
+from_table capabilities true false Https h = from_loud_whole capabilities h
+from_table capabilities true false Both h = from_loud_whole capabilities h
+from_table capabilities false true Neither h = from_quiet capabilities h
+from_table capabilities false true Http h = from_quiet capabilities h
+from_table capabilities false true Https h = from_quiet capabilities h
+from_table capabilities false true Both h = from_quiet capabilities h
+from_table capabilities false false Neither h = from_quiet_whole capabilities h
+from_table capabilities false false Http h = from_quiet_whole capabilities h
+from_table capabilities false false Https h = from_quiet_whole capabilities h
+from_table capabilities false false Both h = from_quiet_whole capabilities h
 
 -- a feature that the server offers can be used
-named_v1 : (capabilities : List CapabilityValue) (wants_progress : Bool) (protocols : UriProtocols) (rest : List FeatureValue)
+named_v1 : (capabilities : List CapabilityValue) (wants_progress wants_thin_pack : Bool) (protocols : UriProtocols) (rest : List FeatureValue)
     → has_named (codes "include-tag") capabilities ≡ true
     → has_feature (codes "include-tag") (map plain_feature
-    (map (λ (e : WordEntry). e.word) (filter (is_offered capabilities) (asked_table wants_progress protocols).v1_fetch)) ++ rest) ≡ true
-named_v1 capabilities wants_progress protocols rest h =
-    let entries = filter (is_offered capabilities) (asked_table wants_progress protocols).v1_fetch in
+    (map (λ (e : WordEntry). e.word) (filter (is_offered capabilities) (asked_table wants_progress wants_thin_pack protocols).v1_fetch)) ++ rest) ≡ true
+named_v1 capabilities wants_progress wants_thin_pack protocols rest h =
+    let entries = filter (is_offered capabilities) (asked_table wants_progress wants_thin_pack protocols).v1_fetch in
     with_names (codes "include-tag") (map (λ (e : WordEntry). e.word) entries) rest
     ∙ or_first _ (has_feature (codes "include-tag") rest) (any_word (codes "include-tag") entries
-    ∙ from_table capabilities wants_progress protocols h)
+    ∙ from_table capabilities wants_progress wants_thin_pack protocols h)
 
-usable : (version : Protocol) (capabilities : List CapabilityValue) (wants_progress : Bool) (protocols : UriProtocols)
+usable : (version : Protocol) (capabilities : List CapabilityValue) (wants_progress wants_thin_pack : Bool) (protocols : UriProtocols)
     (agent : FeatureValue) (more : List FeatureValue) → includes_tags version capabilities ≡ true
-    → can_use_include_tag (asks_nothing (asked_table wants_progress protocols) version
-    (features_of (asked_table wants_progress protocols) version capabilities agent more)) ≡ true
-usable V2 capabilities wants_progress protocols agent more h = refl
-usable V1 capabilities wants_progress protocols agent more h = named_v1 capabilities wants_progress protocols (agent ∷ more) h
-usable V0 capabilities wants_progress protocols agent more h = named_v1 capabilities wants_progress protocols (agent ∷ more) h
+    → can_use_include_tag (asks_nothing (asked_table wants_progress wants_thin_pack protocols) version
+    (features_of (asked_table wants_progress wants_thin_pack protocols) version capabilities agent more)) ≡ true
+usable V2 capabilities wants_progress wants_thin_pack protocols agent more h = refl
+usable V1 capabilities wants_progress wants_thin_pack protocols agent more h = named_v1 capabilities wants_progress wants_thin_pack protocols (agent ∷ more) h
+usable V0 capabilities wants_progress wants_thin_pack protocols agent more h = named_v1 capabilities wants_progress wants_thin_pack protocols (agent ∷ more) h
 
 -- the test of a feature that can be used succeeds
 taken : (can : Bool) (name : List ℕ) (a : ArgumentsValue) → can ≡ true → (b : ArgumentsValue) × (if_can can name a ≡ Ok b)
@@ -224,5 +256,5 @@ pub tags_never_fail : (shaken : Handshake) (name : ClientName) (request : Reques
     → (asked : ArgumentsValue) × (tagged_arguments (call_by shaken name request) ≡ Ok asked)
 tags_never_fail shaken name request =
     by_tags shaken.server_protocol_version shaken.capabilities request.tags (first_arguments (call_by shaken name request))
-    (usable shaken.server_protocol_version shaken.capabilities request.wants_progress request.uri_protocols (named_by name)
+    (usable shaken.server_protocol_version shaken.capabilities request.wants_progress request.wants_thin_pack request.uri_protocols (named_by name)
     (id_features shaken.capabilities name.session_id))

@@ -130,8 +130,8 @@ pub maps_refs_here : (request : Request) (agent : FeatureValue) (shaken : Handsh
     (r : Result RefMap MapError) → shaken.refs ≡ Some refs → MapsInSession request agent shaken plain old new r
     → MapsRefsHere request shaken refs.items old new r
 maps_refs_here request agent shaken refs plain old new r e m =
-    let made = made_of_refs (asked_table request.wants_progress request.uri_protocols) agent m.context shaken.capabilities refs plain old new r m.obtains.prepared
-    (subst (λ (x : Option (Vec Ref Global)). PreparesBy x (asked_table request.wants_progress request.uri_protocols) true agent m.context shaken.capabilities
+    let made = made_of_refs (asked_table request.wants_progress request.wants_thin_pack request.uri_protocols) agent m.context shaken.capabilities refs plain old new r m.obtains.prepared
+    (subst (λ (x : Option (Vec Ref Global)). PreparesBy x (asked_table request.wants_progress request.wants_thin_pack request.uri_protocols) true agent m.context shaken.capabilities
     m.obtains.prepared) (sees_own (are_ids (asked_specs request)) refs m.seen
     (subst (λ (x : Option (Vec Ref Global)). SeesRefs (are_ids (asked_specs request)) x m.seen) e m.sees)) m.obtains.prepares)
     m.obtains.obtains in
@@ -143,8 +143,8 @@ pub lists_for_map : (request : Request) (agent : FeatureValue) (shaken : Handsha
 lists_for_map request agent shaken plain old new r e names m = record {
   context = m.context;
   asked = m.asked;
-  lists = made_of_none (asked_table request.wants_progress request.uri_protocols) agent m.context shaken plain old new r m.obtains.prepared
-      (subst (λ (x : Option (Vec Ref Global)). PreparesBy x (asked_table request.wants_progress request.uri_protocols) true agent m.context shaken.capabilities
+  lists = made_of_none (asked_table request.wants_progress request.wants_thin_pack request.uri_protocols) agent m.context shaken plain old new r m.obtains.prepared
+      (subst (λ (x : Option (Vec Ref Global)). PreparesBy x (asked_table request.wants_progress request.wants_thin_pack request.uri_protocols) true agent m.context shaken.capabilities
       m.obtains.prepared) (sees_none (are_ids (asked_specs request)) shaken.refs m.seen names e m.sees) m.obtains.prepares)
       m.obtains.obtains;
 }
@@ -155,9 +155,9 @@ pub maps_ids : (request : Request) (agent : FeatureValue) (shaken : Handshake) (
     → MapsInSession request agent shaken plain old new r → MapsRefsHere request shaken [] old new r
 maps_ids request agent shaken plain old new r e ids m =
     let empty = sees_empty (are_ids (asked_specs request)) shaken.refs m.seen ids e m.sees in
-    let made = made_of_refs (asked_table request.wants_progress request.uri_protocols) agent m.context shaken.capabilities empty.0 plain
+    let made = made_of_refs (asked_table request.wants_progress request.wants_thin_pack request.uri_protocols) agent m.context shaken.capabilities empty.0 plain
     old new r m.obtains.prepared
-    (subst (λ (x : Option (Vec Ref Global)). PreparesBy x (asked_table request.wants_progress request.uri_protocols) true agent m.context
+    (subst (λ (x : Option (Vec Ref Global)). PreparesBy x (asked_table request.wants_progress request.wants_thin_pack request.uri_protocols) true agent m.context
     shaken.capabilities m.obtains.prepared) empty.2 m.obtains.prepares) m.obtains.obtains in
     record {
       context = m.context;

@@ -62,7 +62,7 @@ one_run parties converts map_of knows promises parameters agent more request sta
       handshake = handshake;
       shaken = shaken;
       shakes = opens.shakes;
-      obtains = subst (λ (x : Option (Vec Ref Global)). Obtains (asked_table request.wants_progress request.uri_protocols) agent maps.context
+      obtains = subst (λ (x : Option (Vec Ref Global)). Obtains (asked_table request.wants_progress request.wants_thin_pack request.uri_protocols) agent maps.context
           (record handshake { refs = x }) parties.plain shaken middle (Ok made))
           (sees_same (are_ids (asked_specs request)) handshake.refs maps.seen reads maps.sees) maps.obtains;
       version = ap (λ (x : Handshake). x.server_protocol_version) keeps;

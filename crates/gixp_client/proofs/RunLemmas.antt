@@ -44,14 +44,14 @@ use Rattle.gixp_packetline.specs.declared.protocol.Protocol.{Protocol}
 pub as_session : {N I S A C P X : Type 0} (parties : Parties N I A S C P X) (table : TableValue) (agent agent' : FeatureValue)
     (more more' : List FeatureValue) (shaken : Handshake) (request : Request) (old : World N I S C)
     (received : Result (Option Outcome) (FetchError A X)) (new : World N I S C) (progress : P) (tags : Tags)
-    → table ≡ asked_table request.wants_progress request.uri_protocols → agent ≡ agent' → more ≡ more'
+    → table ≡ asked_table request.wants_progress request.wants_thin_pack request.uri_protocols → agent ≡ agent' → more ≡ more'
     → tags ≡ sent_tags shaken.server_protocol_version shaken.capabilities request.tags
     → Fetches parties (call_of table shaken agent more tags (shallow_value request.shallow) request.rejects_shallow)
     old received new progress
     → CarriesFetch parties (session_call shaken agent' more' request).fetch old received new progress
 as_session parties table agent agent' more more' shaken request old received new progress tags t a m s f = record {
   fetched =
-      subst (λ (x : Tags). Fetches parties (call_of (asked_table request.wants_progress request.uri_protocols) shaken agent' more' x
+      subst (λ (x : Tags). Fetches parties (call_of (asked_table request.wants_progress request.wants_thin_pack request.uri_protocols) shaken agent' more' x
       (shallow_value request.shallow) request.rejects_shallow) old received new progress) s
       (subst (λ (x : TableValue). Fetches parties (call_of x shaken agent' more' tags (shallow_value request.shallow)
       request.rejects_shallow) old received new progress) t

@@ -98,7 +98,7 @@ pub record MapsInSession (request : Request) (agent : FeatureValue) (shaken : Ha
   pub asked : context_value context ≡ asked_specs request
   pub seen : Option (Vec Ref Global)
   pub sees : SeesRefs (are_ids (asked_specs request)) shaken.refs seen
-  pub obtains : Obtains (asked_table request.wants_progress request.uri_protocols) agent context (record shaken { refs = seen })
+  pub obtains : Obtains (asked_table request.wants_progress request.wants_thin_pack request.uri_protocols) agent context (record shaken { refs = seen })
       plain old new r
 
 -- the result of a fetch, without a type of the caller's
@@ -170,7 +170,7 @@ module _ {N I S A C P X : Type 0} (parties : Parties (CheckedNegotiation N) I A 
 -- the arguments of a session's fetch
 abbrev pub session_call : Handshake → FeatureValue → List FeatureValue → Request → SessionCall
 session_call shaken agent more request = record {
-  fetch = call_of (asked_table request.wants_progress request.uri_protocols) shaken agent more
+  fetch = call_of (asked_table request.wants_progress request.wants_thin_pack request.uri_protocols) shaken agent more
       (sent_tags shaken.server_protocol_version shaken.capabilities request.tags) (shallow_value request.shallow)
       request.rejects_shallow;
   most_haves = most_haves shaken.server_protocol_version request.is_over_pipes;

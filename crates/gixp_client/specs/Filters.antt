@@ -18,5 +18,5 @@ abbrev pub offers_filter : Handshake → Bool
 offers_filter shaken = has_feature (codes "filter") (default_features git_table Fetch shaken.server_protocol_version shaken.capabilities)
 
 -- there is no filter, or the server offers filters
-abbrev pub IsOffered : Option (String Global) → Handshake → Type 0
-IsOffered filter shaken = (filter ≡ None) ⊎ (offers_filter shaken ≡ true)
+abbrev pub FilterIsOffered : Option (String Global) → Handshake → Type 0
+FilterIsOffered filter shaken = (filter ≡ None) ⊎ (offers_filter shaken ≡ true)

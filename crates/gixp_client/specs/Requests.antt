@@ -26,6 +26,7 @@ pub record IsDefaultRequest (r : Request) : Type 0 where
   pub unfiltered : r.filter ≡ None
   pub stops : r.goes_on ≡ false
   pub wants_progress : r.wants_progress ≡ true
+  pub wants_thin_pack : r.wants_thin_pack ≡ true
   pub without_uris : r.uri_protocols ≡ Neither
 
 -- a refspec without its sign whose source is `@` alone

@@ -1,7 +1,9 @@
--- The commands and features that a client uses by itself. They depend on whether the client wants progress, and on the allowed
--- protocols of packfile URIs (gitprotocol-capabilities, "no-progress"; gitprotocol-v2, "fetch"; git-config, "fetch.uriProtocols").
-use Rattle.std.specs.Prelude.{ℕ, Bool, true, false, List, [], ◌∷◌, ◌++◌, codes}
-use Rattle.gixp_requests.specs.Command.{TableValue, always, by, git_table}
+-- The commands and features that a client uses by itself. They depend on whether the client wants progress and thin packs, and on
+-- the allowed protocols of packfile URIs (gitprotocol-capabilities, "no-progress", "thin-pack"; gitprotocol-v2, "fetch"; git-config,
+-- "fetch.uriProtocols").
+use Rattle.std.specs.Prelude.{ℕ, Bool, true, false, not, List, [], ◌∷◌, ◌++◌, filter, codes}
+use Rattle.std.specs.Str.{bytes_eq}
+use Rattle.gixp_requests.specs.Command.{TableValue, WordEntry, always, by, git_table}
 use Rattle.gixp_client.specs.declared.tables.UriProtocols.{UriProtocols}
 use Rattle.gixp_client.specs.declared.tables.UriProtocols.TheVariants.{Neither, Http, Https, Both}
 
@@ -34,5 +36,21 @@ with_uris Http t = naming (codes "packfile-uris http") t
 with_uris Https t = naming (codes "packfile-uris https") t
 with_uris Both t = naming (codes "packfile-uris http,https") t
 
-abbrev pub asked_table : Bool → UriProtocols → TableValue
-asked_table wants_progress protocols = with_uris protocols (plain_table wants_progress)
+-- the entries of all other words
+abbrev pub without : List ℕ → List WordEntry → List WordEntry
+without word entries = filter (λ (e : WordEntry). not (bytes_eq e.word word)) entries
+
+-- without `thin-pack`, if the client can't complete a thin pack (gitprotocol-capabilities, "thin-pack")
+abbrev pub with_thin : Bool → TableValue → TableValue
+with_thin true t = t
+with_thin false t = record t {
+  v1_fetch = without (codes "thin-pack") t.v1_fetch;
+  fetch_arguments = without (codes "thin-pack") t.fetch_arguments;
+}
+
+-- the table with a part for thin packs
+abbrev pub thin_table : Bool → UriProtocols → TableValue
+thin_table wants_progress protocols = with_uris protocols (plain_table wants_progress)
+
+abbrev pub asked_table : (wants_progress wants_thin_pack : Bool) → UriProtocols → TableValue
+asked_table wants_progress wants_thin_pack protocols = with_thin wants_thin_pack (thin_table wants_progress protocols)

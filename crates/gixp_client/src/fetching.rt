@@ -8,7 +8,7 @@ ghost use Rattle.gixp_fetch.specs.Fetch.{parties_of};
 ghost use Rattle.gixp_client.specs.ClientCalls.{session_call, session_knowledge, FetchesMap};
 ghost use Rattle.gixp_client.specs.ClientError.{IsUnsent};
 ghost use Rattle.gixp_client.specs.ClientNames.{agent_of, own_features};
-ghost use Rattle.gixp_client.specs.Filters.{IsOffered};
+ghost use Rattle.gixp_client.specs.Filters.{FilterIsOffered};
 ghost use Rattle.gixp_client.specs.Unshallowed.{TakesKnown, KnowsAll};
 ghost use Rattle.gixp_client.specs.SessionStates.{state_after_outcome, state_after_fetch, is_reported, IsReportIn};
 
@@ -46,7 +46,7 @@ where
 {
     // Returns `MissingFeature` if the request has a filter and the server offers none.
     fn expect_filter(&self, request: &Request) -> Result<(), Error>
-        ensures offered { OnOk result (IsOffered request.now.filter self.now.shaken) }
+        ensures offered { OnOk result (FilterIsOffered request.now.filter self.now.shaken) }
         ensures refused { IfErr result (IsUnsent self.now.state request.now self.now.shaken) }
     {
         if request.filter.is_none() || can_filter(self.alloc, &self.shaken)? {
@@ -148,7 +148,7 @@ where
         ensures refused { IfErr result (⟦<AnyNegotiator as SessionFetch<'a, T, L, P, F, R, C>>⟧.fails map.now repository.entry
             request.now self.old self.new pack.old pack.new) }
         ensures unreported { IfOk result (λ f. is_reported request.now.goes_on f.messages.has_error ≡ false) }
-        ensures filtered { OnOk result ((map.now.mappings.items ≡ []) ⊎ IsOffered request.now.filter self.old.shaken) }
+        ensures filtered { OnOk result ((map.now.mappings.items ≡ []) ⊎ FilterIsOffered request.now.filter self.old.shaken) }
         ensures handshake { self.new.shaken ≡ record self.old.shaken { v1_shallow_updates = self.new.shaken.v1_shallow_updates } }
         ensures name { self.new.name ≡ self.old.name }
     {
@@ -179,7 +179,7 @@ where
         ensures refused { IfErr result (⟦<N as SessionFetch<'a, T, L, P, F, R, C>>⟧.fails map.now repository.entry
             request.now self.old self.new pack.old pack.new) }
         ensures unreported { IfOk result (λ f. is_reported request.now.goes_on f.messages.has_error ≡ false) }
-        ensures filtered { OnOk result ((map.now.mappings.items ≡ []) ⊎ IsOffered request.now.filter self.old.shaken) }
+        ensures filtered { OnOk result ((map.now.mappings.items ≡ []) ⊎ FilterIsOffered request.now.filter self.old.shaken) }
         ensures handshake { self.new.shaken ≡ record self.old.shaken { v1_shallow_updates = self.new.shaken.v1_shallow_updates } }
         ensures name { self.new.name ≡ self.old.name }
     {

@@ -45,6 +45,9 @@ pub struct Request {
     /// Whether the server should send progress. If not, the request asks for `no-progress` where the server offers it. The default
     /// is true.
     pub wants_progress: bool,
+    /// Whether the server may send a thin pack, whose deltas may have a base that the pack lacks (gitprotocol-capabilities,
+    /// "thin-pack"). Turn it off if nothing adds such bases, as `git index-pack --fix-thin` does. The default is true.
+    pub wants_thin_pack: bool,
     /// The protocols of the URIs that the server may send in place of objects in its pack (gitprotocol-v2, "packfile-uris"). The
     /// transport has to remove the section `packfile-uris` from the response, since a fetch rejects it. The default is none.
     pub uri_protocols: UriProtocols,
@@ -69,6 +72,7 @@ impl Request {
             filter: None,
             goes_on: false,
             wants_progress: true,
+            wants_thin_pack: true,
             uri_protocols: UriProtocols::Neither,
         }
     }
@@ -114,9 +118,13 @@ impl Request {
 
     // The commands and features that a session with this request uses.
     pub(crate) fn table(&self) -> CommandTable
-        ensures { table_of result ≡ asked_table self.now.wants_progress self.now.uri_protocols }
+        ensures { table_of result ≡ asked_table self.now.wants_progress self.now.wants_thin_pack self.now.uri_protocols }
     {
-        table_by(self.wants_progress, self.uri_protocols)
+        table_by(
+            self.wants_progress,
+            self.wants_thin_pack,
+            self.uri_protocols,
+        )
     }
 
     // The refspecs of the request and the refspec of its tags.

@@ -1,7 +1,7 @@
 //! The commands and features that a client uses by itself.
-ghost use Rattle.std.specs.Prelude.{◌≡◌, ◌≢◌};
+ghost use Rattle.std.specs.Prelude.{◌≡◌, ◌≢◌, codes};
 ghost use Rattle.gixp_requests.specs.Command.{table_of, entries_of};
-ghost use Rattle.gixp_client.specs.Tables.{id_table, plain_table, with_uris, asked_table};
+ghost use Rattle.gixp_client.specs.Tables.{id_table, plain_table, with_uris, without, thin_table, asked_table};
 
 use gixp_requests::command::CommandTable;
 
@@ -50,6 +50,52 @@ static QUIET_V1_FETCH: [(&str, Option<&str>); 13] = [
     ("filter", None),
     ("no-progress", None),
 ];
+
+// The same without `thin-pack`.
+static WHOLE_V1_FETCH: [(&str, Option<&str>); 11] = [
+    ("multi_ack", Some("multi_ack_detailed")),
+    ("side-band", Some("side-band-64k")),
+    ("side-band-64k", None),
+    ("ofs-delta", None),
+    ("shallow", None),
+    ("deepen-since", None),
+    ("deepen-not", None),
+    ("deepen-relative", None),
+    ("include-tag", None),
+    ("multi_ack_detailed", None),
+    ("filter", None),
+];
+
+static WHOLE_QUIET_V1_FETCH: [(&str, Option<&str>); 12] = [
+    ("multi_ack", Some("multi_ack_detailed")),
+    ("side-band", Some("side-band-64k")),
+    ("side-band-64k", None),
+    ("ofs-delta", None),
+    ("shallow", None),
+    ("deepen-since", None),
+    ("deepen-not", None),
+    ("deepen-relative", None),
+    ("include-tag", None),
+    ("multi_ack_detailed", None),
+    ("filter", None),
+    ("no-progress", None),
+];
+
+static WHOLE_ARGUMENTS: [(&str, Option<&str>); 2] = [OFFSETS, BANDS];
+
+static WHOLE_HTTP: [(&str, Option<&str>); 3] = [OFFSETS, BANDS, HTTP];
+
+static WHOLE_HTTPS: [(&str, Option<&str>); 3] = [OFFSETS, BANDS, HTTPS];
+
+static WHOLE_BOTH: [(&str, Option<&str>); 3] = [OFFSETS, BANDS, BOTH];
+
+static WHOLE_QUIET_ARGUMENTS: [(&str, Option<&str>); 3] = [OFFSETS, BANDS, QUIET];
+
+static WHOLE_QUIET_HTTP: [(&str, Option<&str>); 4] = [OFFSETS, BANDS, QUIET, HTTP];
+
+static WHOLE_QUIET_HTTPS: [(&str, Option<&str>); 4] = [OFFSETS, BANDS, QUIET, HTTPS];
+
+static WHOLE_QUIET_BOTH: [(&str, Option<&str>); 4] = [OFFSETS, BANDS, QUIET, BOTH];
 
 static QUIET_ARGUMENTS: [(&str, Option<&str>); 4] = [THIN, OFFSETS, BANDS, QUIET];
 
@@ -128,12 +174,58 @@ fn uri_arguments(wants_progress: bool, protocols: UriProtocols) -> Lines
     }
 }
 
+// The features of versions 0 and 1 without `thin-pack`.
+fn whole_features(wants_progress: bool) -> Lines
+    ensures { entries_of result.now ≡ without (codes "thin-pack") (plain_table wants_progress).v1_fetch }
+{
+    if wants_progress {
+        &WHOLE_V1_FETCH
+    } else {
+        &WHOLE_QUIET_V1_FETCH
+    }
+}
+
+// The first argument lines of a version 2 fetch without `thin-pack`.
+fn whole_arguments(wants_progress: bool, protocols: UriProtocols) -> Lines
+    ensures { entries_of result.now ≡ without (codes "thin-pack") (thin_table wants_progress protocols).fetch_arguments }
+{
+    match (protocols, wants_progress) {
+        (UriProtocols::Neither, true) => &WHOLE_ARGUMENTS,
+        (UriProtocols::Http, true) => &WHOLE_HTTP,
+        (UriProtocols::Https, true) => &WHOLE_HTTPS,
+        (UriProtocols::Both, true) => &WHOLE_BOTH,
+        (UriProtocols::Neither, false) => &WHOLE_QUIET_ARGUMENTS,
+        (UriProtocols::Http, false) => &WHOLE_QUIET_HTTP,
+        (UriProtocols::Https, false) => &WHOLE_QUIET_HTTPS,
+        (UriProtocols::Both, false) => &WHOLE_QUIET_BOTH,
+    }
+}
+
 /// git's table without `ref-in-want`, so that each want is an id. If no progress is wanted, `no-progress` is added: a feature of
 /// versions 0 and 1 where the server offers it, a line under version 2 (gitprotocol-capabilities, "no-progress"; gitprotocol-v2,
-/// "fetch"). If packfile URIs are allowed, a line `packfile-uris` with their protocols follows, only under version 2 and if the
-/// server offers it.
-pub(crate) fn table_by(wants_progress: bool, protocols: UriProtocols) -> CommandTable
-    ensures { table_of result ≡ asked_table wants_progress protocols }
+/// "fetch"). If no thin pack is wanted, `thin-pack` is left out. If packfile URIs are allowed, a line `packfile-uris` with their
+/// protocols follows, only under version 2 and if the server offers it.
+pub(crate) fn table_by(
+    wants_progress: bool,
+    wants_thin_pack: bool,
+    protocols: UriProtocols,
+) -> CommandTable
+    ensures { table_of result ≡ asked_table wants_progress wants_thin_pack protocols }
+{
+    let table = thin_table(wants_progress, protocols);
+    if wants_thin_pack {
+        return table;
+    }
+    CommandTable {
+        v1_fetch: whole_features(wants_progress),
+        fetch_arguments: whole_arguments(wants_progress, protocols),
+        ..table
+    }
+}
+
+// The table of a client that wants thin packs.
+fn thin_table(wants_progress: bool, protocols: UriProtocols) -> CommandTable
+    ensures { table_of result ≡ thin_table wants_progress protocols }
 {
     let table = plain_table(wants_progress);
     if protocols == UriProtocols::Neither {

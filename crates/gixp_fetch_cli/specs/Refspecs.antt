@@ -2,8 +2,8 @@
 use Rattle.std.specs.Prelude.{◌≡◌, List, Ok, map}
 use Rattle.bstr.specs.Owned.{bstring_bytes}
 use Rattle.bstr.specs.declared.bstring.BString.{BString}
-use Rattle.gix_protocol.specs.Spec.{spec_of}
 use Rattle.gix_protocol.specs.Requests.{spelled}
+use Rattle.gix_protocol.specs.Spec.{spec_of}
 use Rattle.gix_protocol.specs.RefSpec.{owned_value_of}
 use Rattle.gix_protocol.specs.RefSpecType.{RefSpec}
 

@@ -14,6 +14,12 @@ const UNTAGGED: &[&[u8]] = &[
     b"",
 ];
 
+// A server of version 0 that can send thin packs.
+const THIN: &[&[u8]] = &[
+    b"7257effbd41e1233eaae5744e614c5c728e3c979 refs/heads/main\0multi_ack_detailed side-band-64k thin-pack ofs-delta\n",
+    b"",
+];
+
 // A server of version 2 with `ref-in-want`.
 const BY_NAME: &[&[u8]] = &[
     b"version 2\n",
@@ -110,5 +116,21 @@ fn refs_are_requested_by_their_ids(rt: HostRuntime) -> Result<(), Error> {
     let asked = written(alloc, &[BY_NAME, REFS, PACK], &request)?;
     assert!(rt; has(&asked, b"want 7257effbd41e1233eaae5744e614c5c728e3c979"));
     assert!(rt; !has(&asked, b"want-ref"));
+    Ok(())
+}
+
+#[test]
+fn a_thin_pack_is_requested_if_it_is_wanted(rt: HostRuntime) -> Result<(), Error> {
+    let alloc = rt.alloc();
+    let mut request = branches(alloc)?;
+    for answers in [&[GREETING, REFS, PACK] as &[&[&[u8]]], &[THIN, OLD_PACK]] {
+        request.wants_thin_pack = true;
+        let asked = written(alloc, answers, &request)?;
+        assert!(rt; has(&asked, b"thin-pack"));
+        request.wants_thin_pack = false;
+        let asked = written(alloc, answers, &request)?;
+        assert!(rt; has(&asked, b"ofs-delta"));
+        assert!(rt; !has(&asked, b"thin-pack"));
+    }
     Ok(())
 }
