@@ -98,8 +98,8 @@ pub record MapsInSession (request : Request) (agent : FeatureValue) (shaken : Ha
   pub asked : context_value context ≡ asked_specs request
   pub seen : Option (Vec Ref Global)
   pub sees : SeesRefs (are_ids (asked_specs request)) shaken.refs seen
-  pub obtains : Obtains (asked_table request.wants_progress request.wants_thin_pack request.uri_protocols) agent context (record shaken { refs = seen })
-      plain old new r
+  pub obtains : Obtains (asked_table request.wants_progress request.wants_thin_pack request.uri_protocols) agent context
+      (record shaken { refs = seen }) plain old new r
 
 -- the result of a fetch, without a type of the caller's
 abbrev pub IsReportedResult : {A X : Type 0} → (X → Error → Type 0) → Result (Option Outcome) (FetchError A X) → Result (Option Outcome) Error

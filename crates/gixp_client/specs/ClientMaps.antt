@@ -37,4 +37,5 @@ pub record ListsForMap (request : Request) (agent : FeatureValue) (shaken : Hand
   pub context : Context
   pub asked : context_value context ≡ asked_specs request
   pub lists : ((new ≡ old) × (r ≡ Err Memory)) ⊎ FetchesList
-      (listing_for (asked_table request.wants_progress request.wants_thin_pack request.uri_protocols) agent shaken context) context plain old new r
+      (listing_for (asked_table request.wants_progress request.wants_thin_pack request.uri_protocols) agent shaken context)
+      context plain old new r

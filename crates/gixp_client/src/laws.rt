@@ -49,13 +49,17 @@ where
         → (is_some handshake.refs || not (are_ids (asked_specs request))) ≡ true
         → kept ≡ record handshake { refs = kept.refs }
         → FetchesInSession
-        (parties_of ⟦<UnshallowCheck<'a, Filtered<'a, Windowed<N>>> as Negotiate>⟧.calls ⟦<ShallowMemory as ShallowStore>⟧.calls I.polls C.consumes plain)
+        (parties_of ⟦<UnshallowCheck<'a, Filtered<'a, Windowed<N>>> as Negotiate>⟧.calls
+        ⟦<ShallowMemory as ShallowStore>⟧.calls I.polls C.consumes plain)
         ⟦<C::Error as Into<Error>>⟧.converts
-        ⟦<UnshallowCheck<'a, Filtered<'a, Windowed<N>>> as NegotiatesMap>⟧.map_of ⟦<UnshallowCheck<'a, Filtered<'a, Windowed<N>>> as NegotiatesMap>⟧.knows (session_call kept agent more request)
+        ⟦<UnshallowCheck<'a, Filtered<'a, Windowed<N>>> as NegotiatesMap>⟧.map_of
+        ⟦<UnshallowCheck<'a, Filtered<'a, Windowed<N>>> as NegotiatesMap>⟧.knows (session_call kept agent more request)
         made known boundary after middle consumer report new consumer'
-        → IsOneRun (parties_of ⟦<UnshallowCheck<'a, Filtered<'a, Windowed<N>>> as Negotiate>⟧.calls ⟦<ShallowMemory as ShallowStore>⟧.calls I.polls C.consumes plain)
+        → IsOneRun (parties_of ⟦<UnshallowCheck<'a, Filtered<'a, Windowed<N>>> as Negotiate>⟧.calls
+        ⟦<ShallowMemory as ShallowStore>⟧.calls I.polls C.consumes plain)
         ⟦<C::Error as Into<Error>>⟧.converts
-        ⟦<UnshallowCheck<'a, Filtered<'a, Windowed<N>>> as NegotiatesMap>⟧.map_of ⟦<UnshallowCheck<'a, Filtered<'a, Windowed<N>>> as NegotiatesMap>⟧.knows agent more request start made known boundary
+        ⟦<UnshallowCheck<'a, Filtered<'a, Windowed<N>>> as NegotiatesMap>⟧.map_of
+        ⟦<UnshallowCheck<'a, Filtered<'a, Windowed<N>>> as NegotiatesMap>⟧.knows agent more request start made known boundary
         consumer report new consumer' }
 {
     headline::<UnshallowCheck<'a, Filtered<'a, Windowed<N>>>, ShallowMemory, I, P, C>();

@@ -365,7 +365,8 @@ impl<T: Transport + Drop, L: Listener + Drop, P: NestedProgress + Drop> Session<
         ensures mapped { IfOk result (λ m. MapsInSession request.now (named_by self.old.name)
             self.old.shaken T.is_plain
             (T.reading self.old.transport.inner) (T.reading self.new.transport.inner) (Ok m)) }
-        ensures whole { OnOk result (are_whole (needs_no_list request.now self.old.shaken) (T.reading self.new.transport.inner).stopped ≡ true) }
+        ensures whole { OnOk result (are_whole (needs_no_list request.now self.old.shaken)
+            (T.reading self.new.transport.inner).stopped ≡ true) }
         ensures format { OnOk result (unknown_format self.old.shaken.capabilities ≡ None) }
         ensures other { unknown_format self.old.shaken.capabilities ≢ None → self.new ≡ self.old }
         ensures refused { IfErr result (λ e. ((self.new ≡ self.old) × IsUnasked self.old.state self.old.shaken.capabilities e)
@@ -374,7 +375,8 @@ impl<T: Transport + Drop, L: Listener + Drop, P: NestedProgress + Drop> Session<
             × (whole_map made (are_whole (needs_no_list request.now self.old.shaken) (T.reading self.new.transport.inner).stopped) ≡ Err e)
             × (self.new.state ≡ state_after_map (needs_no_list request.now self.old.shaken) self.old.shaken.server_protocol_version e))) }
         ensures stays { OnOk result (self.new.state ≡ self.old.state) }
-        ensures report { IfOk result (λ m. ReportsMap P.reported (needs_no_list request.now self.old.shaken) self.old.progress (Ok m) self.new.progress) }
+        ensures report { IfOk result (λ m. ReportsMap P.reported (needs_no_list request.now self.old.shaken) self.old.progress
+            (Ok m) self.new.progress) }
         ensures handshake { self.new.shaken ≡ record self.old.shaken { refs = self.new.shaken.refs } }
         ensures refs { option_map refs_value self.new.shaken.refs ≡ option_map refs_value self.old.shaken.refs }
         ensures name { self.new.name ≡ self.old.name }
