@@ -1,5 +1,5 @@
 -- The features of a session's fetch.
-use Rattle.std.proofs.Common.{rules, ◌≡◌, ◌∙◌, ℕ, ap, sym, refl, subst, Bool, true, false, List, [], ◌∷◌, ◌++◌, Option, Some, None, Result, Ok, Err}
+use Rattle.std.proofs.Common.{rules, ◌≡◌, ◌∙◌, ℕ, ap, sym, refl, Bool, true, false, List, [], ◌∷◌, ◌++◌, Option, Some, None, Ok}
 use Rattle.std.specs.Prelude.{map, filter, take, drop, codes, ◌&&◌, ◌||◌, not, if◌then◌else◌, String}
 use Rattle.std.specs.List.{list_any}
 use Rattle.std.specs.Str.{bytes_eq}
@@ -9,7 +9,7 @@ use Rattle.gixp_packetline.specs.declared.protocol.Protocol.TheVariants.{V0, V1,
 use Rattle.gixp_capabilities.specs.Capabilities.{CapabilityValue, has_named}
 use Rattle.gixp_requests.specs.declared.command.Command.TheVariants.{Fetch}
 use Rattle.gixp_requests.specs.Arguments.{ArgumentsValue, asks_nothing, can_use, can_use_include_tag}
-use Rattle.gixp_requests.specs.Command.{WordEntry, TableValue, always, git_table}
+use Rattle.gixp_requests.specs.Command.{WordEntry, always}
 use Rattle.gixp_requests.specs.Feature.{FeatureValue, has_feature}
 use Rattle.gixp_requests.specs.Offers.{is_offered, supports, plain_feature, default_names}
 use Rattle.gixp_refmap.specs.declared.fetch.Tags.{Tags}

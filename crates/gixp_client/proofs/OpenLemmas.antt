@@ -1,5 +1,5 @@
 -- A session that can't be opened.
-use Rattle.std.proofs.Common.{◌≡◌, ◌⊎◌, inl, inr, List, [], ◌∷◌, Option, None, Result, Ok, Err, Bool, subst}
+use Rattle.std.proofs.Common.{◌≡◌, inl, inr, List, [], ◌∷◌, None, Ok, Err, Bool, subst}
 use Rattle.gixp_packetline.specs.Reading.{Reading}
 use Rattle.gixp_transport.specs.Greeting.{Parameter}
 use Rattle.gixp_transport.specs.declared.service.Service.TheVariants.{UploadPack}

@@ -1,5 +1,5 @@
 -- The arguments that a session passes to the lower calls.
-use Rattle.std.proofs.Common.{◌≡◌, Bool, true, false, List, [], ◌∷◌, Option, Some, None, Result, Ok, Err, Vec, inl, refl, subst, sym, ap, ◌∙◌}
+use Rattle.std.proofs.Common.{◌≡◌, Bool, false, List, [], ◌∷◌, Option, Some, None, Result, Ok, Err, Vec, inl, refl, subst, sym, ap, ◌∙◌}
 use Rattle.std.specs.declared.alloc.Global.{Global}
 use Rattle.gixp_response.specs.Answer.{update_items}
 use Rattle.std.specs.Prelude.{if◌then◌else◌}

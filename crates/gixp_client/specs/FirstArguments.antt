@@ -1,6 +1,4 @@
 -- The first arguments of a session's fetch (gitprotocol-v2, "fetch"; gitprotocol-capabilities).
-use Rattle.std.specs.Prelude.{List}
-use Rattle.gixp_requests.specs.Feature.{FeatureValue}
 use Rattle.gixp_requests.specs.Arguments.{ArgumentsValue, asks_nothing}
 use Rattle.gixp_handshake.specs.declared.handshake.read.Handshake.{Handshake}
 use Rattle.gixp_fetch.specs.Fetched.{FetchCall, features}

@@ -1,5 +1,5 @@
 use Rattle.std.proofs.Common.{ap, sym, ◌∙◌}
-use Rattle.std.specs.Prelude.{Ok, Err}
+use Rattle.std.specs.Prelude.{Ok}
 use Rattle.gixp_client.proofs.SpecLemmas.{reads_spelled}
 use Rattle.gixp_client.proofs.request.Request.add_refspec.Goals as goal
 

@@ -1,4 +1,4 @@
-use Rattle.std.proofs.Common.{ap, sym, inr, refl, ◌∙◌}
+use Rattle.std.proofs.Common.{ap, sym, inr, ◌∙◌}
 use Rattle.gixp_client.proofs.RunLemmas.{in_session, refused_in_session}
 use Rattle.gixp_client.proofs.SettleLemmas.{received_of, refused_of, stands_of, known_of, unreported_of}
 use Rattle.gixp_client.proofs.session.Session.fetch_with.Goals as goal
