@@ -1,5 +1,5 @@
 -- The meaning of a line of an `ls-refs` response (gitprotocol-v2, "ls-refs").
-use Rattle.std.specs.Prelude.{ℕ, ◌==◌, if◌then◌else◌, List, [], ◌∷◌, length, codes, Option, Some, None, Result, Ok, Err}
+use Rattle.std.specs.Prelude.{ℕ, ◌==◌, if◌then◌else◌, List, [], ◌∷◌, length, drop, codes, Option, Some, None, Result, Ok, Err}
 use Rattle.std.specs.Char.{is_whitespace}
 use Rattle.std.specs.declared.io.ErrorKind.{ErrorKind}
 use Rattle.bstr.specs.Trim.{trim_end_by}
@@ -128,3 +128,7 @@ line_value line (first, Some rest) = and_then (first_piece first) (λ object. na
 -- the ref of a line, or its first error; white space at its end is ignored
 abbrev pub v2_line : List ℕ → Result RefValue RefsRefusal
 v2_line line = let trimmed = trim_end_by is_whitespace line in line_value trimmed (cut 32 trimmed)
+
+-- the white space at the end of a line, which is ignored
+abbrev pub trimmed_space : List ℕ → List ℕ
+trimmed_space line = drop (length (trim_end_by is_whitespace line)) line

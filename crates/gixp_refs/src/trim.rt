@@ -1,7 +1,9 @@
 //! White space at the end of a line.
-ghost use Rattle.std.specs.Prelude.{◌≡◌};
+ghost use Rattle.std.specs.Prelude.{◌≡◌, MatchBool};
 ghost use Rattle.std.specs.Char.{is_whitespace};
+ghost use Rattle.std.specs.Str.{IsAscii, IsNotAscii};
 ghost use Rattle.bstr.specs.Trim.{trim_end_by};
+ghost use Rattle.gixp_refs.specs.RefLine.{trimmed_space};
 
 use bstr::ByteSlice;
 
@@ -20,4 +22,12 @@ pub(crate) fn trim_end(line: &[u8]) -> &[u8]
         return text;
     }
     line.trim_end()
+}
+
+/// Whether the name of a ref loses white space when this line of a list of refs is read. git allows white space outside ASCII in
+/// names (git-check-ref-format), so a name without it may be another ref's.
+pub fn loses_white_space(line: &[u8]) -> bool
+    ensures { MatchBool result (IsNotAscii (trimmed_space line.now)) (IsAscii (trimmed_space line.now)) }
+{
+    !line[trim_end(line).len()..].is_ascii()
 }

@@ -13,6 +13,7 @@ mod symrefs;
 mod v1;
 mod written;
 
+pub use crate::trim::loses_white_space;
 pub use advertisement::from_v1_refs_received_as_part_of_handshake_and_capabilities;
 pub use line::parse_v2;
 pub use symrefs::from_capabilities;
