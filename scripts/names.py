@@ -29,9 +29,7 @@ NO_DEFINITION = ("--", "use ", "pub use ", "pub mod ")
 TYPE = re.compile(r"(?m)^pub (struct|enum|trait|type) (\w+)([^;{]*)")
 TESTS = re.compile(r"(?ms)^#\[cfg\(test\)\]\nmod tests \{.*?^\}\n")
 # definitions that several crates may have
-SAME_DEFINITION = {
-    "IsOffered": "a server offers a filter, and a negotiator offers a commit",
-}
+SAME_DEFINITION = {}
 # public types that several crates may define
 SAME_TYPE = {
     "Error": "each is the error of its module, as in gitoxide",
