@@ -141,7 +141,10 @@ impl<R: BufRead> CommitText<R> {
         }
         match self.add_line() {
             Ok(Some(id)) => Ok(Some(id)),
-            Ok(None) => Err(self.refuse(Refusal::Line(self.line_number()))),
+            Ok(None) => {
+                let number = self.line_number();
+                Err(self.refuse(Refusal::Line(number)))
+            }
             Err(_) => Err(NegotiatorError::Memory),
         }
     }
@@ -226,7 +229,7 @@ impl<R: BufRead> ListedCommits<R> {
         ensures common { result.commits.known.common.keys ≡ [] }
         ensures unknown { AwaitsUnknown result.commits.known }
         ensures refusal { result.commits.refusal ≡ None }
-        ensures left { line_number result.commits.left ≡ 0 }
+        ensures left { result.commits.left ≡ 2 ^ 64 - 1 }
         ensures failures { result.failures ≡ 0 }
     {
         ListedCommits {
