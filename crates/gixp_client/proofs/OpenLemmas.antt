@@ -21,7 +21,7 @@ pub without_account : {A : Type 0} (asks : A → Action → CredentialAnswer →
     (plain : Bool) (old : Reading) (e : Error) → FailsToOpen asks authenticate parameters plain old e → parameters ≡ []
     → ((a : A) (x : Action) (r : CredentialAnswer) (b : A) → asks a x r b → r ≡ Ok None) → FailsWithoutAccount plain old e
 without_account asks authenticate parameters plain old e (inl m) p h = inl m
-without_account asks authenticate parameters plain old e (inr (x, new, last, calls, is)) p h = inr (
+without_account asks authenticate parameters plain old e (inr (inl (x, new, last, calls, is))) p h = inr (inl (
   x,
   new,
   record {
@@ -30,4 +30,15 @@ without_account asks authenticate parameters plain old e (inr (x, new, last, cal
     shakes = subst (λ (ps : List Parameter). CompletesHandshake UploadPack ps plain old new calls.0 (Err x)) p calls.2;
   },
   is,
-)
+))
+without_account asks authenticate parameters plain old e (inr (inr (shaken, new, last, calls, listed, is))) p h = inr (inr (
+  shaken,
+  new,
+  record {
+    turns = calls.0;
+    unanswered = all_unanswered asks h authenticate last calls.0 calls.1;
+    shakes = subst (λ (ps : List Parameter). CompletesHandshake UploadPack ps plain old new calls.0 (Ok shaken)) p calls.2;
+  },
+  listed,
+  is,
+))

@@ -1,20 +1,25 @@
-//! An observer that reports the messages of bands 2 and 3.
-ghost use Rattle.std.specs.Prelude.{◌≡◌, [], Option};
+//! An observer that reports the messages of bands 2 and 3, and whether a name lost white space.
+ghost use Rattle.std.specs.Prelude.{◌≡◌, true, false, [], Option};
 ghost use Rattle.std.specs.Option.{option_map};
-ghost use Rattle.gixp_client.specs.Listening.{kept_texts, text_in, ReceivesLine};
+ghost use Rattle.gixp_client.specs.Listening.{kept_texts, text_in, ReceivesLine, RecordsLoss};
 
 use crate::listen::{Kept, Listener};
 use crate::tap::{LineObserver, Tap};
 use gixp_packetline::MessageKind;
+use gixp_refs::handshake::refs::loses_white_space;
 use std::alloc::Global;
 use std::mem;
 
 /// Reports the messages of bands 2 and 3 to a listener and keeps them, each as its packet line is read. No other line begins with
 /// a byte 2 or 3.
+///
+/// It also records whether the parser of refs would lose white space of a line (`loses_white_space`). This has a meaning only for
+/// the lines of a list of refs, so a session resets the record before it reads a list, and looks at it after the list.
 #[derive(Drop)]
 pub struct Messages<L> {
     pub(crate) listener: L,
     pub(crate) kept: Kept,
+    pub(crate) lost_white_space: bool,
 }
 
 // The message in a line, and whether it is an error.
@@ -36,16 +41,19 @@ impl<L> Messages<L> {
     pub fn new(alloc: Global, listener: L) -> Messages<L>
         ensures listener { result.listener ≡ listener }
         ensures kept { kept_texts result.kept ≡ [] }
+        ensures names { result.lost_white_space ≡ false }
     {
         Messages {
             listener,
             kept: Kept::new(alloc),
+            lost_white_space: false,
         }
     }
 }
 
 impl<L: Listener> LineObserver for Messages<L> {
-    ghost sees = { λ old line new. ReceivesLine L.receives (text_in line) old.listener old.kept new.listener new.kept };
+    ghost sees = { λ old line new. ReceivesLine L.receives (text_in line) old.listener old.kept new.listener new.kept
+        × RecordsLoss line old.lost_white_space new.lost_white_space };
 
     ghost ends = { λ old stop new. new ≡ old };
 
@@ -53,6 +61,9 @@ impl<L: Listener> LineObserver for Messages<L> {
         if let Some((is_error, text)) = text_in(line) {
             self.listener.hear(is_error, text);
             self.kept.hear(is_error, text);
+        }
+        if !self.lost_white_space && loses_white_space(line) {
+            self.lost_white_space = true;
         }
     }
 
@@ -66,7 +77,18 @@ impl<T, L> Tap<T, Messages<L>> {
         ensures kept { result ≡ self.old.observer.kept }
         ensures none { kept_texts self.new.observer.kept ≡ [] }
         ensures listener { self.new.observer.listener ≡ self.old.observer.listener }
+        ensures names { self.new.observer.lost_white_space ≡ self.old.observer.lost_white_space }
     {
         mem::replace(&mut self.observer.kept, Kept::new(alloc))
+    }
+
+    // Forgets the white space that lines have lost so far.
+    pub(crate) fn reset_white_space(&mut self)
+        ensures inner { self.new.inner ≡ self.old.inner }
+        ensures kept { self.new.observer.kept ≡ self.old.observer.kept }
+        ensures listener { self.new.observer.listener ≡ self.old.observer.listener }
+        ensures names { self.new.observer.lost_white_space ≡ false }
+    {
+        self.observer.lost_white_space = false;
     }
 }
