@@ -69,10 +69,11 @@ ReceivesLine receives (Some text) listener kept listener' kept' = receives liste
 
 -- ---- names of refs
 
--- whether white space is lost: it stays lost, and a line loses it if the parser of refs trims a character outside ASCII from its end
+-- whether white space is lost, before and after a line: it stays lost; else the line loses it exactly if the parser of refs trims a
+-- character outside ASCII from its end
 abbrev pub RecordsLoss : List ℕ → Bool → Bool → Type 0
-RecordsLoss line lost lost' =
-    MatchBool lost' ((lost ≡ true) ⊎ IsNotAscii (trimmed_space line)) ((lost ≡ false) × IsAscii (trimmed_space line))
+RecordsLoss line true lost' = lost' ≡ true
+RecordsLoss line false lost' = MatchBool lost' (IsNotAscii (trimmed_space line)) (IsAscii (trimmed_space line))
 
 -- ---- shown messages
 

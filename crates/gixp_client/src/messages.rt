@@ -1,5 +1,5 @@
 //! An observer that reports the messages of bands 2 and 3, and whether a name lost white space.
-ghost use Rattle.std.specs.Prelude.{◌≡◌, true, false, [], Option};
+ghost use Rattle.std.specs.Prelude.{◌≡◌, false, [], Option};
 ghost use Rattle.std.specs.Option.{option_map};
 ghost use Rattle.gixp_client.specs.Listening.{kept_texts, text_in, ReceivesLine, RecordsLoss};
 
@@ -36,6 +36,13 @@ fn text_in(line: &[u8]) -> Option<(bool, &[u8])>
     }
 }
 
+// Whether white space is lost after this line.
+fn has_lost(lost: bool, line: &[u8]) -> bool
+    ensures { RecordsLoss line.now lost result }
+{
+    lost || loses_white_space(line)
+}
+
 impl<L> Messages<L> {
     /// Reports to this listener.
     pub fn new(alloc: Global, listener: L) -> Messages<L>
@@ -62,9 +69,7 @@ impl<L: Listener> LineObserver for Messages<L> {
             self.listener.hear(is_error, text);
             self.kept.hear(is_error, text);
         }
-        if !self.lost_white_space && loses_white_space(line) {
-            self.lost_white_space = true;
-        }
+        self.lost_white_space = has_lost(self.lost_white_space, line);
     }
 
     fn end(&mut self, _stop: Option<MessageKind>) {}
