@@ -1,12 +1,13 @@
--- A session that can't be opened.
+-- A session that is opened, or can't be.
 use Rattle.std.proofs.Common.{◌≡◌, inl, inr, List, [], ◌∷◌, None, Ok, Err, Bool, subst}
 use Rattle.gixp_packetline.specs.Reading.{Reading}
 use Rattle.gixp_transport.specs.Greeting.{Parameter}
 use Rattle.gixp_transport.specs.declared.service.Service.TheVariants.{UploadPack}
 use Rattle.gixp_handshake.specs.declared.credentials.Action.{Action}
-use Rattle.gixp_handshake.specs.Shake.{CredentialCall, CredentialAnswer, MakesCredentialCalls, CompletesHandshake}
+use Rattle.gixp_handshake.specs.Shake.{CredentialCall, CredentialAnswer, MakesCredentialCalls, AsksCredentials, CompletesHandshake}
+use Rattle.gixp_handshake.specs.declared.handshake.read.Handshake.{Handshake}
 use Rattle.gixp_handshake.specs.WithoutAccount.{AreUnanswered}
-use Rattle.gixp_client.specs.ClientCalls.{FailsToOpen, FailsWithoutAccount}
+use Rattle.gixp_client.specs.ClientCalls.{OpensSession, FailsToOpen, FailsWithoutAccount}
 use Rattle.gixp_client.specs.declared.error.Error.{Error}
 
 -- a helper that always has no account gave none in each of its calls
@@ -42,3 +43,13 @@ without_account asks authenticate parameters plain old e (inr (inr (shaken, new,
   listed,
   is,
 ))
+
+-- the session that a handshake opens
+pub opened_by : {A : Type 0} (asks : A → Action → CredentialAnswer → A → Type 0) (authenticate : A) (parameters : List Parameter)
+    (plain : Bool) (old old' new : Reading) (shaken : Handshake) → old ≡ old'
+    → (last : A) × AsksCredentials asks authenticate last (λ turns. CompletesHandshake UploadPack parameters plain old new turns (Ok shaken))
+    → OpensSession parameters plain old' new shaken
+opened_by asks authenticate parameters plain old old' new shaken e (last, calls) = record {
+  credentials = calls.0;
+  shakes = subst (λ (x : Reading). CompletesHandshake UploadPack parameters plain x new calls.0 (Ok shaken)) e calls.2;
+}

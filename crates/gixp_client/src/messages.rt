@@ -86,14 +86,4 @@ impl<T, L> Tap<T, Messages<L>> {
     {
         mem::replace(&mut self.observer.kept, Kept::new(alloc))
     }
-
-    // Forgets the white space that lines have lost so far.
-    pub(crate) fn reset_white_space(&mut self)
-        ensures inner { self.new.inner ≡ self.old.inner }
-        ensures kept { self.new.observer.kept ≡ self.old.observer.kept }
-        ensures listener { self.new.observer.listener ≡ self.old.observer.listener }
-        ensures names { self.new.observer.lost_white_space ≡ false }
-    {
-        self.observer.lost_white_space = false;
-    }
 }

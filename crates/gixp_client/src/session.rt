@@ -70,6 +70,18 @@ fn has_refs(refs: &Option<Vec<Ref>>) -> bool
     }
 }
 
+// Returns `UnsupportedRefName` if advertised refs lost white space of a name.
+fn expect_names(refs: &Option<Vec<Ref>>, lost_white_space: bool) -> Result<(), Error>
+    ensures names { OnOk result ((is_some refs.now && lost_white_space) ≡ false) }
+    ensures refused { IfErr result (λ e. (is_some refs.now ≡ true) × (e ≡ Error.UnsupportedRefName)) }
+{
+    if has_refs(refs) && lost_white_space {
+        Err(Error::UnsupportedRefName)
+    } else {
+        Ok(())
+    }
+}
+
 impl<T: Transport + Drop, L: Listener + Drop> Session<T, L, Discard> {
     /// Performs the handshake, without an account (gitprotocol-pack, "Reference Discovery"; gitprotocol-v2, "Capability
     /// Advertisement"). The transport decides which versions are accepted. `agent` is sent as the name of the client. The
@@ -150,9 +162,7 @@ impl<T: Transport + Drop, L: Listener + Drop, P: NestedProgress + Drop> Session<
             extra_parameters,
             &mut progress,
         )?;
-        if has_refs(&shaken.refs) && transport.observer.lost_white_space {
-            return Err(Error::UnsupportedRefName);
-        }
+        expect_names(&shaken.refs, transport.observer.lost_white_space)?;
         Ok(Session {
             alloc,
             transport,
@@ -280,7 +290,7 @@ impl<T: Transport + Drop, L: Listener + Drop, P: NestedProgress + Drop> Session<
             &self.shaken.capabilities,
             name,
         )?;
-        self.transport.reset_white_space();
+        self.transport.observer.lost_white_space = false;
         let listed = command.invoke_blocking(self.alloc, &mut self.transport, &mut self.progress);
         match whole_refs(
             listed,
@@ -408,7 +418,7 @@ impl<T: Transport + Drop, L: Listener + Drop, P: NestedProgress + Drop> Session<
         self.shaken.refs = seen_refs(self.alloc, refs, are_ids(&context));
         let is_here = has_refs(&self.shaken.refs);
         let version = self.shaken.server_protocol_version;
-        self.transport.reset_white_space();
+        self.transport.observer.lost_white_space = false;
         let made = obtain(
             self.alloc,
             &mut self.shaken,
