@@ -26,8 +26,11 @@ is_one id q h = All-contains (λ x. id ≡ x) (id ∷ []) q (All-cons (λ x. id 
 in_none : (q : ObjectId) → Contains [] q → ⊥
 in_none q h = All-contains (λ x. ⊥) [] q (All-nil (λ x. ⊥)) h
 
-not_empty : (q : ObjectId) → finite.contains_key {R = id_cmp} {X = Object} finite.empty q ≡ true → ⊥
-not_empty q h = true≢false (sym h ∙ ap is_some (get-empty q))
+abbrev no_objects : Objects
+no_objects = finite.empty
+
+not_empty : (q : ObjectId) → finite.contains_key no_objects q ≡ true → ⊥
+not_empty q h = true≢false (sym h ∙ ap is_some (get-empty id_cmp q))
 
 -- an object was added
 module _ (m : Objects) (id : ObjectId) (o : Object) where
@@ -57,14 +60,20 @@ module _ (m : Objects) (id : ObjectId) (o : Object) where
 
 -- ---- the beginning
 
-pub traversal_begun : (objects : Objects) (tips : List ObjectId) → IsTraversal objects tips (traversed finite.empty tips)
-traversal_begun objects tips = record {
+begun_empty : (objects : Objects) (tips : List ObjectId) → IsTraversal objects tips (traversed no_objects tips)
+begun_empty objects tips = record {
   reached = λ q h. absurd (not_empty q h);
   values = λ q h. absurd (not_empty q h);
   waits = λ q w e. IsReachable.tip w e;
   begun = λ q t e. inr t;
   closed = λ child q c h r p e. absurd (not_empty child h);
 }
+
+pub traversal_begun : (objects : Objects) (tips : List ObjectId) (found : Objects) (waiting : List ObjectId) → found ≡ no_objects
+    → waiting ≡ tips → IsTraversal objects tips (traversed found waiting)
+traversal_begun objects tips found waiting e f =
+    subst (λ m. IsTraversal objects tips (traversed m waiting)) (sym e)
+    (subst (λ xs. IsTraversal objects tips (traversed no_objects xs)) (sym f) (begun_empty objects tips))
 
 -- ---- a step: the last id that waits is taken and visited
 
@@ -186,7 +195,14 @@ module _ (objects : Objects) (tips : List ObjectId) (a b c : Traversed) (id : Ob
 
 -- ---- the end: no id waits
 
-module _ (objects : Objects) (tips : List ObjectId) (s : Traversed) (t : IsTraversal objects tips s) (idle : s.waiting ≡ []) where
+no_ids : (ids : List ObjectId) → length ids ≡ 0 → ids ≡ []
+no_ids [] e = refl
+no_ids (x ∷ xs) e = absurd (omega arith)
+
+module _ (objects : Objects) (tips : List ObjectId) (s : Traversed) (t : IsTraversal objects tips s) (none : length s.waiting ≡ 0) where
+  idle : s.waiting ≡ []
+  idle = no_ids s.waiting none
+
   not_waiting : (q : ObjectId) → IsAttended objects s q → finite.contains_key objects q ≡ true → finite.contains_key s.found q ≡ true
   not_waiting q h e = ⊎_elim (λ f. f) (λ w. absurd (in_none q (subst (λ xs. Contains xs q) idle w))) (h e)
 
@@ -199,6 +215,16 @@ module _ (objects : Objects) (tips : List ObjectId) (s : Traversed) (t : IsTrave
 
   pub ends_values : (q : ObjectId) → IsReachable objects tips q → finite.get s.found q ≡ option_map as_stored (finite.get objects q)
   ends_values q r = t.values q (all_found q r)
+
+-- ---- equal objects
+
+pub visits_same : (objects same : Objects) → same ≡ objects → (id : ObjectId) (old new : Traversed) → VisitsObject same id old new
+    → VisitsObject objects id old new
+visits_same objects same e id old new v = subst (λ o. VisitsObject o id old new) e v
+
+pub asks_same : (objects same : Objects) → same ≡ objects → (found : Objects) (id : ObjectId) (before after : List ObjectId)
+    → AsksWhere (IsUnfound same found id) id before after → AsksWhere (IsUnfound objects found id) id before after
+asks_same objects same e found id before after a = subst (λ o. AsksWhere (IsUnfound o found id) id before after) e a
 
 -- ---- which ids were read
 
@@ -242,8 +268,11 @@ one_left false false n k = omega arith
 module _ (objects old new : Objects) (keeps : (q : ObjectId) → finite.contains_key old q ≡ true → finite.contains_key new q ≡ true) where
   left_le : (ids : List ObjectId) → parents_left objects new ids ≤ parents_left objects old ids
   left_le [] = omega arith
-  left_le (x ∷ xs) = omega (arith, left_le xs,
-      one_left (finite.contains_key old x) (finite.contains_key new x) (length (parents_of (commit_at objects x))) (keeps x))
+  left_le (x ∷ xs) = omega (
+    arith,
+    left_le xs,
+    one_left (finite.contains_key old x) (finite.contains_key new x) (length (parents_of (commit_at objects x))) (keeps x),
+  )
 
   left_less : (id : ObjectId) → finite.contains_key old id ≡ false → finite.contains_key new id ≡ true → (ids : List ObjectId)
       → list_any (eq_by_cmp id_cmp id) ids ≡ true
@@ -259,8 +288,11 @@ module _ (objects old new : Objects) (keeps : (q : ObjectId) → finite.contains
       let now : ◌≡◌ {A = ℕ} (cond (finite.contains_key new x) 0 n) 0 =
       ap (λ b. cond {A = ℕ} b 0 n) (ap (finite.contains_key new) (sym is) ∙ h) in
       omega (arith, left_le xs))
-      (λ e. omega (arith, left_less id u h xs e,
-      one_left (finite.contains_key old x) (finite.contains_key new x) (length (parents_of (commit_at objects x))) (keeps x)))
+      (λ e. omega (
+        arith,
+        left_less id u h xs e,
+        one_left (finite.contains_key old x) (finite.contains_key new x) (length (parents_of (commit_at objects x))) (keeps x),
+      ))
       (or_cases (eq_by_cmp id_cmp id x) (list_any (eq_by_cmp id_cmp id) xs) w)
 
 -- a step lowers the number of look-ups that are left
