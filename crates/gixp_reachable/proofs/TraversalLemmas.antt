@@ -16,7 +16,7 @@ use Rattle.gixp_graph.specs.GraphLaws.{same_from}
 use Rattle.gixp_graph.proofs.MarkLemmas.{same_id, true_or_false}
 use Rattle.gixp_graph.proofs.AskedLemmas.{asks_weaker, asks_more}
 use Rattle.gixp_reachable.specs.Reachable.{IsReachable, as_stored}
-use Rattle.gixp_reachable.specs.Traversal.{Traversed, traversed, parents_of, IsUnfound, PassesOver, FindsObject, VisitsObject, IsAttended, IsTraversal, HasAskedFound, parents_left, look_ups_left}
+use Rattle.gixp_reachable.specs.Traversal.{Traversed, traversed, parents_of, IsUnfound, SkipsObject, FindsObject, VisitsObject, IsAttended, IsTraversal, HasAskedFound, parents_left, look_ups_left}
 
 -- ---- lists and maps
 
@@ -97,7 +97,7 @@ module _ (objects : Objects) (tips : List ObjectId) (a b c : Traversed) (id : Ob
   pub found_reachable : (q : ObjectId) → finite.contains_key b.found q ≡ true → IsReachable objects tips q
   found_reachable q h = t.reached q (ap (λ m. finite.contains_key m q) (sym same) ∙ h)
 
-  module _ (p : PassesOver objects id b c) where
+  module _ (p : SkipsObject objects id b c) where
     passed_found : c.found ≡ a.found
     passed_found = p.found ∙ same
 

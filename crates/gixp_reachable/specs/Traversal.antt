@@ -23,7 +23,7 @@ abbrev pub IsUnfound : Objects → Objects → ObjectId → Type 0
 IsUnfound objects found id = (finite.contains_key objects id ≡ true) × (finite.contains_key found id ≡ false)
 
 -- an object was found before, or doesn't exist: nothing changes
-pub record PassesOver (objects : Objects) (id : ObjectId) (old new : Traversed) : Type 0 where
+pub record SkipsObject (objects : Objects) (id : ObjectId) (old new : Traversed) : Type 0 where
   pub done : (finite.contains_key objects id ≡ false) ⊎ (finite.contains_key old.found id ≡ true)
   pub found : new.found ≡ old.found
   pub waiting : new.waiting ≡ old.waiting
@@ -37,7 +37,7 @@ pub record FindsObject (objects : Objects) (id : ObjectId) (old new : Traversed)
   pub waiting : new.waiting ≡ old.waiting ++ parents_of object.commit
 
 abbrev pub VisitsObject : Objects → ObjectId → Traversed → Traversed → Type 0
-VisitsObject objects id old new = PassesOver objects id old new ⊎ FindsObject objects id old new
+VisitsObject objects id old new = SkipsObject objects id old new ⊎ FindsObject objects id old new
 
 -- if the object exists, it was found or waits
 abbrev pub IsAttended : Objects → Traversed → ObjectId → Type 0

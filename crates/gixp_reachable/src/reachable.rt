@@ -59,17 +59,17 @@ fn visit<O: Objects>(
     Ok(())
 }
 
-/// Returns the objects that `tips` reach: each tip that exists, and of each commit that is reached the parents that exist
-/// (gitglossary, "reachable"). Each has the kind that `objects` has; a commit also has its time and its parents.
+/// Returns the objects that `tips` reach (gitglossary, "reachable"): each tip that exists, and the existing parents of each
+/// commit in the result. Each object has its kind; a commit also has its time and its parents.
 ///
 /// A fetch takes the history of an object that exists as complete. After an interrupted fetch a repository may have a commit
-/// without its history. Pass a fetch the result in place of `objects`, so that it requests this history: no ref reaches such a
-/// commit. git checks the same before a fetch.
+/// without its history, which no ref reaches. A fetch over the result requests that commit again, with its history. git checks
+/// connectivity before a fetch.
 ///
-/// Tips are the ids of refs: of commits, tags or other objects. The object that a tag points to isn't followed. So pass both the
-/// tag and the object that it peels to, as `git show-ref --dereference` prints them. Trees and blobs aren't followed: a fetch
-/// needs only commits and the objects of refs. A parent may be missing, as in a shallow repository. Commits that are each other's
-/// parents don't make the walk endless. No commit is read twice. Over a shared reference to a `Find` pass a `Shared`.
+/// Tips are the ids of refs. A tag isn't followed: pass the tag and the object that it peels to, as `git show-ref --dereference`
+/// prints them. Trees aren't followed: a fetch needs only commits and the objects of refs. A parent may be missing, as in a
+/// shallow repository. The whole history is read, each commit once. Commits that are each other's parents don't make the walk
+/// endless. `Shared` implements `Objects` over a reference to a `Find`.
 ///
 /// # Errors
 ///

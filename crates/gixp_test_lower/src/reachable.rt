@@ -47,9 +47,10 @@ fn is_same_commit(
     all: &StoredObjects,
     number: u8,
 ) -> Result<bool, ObjectError> {
-    let (Some(one), Some(other)) =
-        (found.find_commit(alloc, &id(number))?, all.find_commit(alloc, &id(number))?)
-    else {
+    let (Some(one), Some(other)) = (
+        found.find_commit(alloc, &id(number))?,
+        all.find_commit(alloc, &id(number))?,
+    ) else {
         return Ok(false);
     };
     Ok(one.time == other.time && one.parents.as_slice() == other.parents.as_slice())
@@ -82,7 +83,11 @@ fn objects_keep_their_kinds_and_parents(rt: HostRuntime) -> Result<(), Fail> {
     let tips = numbered_ids(alloc, &[1, 6, 7, 8])?;
     let found = reachable_objects(alloc, &mut Shared::new(&all), &tips)?;
     for number in 0..12 {
-        let kind = if number == 5 { None } else { all.find_kind(&id(number)) };
+        let kind = if number == 5 {
+            None
+        } else {
+            all.find_kind(&id(number))
+        };
         assert_eq!(rt; found.find_kind(&id(number)), kind);
     }
     for number in 1..5 {
@@ -109,7 +114,10 @@ fn a_failed_read_is_an_error(rt: HostRuntime) -> Result<(), Fail> {
     let alloc = rt.alloc();
     let mut objects = history(alloc)?;
     objects.corrupt.insert(id(4))?;
-    assert_eq!(rt; reached(alloc, &mut objects, &[3]), Err(ObjectError::Corrupt));
+    assert_eq!(rt;
+        reached(alloc, &mut objects, &[3]),
+        Err(ObjectError::Corrupt)
+    );
     let numbers = reached(alloc, &mut objects, &[7])?;
     assert!(rt; numbers.as_slice() == [7].as_slice());
     Ok(())

@@ -1,4 +1,4 @@
-use Rattle.std.proofs.Common.{◌∙◌, refl, arith}
+use Rattle.std.proofs.Common.{◌≡◌, ◌∙◌, length, refl, arith}
 use Rattle.gixp_hash.specs.declared.object_id.ObjectId.{ObjectId}
 use Rattle.gixp_graph.specs.Object.{Objects}
 use Rattle.gixp_graph.proofs.AskedLemmas.{asks_none}
@@ -62,10 +62,12 @@ returns-in_err-visit-clause-asked g c =
 
 pub returns-clause-reached : goal.returns-clause-reached
 returns-clause-reached g c =
+    let none : length c.loop-id.waiting.items ≡ 0 = omega (arith, c.in_default.ensures.cases, c.loop-id.waiting.ok) in
     ends_reached (g.O.Objects.contents c.args.objects.now) c.args.tips.now
-    (traversed c.loop-id.found c.loop-id.waiting.items) c.loop-id.invariant.traversal (omega (arith, c.in_default.ensures.cases, c.loop-id.waiting.ok))
+    (traversed c.loop-id.found c.loop-id.waiting.items) c.loop-id.invariant.traversal none
 
 pub returns-clause-values : goal.returns-clause-values
 returns-clause-values g c =
+    let none : length c.loop-id.waiting.items ≡ 0 = omega (arith, c.in_default.ensures.cases, c.loop-id.waiting.ok) in
     ends_values (g.O.Objects.contents c.args.objects.now) c.args.tips.now
-    (traversed c.loop-id.found c.loop-id.waiting.items) c.loop-id.invariant.traversal (omega (arith, c.in_default.ensures.cases, c.loop-id.waiting.ok))
+    (traversed c.loop-id.found c.loop-id.waiting.items) c.loop-id.invariant.traversal none
