@@ -185,6 +185,7 @@ pub use Rattle.gixp_utils.specs.Lines as TextLines
 pub use Rattle.gixp_negotiators.specs.WaitingLaws as NegotiatorWaitingLaws
 pub use Rattle.gixp_memory.specs.Text as RepositoryText
 pub use Rattle.gixp_memory.specs.Repository
+pub use Rattle.gixp_reachable.specs.Reachable
 pub use Rattle.gixp_packetline.specs.ServerMessage
 pub use Rattle.gixp_packetline.specs.ReadAhead
 pub use Rattle.gixp_capabilities.specs.ClientMessage

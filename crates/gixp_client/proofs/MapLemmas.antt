@@ -27,7 +27,7 @@ use Rattle.gixp_client.specs.ClientCalls.{asked_specs, ListsInSession, GivesRefs
 use Rattle.gixp_client.specs.IdSpecs.{are_ids, SeesRefs}
 use Rattle.gixp_client.specs.SessionRefs.{ReportsMap}
 use Rattle.gixp_handshake.specs.ObtainProgress.{ReportsObtained}
-use Rattle.gixp_client.specs.ListEnds.{whole_refs, are_whole, whole_map}
+use Rattle.gixp_client.specs.ListEnds.{whole_refs, are_whole, is_lossy, whole_map}
 use Rattle.gixp_client.specs.SessionStates.{state_after_map}
 use Rattle.gixp_client.specs.declared.error.Error.{Error}
 use Rattle.gixp_client.specs.declared.state.State.{State}
@@ -49,20 +49,26 @@ as_lists table agent name caps l plain old new r r' t a e f h =
     (subst (λ (x : Listing). Lists x plain old new r') e
     (subst (λ (x : Result (Vec Ref Global) ListError). Lists l plain old new x) f h)))
 
--- the error of a list depends only on where the list ends
-pub refused_by : (listed : Result (Vec Ref Global) ListError) (b b' : Bool) (e : Error) → Err e ≡ whole_refs listed b → b ≡ b'
-    → whole_refs listed b' ≡ Err e
-refused_by listed b b' e h k = ap (whole_refs listed) (sym k) ∙ sym h
+-- the error of a list depends only on where the list ends, and on its names
+pub refused_by : (listed : Result (Vec Ref Global) ListError) (b b' lost : Bool) (e : Error) → Err e ≡ whole_refs listed b lost → b ≡ b'
+    → whole_refs listed b' lost ≡ Err e
+refused_by listed b b' lost e h k = ap (λ (x : Bool). whole_refs listed x lost) (sym k) ∙ sym h
 
--- the error of a ref map depends only on whether its refs are complete
-pub unmapped_by : (made : Result RefMap MapError) (b : Bool) (here here' : Bool) (stopped : Option MessageKind) (e : Error)
-    → Err e ≡ whole_map made b → b ≡ are_whole here stopped → here ≡ here' → whole_map made (are_whole here' stopped) ≡ Err e
-unmapped_by made b here here' stopped e h k l =
-    ap (λ (x : Bool). whole_map made (are_whole x stopped)) (sym l) ∙ (ap (whole_map made) (sym k) ∙ sym h)
+-- the error of a ref map depends only on whether its refs are complete, and on their names
+pub unmapped_by : (made : Result RefMap MapError) (b lossy : Bool) (here here' : Bool) (stopped : Option MessageKind) (lost : Bool) (e : Error)
+    → Err e ≡ whole_map made b lossy → b ≡ are_whole here stopped → lossy ≡ is_lossy here lost → here ≡ here'
+    → whole_map made (are_whole here' stopped) (is_lossy here' lost) ≡ Err e
+unmapped_by made b lossy here here' stopped lost e h k m l =
+    ap (λ (x : Bool). whole_map made (are_whole x stopped) (is_lossy x lost)) (sym l)
+    ∙ (ap (whole_map made (are_whole here stopped)) (sym m) ∙ (ap (λ (x : Bool). whole_map made x lossy) (sym k) ∙ sym h))
 
 pub whole_by : (b : Bool) (here here' : Bool) (stopped : Option MessageKind) → b ≡ true → b ≡ are_whole here stopped → here ≡ here'
     → are_whole here' stopped ≡ true
 whole_by b here here' stopped h k l = ap (λ (x : Bool). are_whole x stopped) (sym l) ∙ (sym k ∙ h)
+
+pub named_by_list : (lossy : Bool) (here here' lost : Bool) → lossy ≡ false → lossy ≡ is_lossy here lost → here ≡ here'
+    → is_lossy here' lost ≡ false
+named_by_list lossy here here' lost h k l = ap (λ (x : Bool). is_lossy x lost) (sym l) ∙ (sym k ∙ h)
 
 -- if the session has refs, the ref map is made from them
 pub made_of_refs : (table : TableValue) (agent : FeatureValue) (context : Context) (caps : List CapabilityValue) (refs : Vec Ref Global)

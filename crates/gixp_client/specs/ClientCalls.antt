@@ -1,5 +1,5 @@
 -- The calls of a client's session: one handshake, then ref maps and fetches.
-use Rattle.std.specs.Prelude.{◌≡◌, ◌⊎◌, ◌||◌, is_some, ℕ, Bool, false, List, [], ◌∷◌, map, Option, Some, None, Vec, Result, Ok, Err, string_bytes}
+use Rattle.std.specs.Prelude.{◌≡◌, ◌⊎◌, ◌||◌, is_some, ℕ, Bool, true, false, List, [], ◌∷◌, map, Option, Some, None, Vec, Result, Ok, Err, string_bytes}
 use Rattle.std.specs.BTreeSet.{contains}
 use Rattle.std.specs.Option.{option_map, option_copied}
 use Rattle.std.specs.declared.alloc.Global.{Global}
@@ -47,7 +47,7 @@ use Rattle.gixp_client.specs.Windows.{most_haves}
 use Rattle.gixp_client.specs.declared.filter.Filtered.{Filtered}
 use Rattle.gixp_client.specs.declared.windows.Windowed.{Windowed}
 use Rattle.gixp_client.specs.declared.error.Error.{Error}
-use Rattle.gixp_client.specs.declared.error.Error.TheVariants.{Memory}
+use Rattle.gixp_client.specs.declared.error.Error.TheVariants.{UnsupportedRefName, Memory}
 use Rattle.gixp_client.specs.declared.request.Request.{Request}
 use Rattle.gixp_client.specs.declared.state.State.{State}
 use Rattle.gixp_client.specs.declared.state.State.TheVariants.{AtStop, Ended, Broken}
@@ -66,16 +66,22 @@ pub record OpensSession (parameters : List Parameter) (plain : Bool) (old new : 
   pub credentials : List CredentialCall
   pub shakes : CompletesHandshake UploadPack parameters plain old new credentials (Ok shaken)
 
--- `Session::open_with` fails with the error of its handshake, for which it made these calls, or because an allocation failed
+-- `Session::open_with` fails with the error of its handshake, for which it made these calls; or because an allocation failed, or the
+-- advertised refs, which were read, have a name that isn't supported
 abbrev pub FailsToOpen : {A : Type 0} → (A → Action → CredentialAnswer → A → Type 0) → A → List Parameter → Bool → Reading → Error → Type 0
 FailsToOpen {A} asks authenticate parameters plain old e = (e ≡ Memory) ⊎ ((x : ShakeError) × (new : Reading) × (last : A)
     × AsksCredentials asks authenticate last (λ turns. CompletesHandshake UploadPack parameters plain old new turns (Err x))
     × (e ≡ of_shake x))
+    ⊎ ((shaken : Handshake) × (new : Reading) × (last : A)
+    × AsksCredentials asks authenticate last (λ turns. CompletesHandshake UploadPack parameters plain old new turns (Ok shaken))
+    × (is_some shaken.refs ≡ true) × (e ≡ UnsupportedRefName))
 
--- `Session::open` fails with the error of its handshake without an account, or because an allocation failed
+-- `Session::open` fails in the same cases, for a handshake without an account
 abbrev pub FailsWithoutAccount : Bool → Reading → Error → Type 0
 FailsWithoutAccount plain old e =
     (e ≡ Memory) ⊎ ((x : ShakeError) × (new : Reading) × GreetsWithoutAccount plain old new (Err x) × (e ≡ of_shake x))
+    ⊎ ((shaken : Handshake) × (new : Reading) × GreetsWithoutAccount plain old new (Ok shaken)
+    × (is_some shaken.refs ≡ true) × (e ≡ UnsupportedRefName))
 
 -- the result of listing all refs, without prefixes (gitprotocol-v2, "ls-refs")
 abbrev pub ListsInSession : FeatureValue → Handshake → Bool → Reading → Reading → Result (Vec Ref Global) ListError → Type 0

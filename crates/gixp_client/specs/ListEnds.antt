@@ -1,5 +1,5 @@
 -- Which refs are listed, and where a list of refs ends (gitprotocol-v2, "ls-refs", "object-format").
-use Rattle.std.specs.Prelude.{◌≡◌, ◌≢◌, ◌||◌, ⊤, Bool, true, false, List, Option, Some, Vec, Result, Ok, Err}
+use Rattle.std.specs.Prelude.{◌≡◌, ◌≢◌, ◌||◌, ◌&&◌, not, ⊤, Bool, true, false, List, Option, Some, Vec, Result, Ok, Err}
 use Rattle.std.specs.declared.alloc.Global.{Global}
 use Rattle.bstr.specs.Owned.{bstring_bytes}
 use Rattle.gixp_packetline.specs.declared.protocol.MessageKind.{MessageKind}
@@ -13,7 +13,7 @@ use Rattle.gixp_refmap.specs.declared.refmap.init.Error.TheVariants as init
 use Rattle.gixp_refmap.specs.declared.refmap.map.RefMap.{RefMap}
 use Rattle.gixp_client.specs.ClientError.{of_list, of_init}
 use Rattle.gixp_client.specs.declared.error.Error.{Error}
-use Rattle.gixp_client.specs.declared.error.Error.TheVariants.{UnknownObjectFormat, UnterminatedRefs, Over, Memory}
+use Rattle.gixp_client.specs.declared.error.Error.TheVariants.{UnknownObjectFormat, UnterminatedRefs, UnsupportedRefName, Over, Memory}
 use Rattle.gixp_client.specs.declared.state.State.{State}
 use Rattle.gixp_client.specs.declared.state.State.TheVariants.{AtStop}
 
@@ -25,15 +25,20 @@ IsUnasked state caps (UnknownObjectFormat format) = unknown_format caps ≡ Some
 IsUnasked state caps Memory = ⊤
 IsUnasked state caps _ = ⊥
 
--- the refs of a list that ended with a flush packet; a delimiter packet doesn't end it
-abbrev pub whole_refs : Result (Vec Ref Global) ListError → Bool → Result (Vec Ref Global) Error
-whole_refs (Ok refs) true = Ok refs
-whole_refs (Ok refs) false = Err UnterminatedRefs
-whole_refs (Err e) is_ended = Err (of_list e)
+-- the refs of a list that ended with a flush packet and lost no part of a name; a delimiter packet doesn't end it
+abbrev pub whole_refs : Result (Vec Ref Global) ListError → (is_ended is_lossy : Bool) → Result (Vec Ref Global) Error
+whole_refs (Ok refs) true false = Ok refs
+whole_refs (Ok refs) true true = Err UnsupportedRefName
+whole_refs (Ok refs) false is_lossy = Err UnterminatedRefs
+whole_refs (Err e) is_ended is_lossy = Err (of_list e)
 
 -- the refs of a ref map are complete: the session had them, or their list ended with a flush packet
 abbrev pub are_whole : (are_here : Bool) → Option MessageKind → Bool
 are_whole are_here stopped = are_here || is_flush stopped
+
+-- the list of refs for a ref map lost white space of a name; no list is read if the session had the refs
+abbrev pub is_lossy : (are_here lost_white_space : Bool) → Bool
+is_lossy are_here lost_white_space = not are_here && lost_white_space
 
 -- the error of a ref map whose list didn't end with a flush packet: refs that were read are incomplete, whether they can be mapped
 -- or not
@@ -43,9 +48,10 @@ of_unended (init.MappingValidation e) = UnterminatedRefs
 of_unended (init.ListRefs e) = of_list e
 of_unended init.Memory = Memory
 
--- the ref map, if its refs are complete
-abbrev pub whole_map : Result RefMap MapError → Bool → Result RefMap Error
-whole_map (Ok m) true = Ok m
-whole_map (Ok m) false = Err UnterminatedRefs
-whole_map (Err e) true = Err (of_init e)
-whole_map (Err e) false = Err (of_unended e)
+-- the ref map, if its refs are complete and their list lost no part of a name
+abbrev pub whole_map : Result RefMap MapError → (is_whole is_lossy : Bool) → Result RefMap Error
+whole_map (Ok m) true false = Ok m
+whole_map (Ok m) true true = Err UnsupportedRefName
+whole_map (Ok m) false is_lossy = Err UnterminatedRefs
+whole_map (Err e) true is_lossy = Err (of_init e)
+whole_map (Err e) false is_lossy = Err (of_unended e)

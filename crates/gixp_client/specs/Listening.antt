@@ -1,9 +1,12 @@
--- The messages of bands 2 and 3 that a listener keeps and shows (gitprotocol-pack, "Packfile Data").
-use Rattle.std.specs.Prelude.{◌≡◌, ◌⊎◌, ◌+◌, ◌-◌, ◌==◌, ◌||◌, ℕ, Bool, true, false, if◌then◌else◌, List, [], ◌∷◌, ◌++◌, length, take, map, codes, Option, Some, None, unwrap_or}
+-- The messages of bands 2 and 3 that a listener keeps and shows (gitprotocol-pack, "Packfile Data"), and the white space that the
+-- parser of refs loses (git-check-ref-format).
+use Rattle.std.specs.Prelude.{◌≡◌, ◌⊎◌, MatchBool, ◌+◌, ◌-◌, ◌==◌, ◌||◌, ℕ, Bool, true, false, if◌then◌else◌, List, [], ◌∷◌, ◌++◌, length, take, map, codes, Option, Some, None, unwrap_or}
 use Rattle.std.specs.List.{slice_get}
+use Rattle.std.specs.Str.{IsAscii, IsNotAscii}
 use Rattle.std.specs.Io.KnownBytes.{Appends}
 use Rattle.bstr.specs.Owned.{bstring_bytes}
 use Rattle.gixp_utils.specs.Printable.{visible}
+use Rattle.gixp_refs.specs.RefLine.{trimmed_space}
 use Rattle.gixp_client.specs.declared.listen.ServerText.{ServerText}
 use Rattle.gixp_client.specs.declared.listen.Kept.{Kept}
 
@@ -63,6 +66,14 @@ ReceivesText is_error text old new =
 abbrev pub ReceivesLine : {L : Type 0} → (L → Bool → List ℕ → L → Type 0) → Option (Bool × List ℕ) → L → Kept → L → Kept → Type 0
 ReceivesLine receives None listener kept listener' kept' = (listener' ≡ listener) × (kept' ≡ kept)
 ReceivesLine receives (Some text) listener kept listener' kept' = receives listener text.0 text.1 listener' × ReceivesText text.0 text.1 kept kept'
+
+-- ---- names of refs
+
+-- whether white space is lost, before and after a line: it stays lost; else the line loses it exactly if the parser of refs trims a
+-- character outside ASCII from its end
+abbrev pub RecordsLoss : List ℕ → Bool → Bool → Type 0
+RecordsLoss line true lost' = lost' ≡ true
+RecordsLoss line false lost' = MatchBool lost' (IsNotAscii (trimmed_space line)) (IsAscii (trimmed_space line))
 
 -- ---- shown messages
 

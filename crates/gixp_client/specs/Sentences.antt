@@ -8,11 +8,12 @@ use Rattle.gixp_client.specs.ClientError.{message_in, place_of, kind_in}
 use Rattle.gixp_client.specs.Reasons.{reason}
 use Rattle.gixp_client.specs.declared.consumer.PackError.TheVariants as pack
 use Rattle.gixp_client.specs.declared.error.Error.{Error}
-use Rattle.gixp_client.specs.declared.error.Error.TheVariants.{UnsupportedListing, Unnegotiated, MissingFeature, ShallowServer, UnknownUnshallow, Pack, Reported, Over, Memory}
+use Rattle.gixp_client.specs.declared.error.Error.TheVariants.{UnsupportedListing, UnsupportedRefName, Unnegotiated, MissingFeature, ShallowServer, UnknownUnshallow, Pack, Reported, Over, Memory}
 
 -- the text of an error without a server message, a failed read or write, or a violation of the protocol
 abbrev pub rest_sentence : Error → Option (List ℕ)
 rest_sentence UnsupportedListing = Some (codes "the server doesn't list refs as it is asked to")
+rest_sentence UnsupportedRefName = Some (codes "the server lists a ref whose name ends in white space outside ASCII")
 rest_sentence (Unnegotiated rounds) = Some (codes "the negotiation ended without a pack after " ++ decimal rounds ++ codes " round(s)")
 rest_sentence (MissingFeature feature) = Some (codes "the server doesn't offer " ++ string_bytes feature)
 rest_sentence ShallowServer = Some (codes "the server's repository is shallow")

@@ -27,11 +27,11 @@ module _ {T L P S : Type 0} (plain : Bool) (reading : T → Reading) where
   KeepsListedRefs old new =
       (refs : Vec Ref Global) × AsksForRefs old new (Ok refs) × (new.shaken ≡ record old.shaken { refs = Some refs })
 
-  -- there are no refs: nothing was sent, or they couldn't be read up to a flush packet
+  -- there are no refs: nothing was sent, or they couldn't be read up to a flush packet, or the list lost white space of a name
   abbrev pub ListFailsInSession : (old new : Session T L P S) → Error → Type 0
   ListFailsInSession old new e = ((new ≡ old) × IsUnasked old.state old.shaken.capabilities e)
       ⊎ ((listed : Result (Vec Ref Global) ListError) × AsksForRefs old new listed
-      × (whole_refs listed (is_flush (reading new.transport.inner).stopped) ≡ Err e)
+      × (whole_refs listed (is_flush (reading new.transport.inner).stopped) new.transport.observer.lost_white_space ≡ Err e)
       × (new.state ≡ state_after_refusal old.shaken.server_protocol_version e) × (new.shaken ≡ old.shaken))
 
 module _ {P : Type 0} (reported : P → ProgressCall → P → Type 0) where

@@ -12,7 +12,7 @@ use Rattle.gixp_response.specs.declared.fetch.response.error.Error.TheVariants.{
 use Rattle.gixp_fetch.specs.declared.options.Outcome.{Outcome}
 use Rattle.gixp_client.specs.ClientError.{message_in}
 use Rattle.gixp_client.specs.declared.error.Error.{Error}
-use Rattle.gixp_client.specs.declared.error.Error.TheVariants.{Refspec, UnsupportedListing, UnknownObjectFormat, Conflicts, Request, Answer, Unnegotiated, Objects, LocalRefs, MissingFeature, UnknownUnshallow, Reported, Memory}
+use Rattle.gixp_client.specs.declared.error.Error.TheVariants.{Refspec, UnsupportedListing, UnsupportedRefName, UnknownObjectFormat, Conflicts, Request, Answer, Unnegotiated, Objects, LocalRefs, MissingFeature, UnknownUnshallow, Reported, Memory}
 use Rattle.gixp_client.specs.declared.listen.Kept.{Kept}
 use Rattle.gixp_client.specs.declared.state.State.{State}
 use Rattle.gixp_client.specs.declared.state.State.TheVariants.{AtStop, Ended, Broken}
@@ -34,12 +34,14 @@ state_after_answer (MissingServerCapability feature) = AtStop
 state_after_answer _ = Broken
 
 -- after a call that failed without a server message. Nothing was sent if the server can't list refs or lacks a feature, or if the
--- local refs, which are read first, can't be read. The list was read completely if it can't be mapped. The response was read
+-- local refs, which are read first, can't be read. The list was read completely if it can't be mapped
+-- or has a name that isn't supported. The response was read
 -- completely if all rounds ended without a pack or an object can't be read, and the pack if an unshallowed id isn't in the
 -- boundary. After any other error the position in the stream is unknown.
 abbrev pub state_after_silent_error : Protocol → Error → State
 state_after_silent_error version (Refspec spec why) = AtStop
 state_after_silent_error version UnsupportedListing = AtStop
+state_after_silent_error version UnsupportedRefName = AtStop
 state_after_silent_error version (UnknownObjectFormat format) = AtStop
 state_after_silent_error version (Conflicts e) = AtStop
 state_after_silent_error version (MissingFeature feature) = AtStop

@@ -20,8 +20,8 @@ pub enum ErrorClass {
     Connection,
     /// The server violated the protocol.
     Protocol,
-    /// The request can't be fulfilled: it is invalid, the server lacks a feature or wants an account, the session is over, or the
-    /// consumer rejects the pack. The same call fails again.
+    /// The request can't be fulfilled: it is invalid, the server lacks a feature or wants an account, it lists a name that the
+    /// parser of refs doesn't keep, the session is over, or the consumer rejects the pack. The same call fails again.
     Refused,
     /// Two refs map to one local name. `conflict` returns the names.
     Conflict,

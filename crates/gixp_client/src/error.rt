@@ -50,6 +50,9 @@ pub enum Error {
     UnsupportedListing,
     /// A list of refs didn't end with a flush packet, so refs may be missing (gitprotocol-v2, "ls-refs").
     UnterminatedRefs,
+    /// The name of a listed ref ends in white space outside ASCII. git allows such a name (git-check-ref-format), but the parser of
+    /// refs trims it, so it may be the name of another ref (gitprotocol-v2, "ls-refs"; gitprotocol-pack, "Reference Discovery").
+    UnsupportedRefName,
     /// The server names objects by a hash function other than SHA-1 (gitprotocol-v2, "object-format").
     UnknownObjectFormat {
         /// The server's name of the hash function.
@@ -187,6 +190,9 @@ impl Display for Rest<'_> {
                 "the server doesn't list refs as it is asked to",
             ),
             Error::UnterminatedRefs => f.write_str("the list of refs is incomplete"),
+            Error::UnsupportedRefName => f.write_str(
+                "the server lists a ref whose name ends in white space outside ASCII",
+            ),
             Error::UnknownObjectFormat { format } => {
                 write!(f, "mismatched algorithms: client sha1; server {format}")
             }

@@ -1,10 +1,10 @@
-//! Checks of the object format and of the end of a list of refs.
-ghost use Rattle.std.specs.Prelude.{◌≡◌, Ok, true, IfOk};
+//! Checks of the object format, and of the end and the names of a list of refs.
+ghost use Rattle.std.specs.Prelude.{◌≡◌, Ok, true, false, IfOk};
 ghost use Rattle.std.specs.Option.{option_map};
 ghost use Rattle.bstr.specs.BStr.{bstr_bytes};
 ghost use Rattle.gixp_response.specs.Sections.{is_flush};
 ghost use Rattle.gixp_refmap.specs.Mapping.{unknown_format};
-ghost use Rattle.gixp_client.specs.ListEnds.{are_whole, whole_refs, of_unended, whole_map};
+ghost use Rattle.gixp_client.specs.ListEnds.{are_whole, is_lossy, whole_refs, of_unended, whole_map};
 
 use crate::error::Error;
 use bstr::BStr;
@@ -47,20 +47,32 @@ pub(crate) fn are_whole<T: ExtendedBufRead>(are_here: bool, reader: &T) -> bool
     are_here || is_at_flush(reader)
 }
 
-/// Returns `UnterminatedRefs` for a list that didn't end with a flush packet.
+/// Whether the list of refs for a ref map lost white space of a name. `are_here`: the session already had the refs, so no list was
+/// read.
+pub(crate) fn is_lossy(are_here: bool, lost_white_space: bool) -> bool
+    ensures { result ≡ is_lossy are_here lost_white_space }
+{
+    !are_here && lost_white_space
+}
+
+/// Returns `UnterminatedRefs` for a list that didn't end with a flush packet, and `UnsupportedRefName` for a list that lost white
+/// space of a name.
 pub(crate) fn whole_refs(
     listed: Result<Vec<Ref>, ls_refs::Error>,
     is_ended: bool,
+    is_lossy: bool,
 ) -> Result<Vec<Ref>, Error>
-    ensures whole { result ≡ whole_refs listed is_ended }
-    ensures listed { IfOk result (λ refs. (listed ≡ Ok refs) × (is_ended ≡ true)) }
+    ensures whole { result ≡ whole_refs listed is_ended is_lossy }
+    ensures listed { IfOk result (λ refs. (listed ≡ Ok refs) × (is_ended ≡ true) × (is_lossy ≡ false)) }
 {
     match listed {
         Ok(refs) => {
-            if is_ended {
-                Ok(refs)
-            } else {
+            if !is_ended {
                 Err(Error::UnterminatedRefs)
+            } else if is_lossy {
+                Err(Error::UnsupportedRefName)
+            } else {
+                Ok(refs)
             }
         }
         Err(e) => Err(Error::from(e)),
@@ -80,17 +92,24 @@ fn of_unended(e: init::Error) -> Error
     }
 }
 
-/// Returns `UnterminatedRefs` for a ref map whose list of refs is incomplete.
-pub(crate) fn whole_map(made: Result<RefMap, init::Error>, is_whole: bool) -> Result<RefMap, Error>
-    ensures whole { result ≡ whole_map made is_whole }
-    ensures made { IfOk result (λ m. (made ≡ Ok m) × (is_whole ≡ true)) }
+/// Returns `UnterminatedRefs` for a ref map whose list of refs is incomplete, and `UnsupportedRefName` for one whose list lost white
+/// space of a name.
+pub(crate) fn whole_map(
+    made: Result<RefMap, init::Error>,
+    is_whole: bool,
+    is_lossy: bool,
+) -> Result<RefMap, Error>
+    ensures whole { result ≡ whole_map made is_whole is_lossy }
+    ensures made { IfOk result (λ m. (made ≡ Ok m) × (is_whole ≡ true) × (is_lossy ≡ false)) }
 {
     match made {
         Ok(map) => {
-            if is_whole {
-                Ok(map)
-            } else {
+            if !is_whole {
                 Err(Error::UnterminatedRefs)
+            } else if is_lossy {
+                Err(Error::UnsupportedRefName)
+            } else {
+                Ok(map)
             }
         }
         Err(e) => {

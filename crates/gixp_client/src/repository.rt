@@ -5,7 +5,7 @@ use gixp_hash::ObjectId;
 #[derive(Drop)]
 pub struct Repository<'a, F, R> {
     /// Its objects. The fetch assumes that an object that exists is complete, with everything it reaches. So a store that may hold
-    /// a commit without its history must hide objects that no ref reaches.
+    /// a commit without its history must hide objects that no ref reaches: `reachable_objects` returns those that refs reach.
     pub objects: &'a F,
     /// Its refs.
     pub refs: &'a mut R,

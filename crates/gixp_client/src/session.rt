@@ -1,5 +1,5 @@
 //! A session with a server.
-ghost use Rattle.std.specs.Prelude.{◌≡◌, ◌≢◌, ◌⊎◌, true, [], Some, None, Ok, Err, IfOk, IfErr, OnOk, OnErr, MatchResult, is_some, string_bytes, Result};
+ghost use Rattle.std.specs.Prelude.{◌≡◌, ◌≢◌, ◌⊎◌, ◌&&◌, true, false, [], Some, None, Ok, Err, IfOk, IfErr, OnOk, OnErr, MatchResult, is_some, string_bytes, Result};
 ghost use Rattle.std.specs.Option.{option_map};
 ghost use Rattle.gixp_transport.specs.declared.service.Service.TheVariants.{UploadPack};
 ghost use Rattle.gixp_transport.specs.Greeting.{parameters_of};
@@ -12,14 +12,14 @@ ghost use Rattle.gixp_handshake.specs.ShakeProgress.{ReportsHandshake};
 ghost use Rattle.gixp_client.specs.ClientCalls.{OpensSession, FailsToOpen, FailsWithoutAccount, GivesRefs, MapsInSession, ClosesSession, needs_no_list};
 ghost use Rattle.gixp_client.specs.ClientNames.{is_session_id, named_by};
 ghost use Rattle.gixp_client.specs.Filters.{offers_filter};
-ghost use Rattle.gixp_client.specs.ListEnds.{IsUnasked, are_whole, whole_map};
+ghost use Rattle.gixp_client.specs.ListEnds.{IsUnasked, are_whole, is_lossy, whole_map};
 ghost use Rattle.gixp_client.specs.SessionRefs.{KeepsListedRefs, ListFailsInSession, ReportsAsked, ReportsMap};
 ghost use Rattle.gixp_client.specs.SessionStates.{state_after_map};
 ghost use Rattle.gixp_client.specs.declared.session.Session.{Session as AnySession};
 
 use crate::by_id::{are_ids, seen_refs};
 use crate::error::Error;
-use crate::list_ends::{are_whole, is_at_flush, unknown_format, whole_map, whole_refs};
+use crate::list_ends::{are_whole, is_at_flush, is_lossy, unknown_format, whole_map, whole_refs};
 use crate::listen::Listener;
 use crate::messages::Messages;
 use crate::name::{ClientName, is_session_id};
@@ -70,6 +70,18 @@ fn has_refs(refs: &Option<Vec<Ref>>) -> bool
     }
 }
 
+// Returns `UnsupportedRefName` if advertised refs lost white space of a name.
+fn expect_names(refs: &Option<Vec<Ref>>, lost_white_space: bool) -> Result<(), Error>
+    ensures names { OnOk result ((is_some refs.now && lost_white_space) ≡ false) }
+    ensures refused { IfErr result (λ e. (is_some refs.now ≡ true) × (e ≡ Error.UnsupportedRefName)) }
+{
+    if has_refs(refs) && lost_white_space {
+        Err(Error::UnsupportedRefName)
+    } else {
+        Ok(())
+    }
+}
+
 impl<T: Transport + Drop, L: Listener + Drop> Session<T, L, Discard> {
     /// Performs the handshake, without an account (gitprotocol-pack, "Reference Discovery"; gitprotocol-v2, "Capability
     /// Advertisement"). The transport decides which versions are accepted. `agent` is sent as the name of the client. The
@@ -77,7 +89,8 @@ impl<T: Transport + Drop, L: Listener + Drop> Session<T, L, Discard> {
     ///
     /// # Errors
     ///
-    /// `Handshake` if it fails, or `Memory`. The transport is dropped.
+    /// `Handshake` if it fails, `UnsupportedRefName` if the name of an advertised ref ends in white space outside ASCII, or `Memory`.
+    /// The transport is dropped.
     pub fn open(
         alloc: Global,
         transport: T,
@@ -88,6 +101,7 @@ impl<T: Transport + Drop, L: Listener + Drop> Session<T, L, Discard> {
         ensures named { IfOk result (λ s. string_bytes s.name.agent ≡ agent.now) }
         ensures nameless { IfOk result (λ s. s.name.session_id ≡ None) }
         ensures state { IfOk result (λ s. s.state ≡ State.AtStop) }
+        ensures names { IfOk result (λ s. (is_some s.shaken.refs && s.transport.observer.lost_white_space) ≡ false) }
         ensures refused { IfErr result (FailsWithoutAccount T.is_plain (T.reading transport)) }
     {
         match Session::open_with(
@@ -134,6 +148,7 @@ impl<T: Transport + Drop, L: Listener + Drop, P: NestedProgress + Drop> Session<
         ensures state { IfOk result (λ s. s.state ≡ State.AtStop) }
         ensures report { IfOk result (λ s. ReportsHandshake P.reported UploadPack (parameters_of extra_parameters.items) (T.reading transport) progress
             (Ok s.shaken) s.progress) }
+        ensures names { IfOk result (λ s. (is_some s.shaken.refs && s.transport.observer.lost_white_space) ≡ false) }
         ensures refused { IfErr result (FailsToOpen A.step authenticate (parameters_of extra_parameters.items) T.is_plain (T.reading transport)) }
     {
         let agent = String::from_str(alloc, agent)?;
@@ -147,6 +162,7 @@ impl<T: Transport + Drop, L: Listener + Drop, P: NestedProgress + Drop> Session<
             extra_parameters,
             &mut progress,
         )?;
+        expect_names(&shaken.refs, transport.observer.lost_white_space)?;
         Ok(Session {
             alloc,
             transport,
@@ -257,6 +273,7 @@ impl<T: Transport + Drop, L: Listener + Drop, P: NestedProgress + Drop> Session<
         ensures format { OnOk result (unknown_format self.old.shaken.capabilities ≡ None) }
         ensures listed { OnOk result (KeepsListedRefs T.is_plain T.reading self.old self.new) }
         ensures ended { OnOk result (is_flush (T.reading self.new.transport.inner).stopped ≡ true) }
+        ensures names { OnOk result (self.new.transport.observer.lost_white_space ≡ false) }
         ensures refused { IfErr result (ListFailsInSession T.is_plain T.reading self.old self.new) }
         ensures report { ReportsAsked P.reported self.old.progress result self.new.progress }
         ensures stays { OnOk result (self.new.state ≡ self.old.state) }
@@ -273,8 +290,13 @@ impl<T: Transport + Drop, L: Listener + Drop, P: NestedProgress + Drop> Session<
             &self.shaken.capabilities,
             name,
         )?;
+        self.transport.observer.lost_white_space = false;
         let listed = command.invoke_blocking(self.alloc, &mut self.transport, &mut self.progress);
-        match whole_refs(listed, is_at_flush(&self.transport)) {
+        match whole_refs(
+            listed,
+            is_at_flush(&self.transport),
+            self.transport.observer.lost_white_space,
+        ) {
             Ok(refs) => {
                 self.shaken.refs = Some(refs);
                 Ok(())
@@ -293,6 +315,7 @@ impl<T: Transport + Drop, L: Listener + Drop, P: NestedProgress + Drop> Session<
     ///
     /// - `Refs`, `Request` or `UnsupportedListing` if the refs can't be listed.
     /// - `UnterminatedRefs` if the list doesn't end with a flush packet.
+    /// - `UnsupportedRefName` if a name in the list ends in white space outside ASCII.
     /// - `UnknownObjectFormat` if the server's object format isn't SHA-1. Nothing is sent.
     /// - `Over`, or `Memory`.
     ///
@@ -304,6 +327,7 @@ impl<T: Transport + Drop, L: Listener + Drop, P: NestedProgress + Drop> Session<
         ensures format { self.old.shaken.refs ≡ None → OnOk result (unknown_format self.old.shaken.capabilities ≡ None) }
         ensures listed { self.old.shaken.refs ≡ None → OnOk result (KeepsListedRefs T.is_plain T.reading self.old self.new) }
         ensures ended { self.old.shaken.refs ≡ None → OnOk result (is_flush (T.reading self.new.transport.inner).stopped ≡ true) }
+        ensures names { self.old.shaken.refs ≡ None → OnOk result (self.new.transport.observer.lost_white_space ≡ false) }
         ensures refused { IfErr result (ListFailsInSession T.is_plain T.reading self.old self.new) }
         ensures report { self.old.shaken.refs ≡ None → ReportsAsked P.reported self.old.progress result self.new.progress }
         ensures stays { OnOk result (self.new.state ≡ self.old.state) }
@@ -357,6 +381,7 @@ impl<T: Transport + Drop, L: Listener + Drop, P: NestedProgress + Drop> Session<
     ///
     /// - `Refs`, `Request` or `UnsupportedListing` if the refs can't be listed.
     /// - `UnterminatedRefs` if the list doesn't end with a flush packet.
+    /// - `UnsupportedRefName` if a name in the list ends in white space outside ASCII.
     /// - `Conflicts` if two refs map to one local name.
     /// - `UnknownObjectFormat` if the server's object format isn't SHA-1. Nothing is sent.
     /// - `Over`, or `Memory`.
@@ -367,12 +392,15 @@ impl<T: Transport + Drop, L: Listener + Drop, P: NestedProgress + Drop> Session<
             (T.reading self.old.transport.inner) (T.reading self.new.transport.inner) (Ok m)) }
         ensures whole { OnOk result (are_whole (needs_no_list request.now self.old.shaken)
             (T.reading self.new.transport.inner).stopped ≡ true) }
+        ensures names { OnOk result (is_lossy (needs_no_list request.now self.old.shaken) self.new.transport.observer.lost_white_space
+            ≡ false) }
         ensures format { OnOk result (unknown_format self.old.shaken.capabilities ≡ None) }
         ensures other { unknown_format self.old.shaken.capabilities ≢ None → self.new ≡ self.old }
         ensures refused { IfErr result (λ e. ((self.new ≡ self.old) × IsUnasked self.old.state self.old.shaken.capabilities e)
             ⊎ ((made : Result MadeMap MapError) × MapsInSession request.now (named_by self.old.name)
             self.old.shaken T.is_plain (T.reading self.old.transport.inner) (T.reading self.new.transport.inner) made
-            × (whole_map made (are_whole (needs_no_list request.now self.old.shaken) (T.reading self.new.transport.inner).stopped) ≡ Err e)
+            × (whole_map made (are_whole (needs_no_list request.now self.old.shaken) (T.reading self.new.transport.inner).stopped)
+            (is_lossy (needs_no_list request.now self.old.shaken) self.new.transport.observer.lost_white_space) ≡ Err e)
             × (self.new.state ≡ state_after_map (needs_no_list request.now self.old.shaken) self.old.shaken.server_protocol_version e))) }
         ensures stays { OnOk result (self.new.state ≡ self.old.state) }
         ensures report { IfOk result (λ m. ReportsMap P.reported (needs_no_list request.now self.old.shaken) self.old.progress
@@ -390,6 +418,7 @@ impl<T: Transport + Drop, L: Listener + Drop, P: NestedProgress + Drop> Session<
         self.shaken.refs = seen_refs(self.alloc, refs, are_ids(&context));
         let is_here = has_refs(&self.shaken.refs);
         let version = self.shaken.server_protocol_version;
+        self.transport.observer.lost_white_space = false;
         let made = obtain(
             self.alloc,
             &mut self.shaken,
@@ -400,7 +429,11 @@ impl<T: Transport + Drop, L: Listener + Drop, P: NestedProgress + Drop> Session<
             &mut self.transport,
         );
         self.shaken.refs = here;
-        match whole_map(made, are_whole(is_here, &self.transport)) {
+        match whole_map(
+            made,
+            are_whole(is_here, &self.transport),
+            is_lossy(is_here, self.transport.observer.lost_white_space),
+        ) {
             Ok(map) => Ok(map),
             Err(e) => {
                 self.state = state_after_map(is_here, version, &e);

@@ -58,6 +58,7 @@ fn state_after_silent_error(version: Protocol, e: &Error) -> State
     match e {
         Error::Refspec { .. } | Error::UnsupportedListing => State::AtStop,
         Error::UnknownObjectFormat { .. } | Error::Conflicts(_) => State::AtStop,
+        Error::UnsupportedRefName => State::AtStop,
         Error::MissingFeature { .. } | Error::LocalRefs(_) => State::AtStop,
         Error::Request(e) => state_after_request(e),
         Error::Answer(e) => state_after_answer(e),

@@ -14,7 +14,7 @@ use Rattle.gix_protocol.specs.Reading.{Reading}
 use Rattle.gix_protocol.specs.RefMapType.{RefMap}
 use Rattle.gix_protocol.specs.RefType.{Ref}
 use Rattle.gix_protocol.specs.SessionErrorType.{Error}
-use Rattle.gix_protocol.specs.SessionErrorType.TheVariants.{UnterminatedRefs}
+use Rattle.gix_protocol.specs.SessionErrorType.TheVariants.{UnterminatedRefs, UnsupportedRefName}
 use Rattle.gix_protocol.specs.SessionStateType.{State}
 use Rattle.gixp_fetch_common.specs.Mapped.{ListsIf, IsUnlisted, IsUnmapped}
 use Rattle.gixp_fetch_common.specs.Unfetched.{FailsWithin}
@@ -24,7 +24,10 @@ use Rattle.gixp_fetch_common.specs.declared.failure.Phase.{Phase}
 by_list : (state : State) (caps : List CapabilityValue) (e : Error) → IsUnlisted state caps e → IsUnmapped state caps e
 by_list state caps e h = elim h [
   | inl unasked ↦ inl unasked
-  | inr h' ↦ elim h' [ inl unended ↦ inr (inl unended) | inr x ↦ inr (inr (ListRefs x.0, x.1)) ]
+  | inr h' ↦ elim h' [
+    | inl unended ↦ inr (inl unended)
+    | inr h'' ↦ elim h'' [ inl unnamed ↦ inr (inr (inl unnamed)) | inr x ↦ inr (inr (inr (ListRefs x.0, x.1))) ]
+  ]
 ]
 
 -- an error of the list is an error of the ref map
@@ -33,22 +36,24 @@ pub unmapped : (state : State) (caps : List CapabilityValue) (phase : Phase) (f 
 unmapped state caps phase f h = record { error = h.error; holds = by_list state caps h.error h.holds; reported = h.reported }
 
 -- a list that fails
-pub unlisted_of : (listed : Result (Vec Ref Global) ListError) (is_ended : Bool) (e : Error) → whole_refs listed is_ended ≡ Err e
-    → (e ≡ UnterminatedRefs) ⊎ ((x : ListError) × (e ≡ of_list x))
-unlisted_of (Ok refs) true e h = search (rules, h)
-unlisted_of (Ok refs) false e h = inl (search (rules, h))
-unlisted_of (Err x) is_ended e h = inr (x, search (rules, h))
+pub unlisted_of : (listed : Result (Vec Ref Global) ListError) (is_ended lossy : Bool) (e : Error) → whole_refs listed is_ended lossy ≡ Err e
+    → (e ≡ UnterminatedRefs) ⊎ (e ≡ UnsupportedRefName) ⊎ ((x : ListError) × (e ≡ of_list x))
+unlisted_of (Ok refs) true false e h = search (rules, h)
+unlisted_of (Ok refs) true true e h = inr (inl (search (rules, h)))
+unlisted_of (Ok refs) false lossy e h = inl (search (rules, h))
+unlisted_of (Err x) is_ended lossy e h = inr (inr (x, search (rules, h)))
 
 -- a ref map that fails
-pub unmapped_of : (made : Result RefMap MapError) (is_whole : Bool) (e : Error) → whole_map made is_whole ≡ Err e
-    → (e ≡ UnterminatedRefs) ⊎ ((x : MapError) × (e ≡ of_init x))
-unmapped_of (Ok m) true e h = search (rules, h)
-unmapped_of (Ok m) false e h = inl (search (rules, h))
-unmapped_of (Err x) true e h = inr (x, search (rules, h))
-unmapped_of (Err (UnknownObjectFormat format)) false e h = inl (search (rules, h))
-unmapped_of (Err (MappingValidation x)) false e h = inl (search (rules, h))
-unmapped_of (Err (ListRefs x)) false e h = inr (ListRefs x, search (rules, h))
-unmapped_of (Err Memory) false e h = inr (Memory, search (rules, h))
+pub unmapped_of : (made : Result RefMap MapError) (is_whole lossy : Bool) (e : Error) → whole_map made is_whole lossy ≡ Err e
+    → (e ≡ UnterminatedRefs) ⊎ (e ≡ UnsupportedRefName) ⊎ ((x : MapError) × (e ≡ of_init x))
+unmapped_of (Ok m) true false e h = search (rules, h)
+unmapped_of (Ok m) true true e h = inr (inl (search (rules, h)))
+unmapped_of (Ok m) false lossy e h = inl (search (rules, h))
+unmapped_of (Err x) true lossy e h = inr (inr (x, search (rules, h)))
+unmapped_of (Err (UnknownObjectFormat format)) false lossy e h = inl (search (rules, h))
+unmapped_of (Err (MappingValidation x)) false lossy e h = inl (search (rules, h))
+unmapped_of (Err (ListRefs x)) false lossy e h = inr (inr (ListRefs x, search (rules, h)))
+unmapped_of (Err Memory) false lossy e h = inr (inr (Memory, search (rules, h)))
 
 -- listing refs keeps the server's capabilities
 kept_capabilities : (lists : Bool) (agent : FeatureValue) (shaken kept : Handshake) (plain : Bool) (old new : Reading)

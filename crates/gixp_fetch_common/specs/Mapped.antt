@@ -14,7 +14,7 @@ use Rattle.gix_protocol.specs.RefMapType.{RefMap}
 use Rattle.gix_protocol.specs.RefType.{Ref}
 use Rattle.gix_protocol.specs.RequestType.{Request}
 use Rattle.gix_protocol.specs.SessionErrorType.{Error}
-use Rattle.gix_protocol.specs.SessionErrorType.TheVariants.{UnterminatedRefs}
+use Rattle.gix_protocol.specs.SessionErrorType.TheVariants.{UnterminatedRefs, UnsupportedRefName}
 use Rattle.gix_protocol.specs.SessionStateType.{State}
 
 -- whether all refs are listed for so many refspecs: where there are more than this, and the refs aren't here
@@ -35,10 +35,13 @@ pub record MapsListed (lists : Bool) (request : Request) (agent : FeatureValue) 
   pub listed : ListsIf lists agent shaken plain old middle kept
   pub maps : MapsInSession request agent kept plain middle new r
 
--- why a server that can do this doesn't list its refs: it isn't asked, the list isn't ended, or it can't be read
+-- why a server that can do this doesn't list its refs: it isn't asked, the list isn't ended, a name isn't supported, or the list
+-- can't be read
 abbrev pub IsUnlisted : State → List CapabilityValue → Error → Type 0
-IsUnlisted state caps e = IsUnasked state caps e ⊎ (e ≡ UnterminatedRefs) ⊎ ((x : ListError) × (e ≡ of_list x))
+IsUnlisted state caps e =
+    IsUnasked state caps e ⊎ (e ≡ UnterminatedRefs) ⊎ (e ≡ UnsupportedRefName) ⊎ ((x : ListError) × (e ≡ of_list x))
 
 -- why there is no ref map
 abbrev pub IsUnmapped : State → List CapabilityValue → Error → Type 0
-IsUnmapped state caps e = IsUnasked state caps e ⊎ (e ≡ UnterminatedRefs) ⊎ ((x : MapError) × (e ≡ of_init x))
+IsUnmapped state caps e =
+    IsUnasked state caps e ⊎ (e ≡ UnterminatedRefs) ⊎ (e ≡ UnsupportedRefName) ⊎ ((x : MapError) × (e ≡ of_init x))

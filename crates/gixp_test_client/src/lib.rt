@@ -15,6 +15,8 @@ mod lines;
 #[cfg(test)]
 mod listeners;
 #[cfg(test)]
+mod names;
+#[cfg(test)]
 mod planner;
 #[cfg(test)]
 mod refusals;

@@ -19,6 +19,8 @@ mod plain_requests;
 #[cfg(test)]
 mod plain_responses;
 #[cfg(test)]
+mod reachable;
+#[cfg(test)]
 mod refspecs;
 #[cfg(test)]
 mod response_end;

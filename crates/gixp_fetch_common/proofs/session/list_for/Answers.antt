@@ -8,7 +8,7 @@ returns-in-Err-clause-refused g c = record {
   error = c.in-Err.e;
   holds = elim c.in-Err.ensures.refused [
     | inl unsent ↦ inl unsent.1
-    | inr x ↦ inr (unlisted_of x.0 _ c.in-Err.e x.2)
+    | inr x ↦ inr (unlisted_of x.0 _ _ c.in-Err.e x.2)
   ];
   reported = c.failure_of.ensures;
 }

@@ -8,7 +8,7 @@ returns-in-Err-map-clause-refused g c = record {
   error = c.in-Err-map.e;
   holds = elim c.in-Err-map.ensures.refused [
     | inl unsent ↦ inl (unasked_then _ _ _ _ _ _ _ _ _ _ c.in-Ok.ensures.listed c.in-Ok.ensures.stays unsent.1)
-    | inr x ↦ inr (unmapped_of x.0 _ c.in-Err-map.e x.2)
+    | inr x ↦ inr (unmapped_of x.0 _ _ c.in-Err-map.e x.2)
   ];
   reported = c.failure_of.ensures;
 }

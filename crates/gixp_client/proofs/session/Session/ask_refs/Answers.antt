@@ -15,7 +15,7 @@ returns-in-Err-clause-refused g c = inr (
   c.invoke_blocking-listed.result,
   as_lists _ _ _ _ _ _ _ _ _ _ c.git-table.ensures c.in_ok-name.ensures
       c.in_ok-command.ensures refl c.invoke_blocking-listed.ensures.lists,
-  refused_by _ _ _ _ c.in-Err.ensures.whole c.is_at_flush.ensures,
+  refused_by _ _ _ _ _ c.in-Err.ensures.whole c.is_at_flush.ensures,
   c.state_after_refusal-self.ensures,
   refl,
 )

@@ -1,0 +1,6 @@
+pub use Rattle.gixp_graph.specs.Asked
+pub use Rattle.gixp_graph.specs.Object
+pub use Rattle.gixp_graph.specs.Refusals
+pub use Rattle.gixp_hash.specs.Failures
+pub mod Reachable
+pub mod Traversal

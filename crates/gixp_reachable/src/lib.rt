@@ -1,0 +1,7 @@
+//! The objects of a repository that its refs reach. After an interrupted fetch a repository may have a commit without its
+//! history. A fetch over all objects then doesn't request that history; a fetch over these objects does.
+#![tactic(auto)]
+
+mod reachable;
+
+pub use reachable::reachable_objects;
