@@ -1,5 +1,5 @@
 //! A negotiator that offers the commits of a text, and reads a line only when a have is requested.
-ghost use Rattle.std.specs.Prelude.{◌≡◌, ◌⊎◌, ◌-◌, ◌^◌, ◌≤◌, ◌<◌, [], ◌∷◌, Some, None, true, false, IfOk, IfErr, IfSome, IfNone, OnOk, OnSome};
+ghost use Rattle.std.specs.Prelude.{◌≡◌, ◌-◌, ◌^◌, ◌≤◌, ◌<◌, [], ◌∷◌, Some, None, true, false, IfOk, IfErr, IfSome, IfNone, OnOk, OnSome};
 ghost use Rattle.std.specs.BTreeSet.{contains};
 ghost use Rattle.std.specs.FinMap as finite;
 ghost use Rattle.std.specs.Io.BufRead.{strip_last};
@@ -8,7 +8,7 @@ ghost use Rattle.gixp_hash.specs.declared.object_id.ObjectId.{ObjectId};
 ghost use Rattle.gixp_hash.specs.ObjectId.{id_cmp};
 ghost use Rattle.gixp_utils.specs.Lines.{text_lines};
 ghost use Rattle.gixp_memory.specs.Repository.{commit_line};
-ghost use Rattle.gixp_fetch_common.specs.KnownCommits.{parents_of, AreAwaitedOrKnown, AwaitsUnknown, AwaitsUnknownBut, LosesNone};
+ghost use Rattle.gixp_fetch_common.specs.KnownCommits.{parents_of, AreAwaitedOrKnown, AwaitsUnknown, AwaitsUnknownBut};
 ghost use Rattle.gixp_fetch_common.specs.SharedCommits.{IsSharedBut, IsSharedWhole, Shares, SharesSome};
 ghost use Rattle.gixp_fetch_common.specs.ListedCommits.{id_in, IsNoCommit, ReadsTextLines, ReadsCommit, IsUncommon, OffersNext};
 ghost use Rattle.gixp_fetch_common.specs.ListedCommits.{error_of_refusal, line_number, ListedOfferFails, KeepsCommitText};
