@@ -12,3 +12,4 @@ pub mod ReportedChanges
 pub mod Streams
 pub mod UnreadFiles
 pub mod Usage
+pub mod WrittenBoundary

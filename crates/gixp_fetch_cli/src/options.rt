@@ -1,8 +1,7 @@
 //! The options of a command line.
 ghost use Rattle.std.specs.Prelude.{◌≡◌, true, if◌then◌else◌, Some, None, codes, false, map, string_bytes, IsOk, IfOk, IfErr, IfSome, IfNone};
-ghost use Rattle.std.specs.Option.{option_map};
 ghost use Rattle.bstr.specs.Owned.{bstring_bytes};
-ghost use Rattle.gixp_fetch_cli.specs.CommandLine.{line_of, line_value, LineParts};
+ghost use Rattle.gixp_fetch_cli.specs.CommandLine.{line_of, line_value};
 ghost use Rattle.gixp_fetch_cli.specs.declared.options.OptionError.TheVariants.{Memory};
 ghost use Rattle.gixp_fetch_cli.specs.Choices.{version_of, tags_of, value, has, IsHaves, mixes_report};
 ghost use Rattle.gixp_fetch_cli.specs.Choices.{AsksQuestions, AsksFiles, AsksOutput, AsksFetch, AsksWork, AsksTask, AsksOptions};

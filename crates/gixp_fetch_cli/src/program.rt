@@ -1,9 +1,11 @@
 //! The run of `gixp_fetch_pack`: the command line, the session, the report and the status.
 ghost use Rattle.std.specs.Prelude.{◌≡◌, ◌&&◌, [], None, is_some, Ok, Err, IfOk, IfErr, OnOk};
+ghost use Rattle.gix_protocol.specs.Boundaries.{ids_after};
 ghost use Rattle.gix_protocol.specs.UpdateErrorType.{Error as UpdateError};
 ghost use Rattle.gixp_fetch_common.specs.Failures.{FailureIsUpdate};
 ghost use Rattle.gixp_fetch_common.specs.Received.{DropsHeld};
 ghost use Rattle.gixp_fetch_cli.specs.Kept.{KeepsOrDrops};
+ghost use Rattle.gixp_fetch_cli.specs.WrittenBoundary.{IsWrittenIfNew};
 ghost use Rattle.gixp_fetch_cli.specs.ReportedChanges.{knows_commits, local_side, ReportsChanges};
 
 use crate::change::{Change, changes};
@@ -168,6 +170,7 @@ fn changed_boundary(
     old: &[ObjectId],
     fetched: Result<Fetched, Failure>,
 ) -> Result<Option<Vec<ObjectId>>, Failure>
+    ensures changed { IfOk fetched (λ f. IfOk result (IsWrittenIfNew old.now (ids_after f.boundary.ids.items f.boundary.unasked.items))) }
     ensures failed { IfErr fetched (λ e. result ≡ Err e) }
 {
     match fetched {

@@ -1,7 +1,7 @@
 //! The request of a fetch.
 ghost use Rattle.std.specs.Prelude.{◌≡◌, true, IfOk};
 ghost use Rattle.gix_protocol.specs.FetchShallow.{shallow_value};
-ghost use Rattle.gixp_fetch_cli.specs.Refspecs.{AreSpecsOf};
+ghost use Rattle.gixp_fetch_cli.specs.Refspecs.{AreSpecsOf, HasOtherDefaults};
 
 use crate::options::FetchArgs;
 use gix_protocol::client::Request;
@@ -21,6 +21,7 @@ pub fn request_of(
     ensures rejects { IfOk result (λ request. request.rejects_shallow ≡ fetch_args.now.rejects_shallow) }
     ensures goes_on { IfOk result (λ request. request.goes_on ≡ true) }
     ensures progress { IfOk result (λ request. request.wants_progress ≡ wants_progress) }
+    ensures defaults { IfOk result (λ request. HasOtherDefaults request) }
 {
     let mut request = Request::new(alloc);
     'specs: for text in &fetch_args.specs {

@@ -1,5 +1,5 @@
 -- A negotiator that offers the commits of a text, in its order.
-use Rattle.std.specs.Prelude.{◌≡◌, ◌+◌, ◌≤◌, ◌⊎◌, ℕ, suc, length, List, [], ◌∷◌, ◌++◌, Option, Some, None, true, false, All, IfSome, slice_get, option_and_then}
+use Rattle.std.specs.Prelude.{◌≡◌, ◌+◌, ◌-◌, ◌^◌, ◌≤◌, ◌⊎◌, ℕ, suc, length, List, [], ◌∷◌, ◌++◌, Option, Some, None, true, false, All, IfSome, slice_get, option_and_then}
 use Rattle.std.specs.BTreeSet.{BTreeSet, contains}
 use Rattle.std.specs.Io.BufRead.{strip_last}
 use Rattle.gixp_hash.specs.declared.object_id.ObjectId.{ObjectId}
@@ -102,20 +102,23 @@ abbrev pub error_of_refusal : Refusal → NegotiatorError
 error_of_refusal (Read kind) = Lookup (Io kind)
 error_of_refusal (Line number) = Lookup Corrupt
 
+-- the number of the last line, from 1 on, by how many more lines may be read
+abbrev pub line_number : ℕ → ℕ
+line_number left = 2 ^ 64 - 1 - left
+
 -- the error of the stored refusal; a line that is no commit is refused by its number
-abbrev pub IsErrorOfRefusal : (line : List ℕ) (lines : ℕ) → NegotiatorError → Option Refusal → Type 0
-IsErrorOfRefusal line lines e None = ⊥
-IsErrorOfRefusal line lines e (Some (Read kind)) = e ≡ error_of_refusal (Read kind)
-IsErrorOfRefusal line lines e (Some (Line number)) = (e ≡ error_of_refusal (Line number)) × (number ≡ lines) × IsNoCommit line
+abbrev pub IsErrorOfRefusal : (line : List ℕ) (at : ℕ) → NegotiatorError → Option Refusal → Type 0
+IsErrorOfRefusal line at e None = ⊥
+IsErrorOfRefusal line at e (Some (Read kind)) = e ≡ error_of_refusal (Read kind)
+IsErrorOfRefusal line at e (Some (Line number)) = (e ≡ error_of_refusal (Line number)) × (number ≡ at) × IsNoCommit line
 
 -- a call that offers nothing: an allocation failed, or the text isn't read on
-abbrev pub ListedOfferFails : (line : List ℕ) (lines : ℕ) → Option Refusal → NegotiatorError → Option Refusal → Type 0
-ListedOfferFails line lines old e new = ((e ≡ NoMemory) × (new ≡ old)) ⊎ IsErrorOfRefusal line lines e new
+abbrev pub ListedOfferFails : (line : List ℕ) (at : ℕ) → Option Refusal → NegotiatorError → Option Refusal → Type 0
+ListedOfferFails line at old e new = ((e ≡ NoMemory) × (new ≡ old)) ⊎ IsErrorOfRefusal line at e new
 
 -- the text and how far it was read stay
 pub record KeepsCommitText {R : Type 0} (old new : CommitText R) : Type 0 where
   pub text : new.text ≡ old.text
   pub line : new.line ≡ old.line
-  pub lines : new.lines ≡ old.lines
   pub left : new.left ≡ old.left
   pub refusal : new.refusal ≡ old.refusal

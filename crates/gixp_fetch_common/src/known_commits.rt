@@ -6,7 +6,7 @@ ghost use Rattle.gixp_hash.specs.declared.object_id.ObjectId.{ObjectId};
 ghost use Rattle.gixp_hash.specs.ObjectId.{id_cmp};
 ghost use Rattle.gixp_graph.specs.Object.{commit_at};
 ghost use Rattle.gixp_updates.specs.Ancestors.{IsReachedFrom};
-ghost use Rattle.gixp_fetch_common.specs.KnownCommits.{parents_of, is_awaited, KeepsIds, HasIdsOf, IsAwaitedOrKnown, AreAwaitedOrKnown, AwaitsNone};
+ghost use Rattle.gixp_fetch_common.specs.KnownCommits.{parents_of, is_awaited, KeepsIds, IsAwaitedOrKnown, AreAwaitedOrKnown, AwaitsNone};
 ghost use Rattle.gixp_fetch_common.specs.KnownCommits.{AddsUnknown, AwaitsUnknown, LosesNone};
 ghost use Rattle.gixp_fetch_common.specs.SharedCommits.{IsSharedBut, IsSharedWhole, AddsReached, AddsId, MarksSome, MarksCommon, Shares, SharesSome};
 

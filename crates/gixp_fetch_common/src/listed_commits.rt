@@ -1,5 +1,5 @@
 //! A negotiator that offers the commits of a text, and reads a line only when a have is requested.
-ghost use Rattle.std.specs.Prelude.{◌≡◌, ◌⊎◌, ◌-◌, ◌^◌, ◌≤◌, ◌<◌, [], ◌∷◌, Some, None, true, false, IfOk, IfErr, IfSome, IfNone, OnOk, OnSome};
+ghost use Rattle.std.specs.Prelude.{◌≡◌, ◌-◌, ◌^◌, ◌≤◌, ◌<◌, [], ◌∷◌, Some, None, true, false, IfOk, IfErr, IfSome, IfNone, OnOk, OnSome};
 ghost use Rattle.std.specs.BTreeSet.{contains};
 ghost use Rattle.std.specs.FinMap as finite;
 ghost use Rattle.std.specs.Io.BufRead.{strip_last};
@@ -8,10 +8,10 @@ ghost use Rattle.gixp_hash.specs.declared.object_id.ObjectId.{ObjectId};
 ghost use Rattle.gixp_hash.specs.ObjectId.{id_cmp};
 ghost use Rattle.gixp_utils.specs.Lines.{text_lines};
 ghost use Rattle.gixp_memory.specs.Repository.{commit_line};
-ghost use Rattle.gixp_fetch_common.specs.KnownCommits.{parents_of, AreAwaitedOrKnown, AwaitsUnknown, AwaitsUnknownBut, LosesNone};
+ghost use Rattle.gixp_fetch_common.specs.KnownCommits.{parents_of, AreAwaitedOrKnown, AwaitsUnknown, AwaitsUnknownBut};
 ghost use Rattle.gixp_fetch_common.specs.SharedCommits.{IsSharedBut, IsSharedWhole, Shares, SharesSome};
 ghost use Rattle.gixp_fetch_common.specs.ListedCommits.{id_in, IsNoCommit, ReadsTextLines, ReadsCommit, IsUncommon, OffersNext};
-ghost use Rattle.gixp_fetch_common.specs.ListedCommits.{error_of_refusal, ListedOfferFails, KeepsCommitText};
+ghost use Rattle.gixp_fetch_common.specs.ListedCommits.{error_of_refusal, line_number, ListedOfferFails, KeepsCommitText};
 
 use crate::known_commits::KnownCommits;
 use gixp_graph::{Graph, Negotiator, NegotiatorError, ObjectError, Objects};
@@ -38,9 +38,8 @@ struct CommitText<R> {
     text: R,
     // The last line, with its LF.
     line: Vec<u8>,
-    lines: usize,
-    // How many more lines may be read: more than any text has.
-    left: u64,
+    // How many more lines may be read. Before the first line that is `usize::MAX`, which is more than any text has.
+    left: usize,
     known: KnownCommits,
     refusal: Option<Refusal>,
 }
@@ -60,6 +59,13 @@ fn commit_id(alloc: Global, line: &[u8]) -> Result<Option<ObjectId>, AllocError>
 }
 
 impl<R: BufRead> CommitText<R> {
+    // The number of the last line, from 1 on.
+    fn line_number(&self) -> usize
+        ensures { result ≡ line_number self.now.left }
+    {
+        usize::MAX - self.left
+    }
+
     // Reads a line with its LF. Returns false at the end of the text.
     fn read_line(&mut self) -> io::Result<bool>
         ensures read { IfOk result (λ is_there. is_there ≡ true → ReadsTextLines (R.remaining self.old.text)
@@ -72,7 +78,6 @@ impl<R: BufRead> CommitText<R> {
         ensures refusal { self.new.refusal ≡ self.old.refusal }
     {
         self.line.clear();
-        self.lines = self.lines.saturating_add(1);
         let count = self.text.read_until(b'\n', &mut self.line)?;
         Ok(count != 0)
     }
@@ -88,7 +93,6 @@ impl<R: BufRead> CommitText<R> {
             → IfOk result (λ id. IfNone id (IsNoCommit self.old.line.items)) }
         ensures text { self.new.text ≡ self.old.text }
         ensures line { self.new.line ≡ self.old.line }
-        ensures lines { self.new.lines ≡ self.old.lines }
         ensures left { self.new.left ≡ self.old.left }
         ensures common { self.new.known.common ≡ self.old.known.common }
         ensures awaited { self.new.known.awaited ≡ self.old.known.awaited }
@@ -107,7 +111,6 @@ impl<R: BufRead> CommitText<R> {
         ensures reported { result ≡ error_of_refusal refusal }
         ensures text { self.new.text ≡ self.old.text }
         ensures line { self.new.line ≡ self.old.line }
-        ensures lines { self.new.lines ≡ self.old.lines }
         ensures left { self.new.left ≡ self.old.left }
         ensures known { self.new.known ≡ self.old.known }
     {
@@ -128,7 +131,7 @@ impl<R: BufRead> CommitText<R> {
         ensures common { self.new.known.common ≡ self.old.known.common }
         ensures awaited { self.new.known.awaited ≡ self.old.known.awaited }
         ensures refusal { OnOk result (self.new.refusal ≡ self.old.refusal) }
-        ensures fails { IfErr result (λ e. ListedOfferFails self.new.line.items self.new.lines self.old.refusal e self.new.refusal) }
+        ensures fails { IfErr result (λ e. ListedOfferFails self.new.line.items (line_number self.new.left) self.old.refusal e self.new.refusal) }
     {
         match self.read_line() {
             Ok(true) => {}
@@ -138,7 +141,10 @@ impl<R: BufRead> CommitText<R> {
         }
         match self.add_line() {
             Ok(Some(id)) => Ok(Some(id)),
-            Ok(None) => Err(self.refuse(Refusal::Line(self.lines))),
+            Ok(None) => {
+                let number = self.line_number();
+                Err(self.refuse(Refusal::Line(number)))
+            }
             Err(_) => Err(NegotiatorError::Memory),
         }
     }
@@ -155,7 +161,6 @@ impl<R: BufRead> CommitText<R> {
         ensures unknown { AwaitsUnknownBut self.old.known id.now → AwaitsUnknown self.new.known }
         ensures text { self.new.text ≡ self.old.text }
         ensures line { self.new.line ≡ self.old.line }
-        ensures lines { self.new.lines ≡ self.old.lines }
         ensures left { self.new.left ≡ self.old.left }
         ensures refusal { self.new.refusal ≡ self.old.refusal }
     {
@@ -185,7 +190,7 @@ impl<R: BufRead> CommitText<R> {
         ensures offers { IfOk result (λ have. OffersNext R.remaining self.old have self.new) }
         ensures left { self.new.left ≤ self.old.left }
         ensures refusal { OnOk result (self.new.refusal ≡ self.old.refusal) }
-        ensures fails { IfErr result (λ e. ListedOfferFails self.new.line.items self.new.lines self.old.refusal e self.new.refusal) }
+        ensures fails { IfErr result (λ e. ListedOfferFails self.new.line.items (line_number self.new.left) self.old.refusal e self.new.refusal) }
     {
         'lines: while self.left > 0 {
             if self.known.is_over() {
@@ -223,7 +228,6 @@ impl<R: BufRead> ListedCommits<R> {
         ensures awaited { result.commits.known.awaited ≡ tips }
         ensures common { result.commits.known.common.keys ≡ [] }
         ensures unknown { AwaitsUnknown result.commits.known }
-        ensures lines { result.commits.lines ≡ 0 }
         ensures refusal { result.commits.refusal ≡ None }
         ensures left { result.commits.left ≡ 2 ^ 64 - 1 }
         ensures failures { result.failures ≡ 0 }
@@ -233,8 +237,7 @@ impl<R: BufRead> ListedCommits<R> {
                 alloc,
                 text,
                 line: Vec::new(alloc),
-                lines: 0,
-                left: u64::MAX,
+                left: usize::MAX,
                 known: KnownCommits::new(alloc, tips),
                 refusal: None,
             },
@@ -254,7 +257,7 @@ impl<R: BufRead> Negotiator for ListedCommits<R> {
     ghost use Rattle.std.specs.Prelude.{◌≡◌};
     ghost use Rattle.std.proofs.Common.{arith};
     ghost use Rattle.gixp_graph.specs.declared.negotiator.NegotiatorError.TheVariants.{Memory};
-    ghost use Rattle.gixp_fetch_common.specs.ListedCommits.{OffersNext, KeepsCommitText, ListedOfferFails};
+    ghost use Rattle.gixp_fetch_common.specs.ListedCommits.{OffersNext, KeepsCommitText, line_number, ListedOfferFails};
     ghost use Rattle.gixp_fetch_common.specs.SharedCommits.{Shares, SharesSome};
 
     ghost calls = { record {
@@ -269,7 +272,8 @@ impl<R: BufRead> Negotiator for ListedCommits<R> {
       adding_fails = λ n g id e m h. ⊥;
       learning_fails = λ n g id e m h. (e ≡ Memory) × KeepsCommitText n.commits m.commits × (h ≡ g)
           × SharesSome n.commits.known id m.commits.known;
-      offering_fails = λ n g e m h. ListedOfferFails m.commits.line.items m.commits.lines n.commits.refusal e m.commits.refusal × (h ≡ g);
+      offering_fails = λ n g e m h. ListedOfferFails m.commits.line.items (line_number m.commits.left) n.commits.refusal e
+          m.commits.refusal × (h ≡ g);
     } };
 
     // Does nothing: the commit is offered, and its ancestors become common when the server acknowledges it.

@@ -1,5 +1,4 @@
 //! The fetch of what is mapped, by the negotiator that the caller chooses.
-ghost use Rattle.std.specs.Prelude.{◌≡◌};
 ghost use Rattle.gixp_fetch_common.specs.Failures.{FailureIsRefusal};
 
 use crate::failure::Failure;

@@ -1,6 +1,5 @@
 //! The receiver of a pack: it checks the pack as it comes, and keeps it if it is whole.
 ghost use Rattle.std.specs.Prelude.{◌≡◌, None, IfOk, OnErr};
-ghost use Rattle.gix_protocol.specs.Sidebands.{side};
 ghost use Rattle.gixp_fetch_common.specs.Received.{ReceivesPack, receives_owes, KeepsHeld, DropsHeld};
 
 use crate::copy::copy_pack;

@@ -1,5 +1,5 @@
 -- The list of messages and severities for git index-pack (git-index-pack, "--strict").
-use Rattle.std.specs.Prelude.{ℕ, ◌==◌, if◌then◌else◌, List, [], ◌∷◌, ◌++◌, length}
+use Rattle.std.specs.Prelude.{ℕ, ◌==◌, if◌then◌else◌, List, ◌∷◌, ◌++◌, length}
 
 -- a word and its value (61), after a comma (44) unless it is the first
 abbrev pub with_pair : List ℕ → List ℕ → List ℕ → List ℕ

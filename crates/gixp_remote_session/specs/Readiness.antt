@@ -1,6 +1,6 @@
 -- Whether the pack follows the server's `ready` (gitprotocol-v2, "fetch": a delimiter packet ends
 -- the acknowledgments after `ready`, and the pack follows).
-use Rattle.std.specs.Prelude.{◌||◌, ℕ, if◌then◌else◌, List, codes, Option, Some, None}
+use Rattle.std.specs.Prelude.{◌||◌, ℕ, if◌then◌else◌, List, codes, Option, Some}
 use Rattle.std.specs.Str.{bytes_eq}
 use Rattle.gix_protocol.specs.MessageKindType.{MessageKind}
 use Rattle.gix_protocol.specs.MessageKindType.TheVariants.{Delimiter}

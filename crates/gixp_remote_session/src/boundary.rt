@@ -1,5 +1,5 @@
 //! Changes the shallow boundary, under git's own lock (gitrepository-layout, "shallow").
-ghost use Rattle.std.specs.Prelude.{◌≡◌, ◌++◌, option_map, IfOk};
+ghost use Rattle.std.specs.Prelude.{◌++◌, option_map, IfOk};
 ghost use Rattle.gixp_remote_rules.specs.ShallowBoundary.{boundary_value};
 ghost use Rattle.gixp_fetch_common.specs.ChangedBoundary.{ChangesTo};
 ghost use Rattle.gixp_remote_session.specs.Boundaries.{boundary_then};

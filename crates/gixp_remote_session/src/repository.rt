@@ -1,5 +1,5 @@
 //! The objects and refs of the repository that fetches, as git lists them.
-ghost use Rattle.std.specs.Prelude.{◌≡◌, ◌≢◌, ◌<◌, ◌==◌, ◌++◌, [], length, map, true, is_some, option_map, Some, None, IfOk, IfErr, IfSome, OnOk, MatchResult};
+ghost use Rattle.std.specs.Prelude.{◌≡◌, ◌≢◌, ◌<◌, ◌==◌, ◌++◌, [], length, true, is_some, option_map, Some, None, IfOk, IfErr, IfSome, OnOk, MatchResult};
 ghost use Rattle.std.specs.FinMap as finite;
 ghost use Rattle.std.specs.List.{position};
 ghost use Rattle.gix_protocol.specs.Repository.{peeled_ids};

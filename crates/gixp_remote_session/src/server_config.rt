@@ -10,7 +10,7 @@ ghost use Rattle.gixp_url.specs.Password.{redacted};
 ghost use Rattle.gixp_remote_rules.specs.Config.{settings_in};
 ghost use Rattle.gixp_remote_rules.specs.Proxy.{or_else};
 ghost use Rattle.gixp_remote_session.specs.Errors.{ErrorIsPolicy, IsPasswordResult, ErrorIsFatal};
-ghost use Rattle.gixp_remote_session.specs.UserConfig.{choose_ssh, ssh_command_by, program_name_of, choose_variant, variant_by_probe, choose_opening};
+ghost use Rattle.gixp_remote_session.specs.UserConfig.{choose_ssh, program_name_of, choose_variant, variant_by_probe, choose_opening};
 
 use crate::error::Error;
 use bstr::BString;
