@@ -12,4 +12,3 @@ pub mod ReportedChanges
 pub mod Streams
 pub mod UnreadFiles
 pub mod Usage
-pub mod WrittenBoundary

@@ -1,11 +1,11 @@
 //! The run of `gixp_fetch_pack`: the command line, the session, the report and the status.
-ghost use Rattle.std.specs.Prelude.{◌≡◌, ◌&&◌, [], None, is_some, Ok, Err, IfOk, IfErr, OnOk};
+ghost use Rattle.std.specs.Prelude.{◌≡◌, ◌&&◌, [], None, is_some, option_map, Ok, Err, IfOk, IfErr, OnOk};
 ghost use Rattle.gix_protocol.specs.Boundaries.{ids_after};
 ghost use Rattle.gix_protocol.specs.UpdateErrorType.{Error as UpdateError};
+ghost use Rattle.gixp_fetch_common.specs.ChangedBoundary.{ChangesTo};
 ghost use Rattle.gixp_fetch_common.specs.Failures.{FailureIsUpdate};
 ghost use Rattle.gixp_fetch_common.specs.Received.{DropsHeld};
 ghost use Rattle.gixp_fetch_cli.specs.Kept.{KeepsOrDrops};
-ghost use Rattle.gixp_fetch_cli.specs.WrittenBoundary.{IsWrittenIfNew};
 ghost use Rattle.gixp_fetch_cli.specs.ReportedChanges.{knows_commits, local_side, ReportsChanges};
 
 use crate::change::{Change, changes};
@@ -27,7 +27,7 @@ use gixp_fetch_common::negotiate::negotiate;
 use gixp_fetch_common::receive::PackReceiver;
 use gixp_fetch_common::repository::KnownRepository;
 use gixp_fetch_common::session::{MappedFetch, ask_filter, map, open, refs};
-use gixp_fetch_common::{Haves, PackFile, PackPlace};
+use gixp_fetch_common::{Haves, PackFile, PackPlace, boundary_to_write};
 use gixp_pack::PackSummary;
 use std::alloc::Global;
 use std::cell::Cell;
@@ -164,22 +164,20 @@ fn keep_pack<P: PackPlace>(
     }
 }
 
-// The boundary of a fetch that succeeded, where it differs from the old one.
+// The boundary to write after a fetch that succeeded, if it differs from the old one.
 fn changed_boundary(
     alloc: Global,
     old: &[ObjectId],
     fetched: Result<Fetched, Failure>,
 ) -> Result<Option<Vec<ObjectId>>, Failure>
-    ensures changed { IfOk fetched (λ f. IfOk result (IsWrittenIfNew old.now (ids_after f.boundary.ids.items f.boundary.unasked.items))) }
+    ensures changed { IfOk fetched (λ f. IfOk result (λ new.
+        ChangesTo old.now (ids_after f.boundary.ids.items f.boundary.unasked.items) (option_map (λ v. v.items) new))) }
     ensures failed { IfErr fetched (λ e. result ≡ Err e) }
 {
     match fetched {
         Ok(fetched) => {
             let boundary = fetched.boundary.with_unasked(alloc)?;
-            if boundary.as_slice() == old {
-                return Ok(None);
-            }
-            Ok(Some(boundary))
+            Ok(boundary_to_write(alloc, old, &boundary)?)
         }
         Err(unfetched) => Err(unfetched),
     }

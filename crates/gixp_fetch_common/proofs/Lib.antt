@@ -3,6 +3,7 @@ mod FirstLineLemmas
 mod KnownLemmas
 mod ListedLemmas
 mod PackLemmas
+mod SameIdLemmas
 mod SpreadLemmas
 mod BoundaryLemmas
 mod FailureLemmas

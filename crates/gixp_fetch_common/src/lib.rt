@@ -3,6 +3,7 @@
 #![tactic(auto)]
 
 mod batch_check;
+mod boundary;
 mod copy;
 mod error_kind;
 pub mod failure;
@@ -20,6 +21,7 @@ mod sanitize;
 pub mod session;
 
 pub use batch_check::{BatchCheck, BatchCheckError, named_ids};
+pub use boundary::boundary_to_write;
 pub use copy::copy_pack;
 pub use haves::Haves;
 pub use pack_place::{PackFile, PackPlace};

@@ -1,4 +1,3 @@
 mod WebLemmas
-mod BoundaryLemmas
 mod ListedLemmas
 mod ShallowLineLemmas

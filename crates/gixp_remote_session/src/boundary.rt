@@ -15,6 +15,7 @@ use crate::pipes::BOUNDARY;
 use crate::shell::Shell;
 use gix_protocol::fetch::shallow_text;
 use gix_protocol::transport::ObjectId;
+use gixp_fetch_common::boundary_to_write;
 use gixp_remote_rules::{
     BoundaryChange, HelperOptions, ShallowPolicy, ShellRequest, added, boundary_after,
     shallow_policy,
@@ -64,21 +65,6 @@ pub(crate) fn lock_boundary(
     }
 }
 
-// The ids, unless they are the old boundary.
-fn replaced(
-    alloc: Global,
-    ids: &[ObjectId],
-    old: &[ObjectId],
-) -> Result<Option<Vec<ObjectId>>, AllocError>
-    ensures { IfOk result (λ new. ChangesTo old.now ids.now (option_map (λ v. v.items) new)) }
-{
-    if ids == old {
-        Ok(None)
-    } else {
-        Ok(Some(Vec::from_slice(alloc, ids)?))
-    }
-}
-
 // The old boundary and more ids, if there are more.
 fn grown(
     alloc: Global,
@@ -104,7 +90,7 @@ pub(crate) fn changed(
     ensures { IfOk result (λ new. ChangesTo old.now (boundary_then old.now (boundary_value boundary.now)) (option_map (λ v. v.items) new)) }
 {
     match boundary {
-        BoundaryChange::Becomes(ids) => replaced(alloc, ids, old),
+        BoundaryChange::Becomes(ids) => boundary_to_write(alloc, old, ids),
         BoundaryChange::Grows(more) => grown(alloc, old, more),
         BoundaryChange::Stays | BoundaryChange::Refused(_) => Ok(None),
     }

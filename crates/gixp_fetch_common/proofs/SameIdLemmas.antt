@@ -1,10 +1,10 @@
--- Whether two boundaries are equal.
+-- Whether two lists of ids are equal.
 use Rattle.std.proofs.Common.{◌≡◌, Bool, List, nat_eq, ap, refl}
 use Rattle.std.specs.Bool.{Decides}
 use Rattle.std.specs.Cmp.Lexicographic.{pointwise}
 use Rattle.std.proofs.lemmas.Bool.Decides.{Decides-eqb}
 use Rattle.std.proofs.lemmas.Slice.Eq.{slice_eq-Decides}
-use Rattle.gix_protocol.specs.ObjectIdType.{ObjectId}
+use Rattle.gixp_hash.specs.declared.object_id.ObjectId.{ObjectId}
 
 same_id : (a b : ObjectId) → Decides (pointwise nat_eq a.bytes b.bytes) (a ≡ b)
 same_id a b =
