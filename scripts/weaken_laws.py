@@ -67,7 +67,7 @@ CHANGES = {
     ],
     "responses": [
         ("a response comes from no reading", "FetchRounds", "(view m.banded t.after.reading) t.reply", "(view m.banded t.sent) t.reply"),
-        ("the interrupt isn't asked", "FetchRounds", "pub asks : (reported : I) × m.polls old.interrupt false reported\n        × AsksThrough", "pub asks : (told : I) × (told ≡ old.interrupt)\n        × AsksThrough"),
+        ("the interrupt isn't asked", "FetchRounds", "pub asks : (reported : I) × m.polls old.interrupt false reported\n        × AsksThrough", "pub asks : (reported : I) × (reported ≡ old.interrupt)\n        × AsksThrough"),
         ("the interrupt is asked at any packet line", "FetchRounds", "× AsksThrough m.polls m.banded m.plain false t.sent t.after.reading reported t.after.interrupt", "× (reported ≡ reported)"),
         ("a round before the last is done", "FetchRounds", "Turns old t × (t.done ≡ false)", "Turns old t × (t.done ≡ t.done)"),
         ("a round before the last has a pack", "FetchRounds", "× (t.reply.pack ≡ false) × Rounds", "× (t.reply.pack ≡ t.reply.pack) × Rounds"),
