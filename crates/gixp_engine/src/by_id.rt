@@ -1,9 +1,9 @@
 //! Refspecs that name objects by their ids.
-ghost use Rattle.std.specs.Prelude.{◌≡◌};
+ghost use Rattle.std.specs.Prelude.{◌≡◌, map};
 ghost use Rattle.std.specs.List.{list_all};
 ghost use Rattle.gixp_refmap.specs.Values.{context_value};
 ghost use Rattle.gixp_refspec.specs.RefSpec.{owned_value_of};
-ghost use Rattle.gixp_engine.specs.IdSpecs.{is_by_id, are_ids, needs_no_list};
+ghost use Rattle.gixp_engine.specs.IdSpecs.{is_by_id, name_ids, are_ids, needs_no_list};
 
 use gixp_handshake::Handshake;
 use gixp_refmap::refmap::init::Context;
@@ -22,17 +22,23 @@ fn all_by_id(specs: &[RefSpec]) -> bool
     specs.iter().all(|spec| is_by_id(spec))
 }
 
-// Whether no refspec names a ref: there are refspecs, none of them is an extra one, and each names an object by its id.
+// Whether no refspec names a ref, where the first are those that the caller wrote.
+fn name_ids(explicit: &[RefSpec], extra: &[RefSpec]) -> bool
+    ensures { result ≡ name_ids (map owned_value_of explicit.now) (map owned_value_of extra.now) }
+{
+    if explicit.is_empty() {
+        return false;
+    }
+    if !extra.is_empty() {
+        return false;
+    }
+    all_by_id(explicit)
+}
+
 fn are_ids(context: &Context) -> bool
     ensures { result ≡ are_ids (context_value context.now) }
 {
-    if context.fetch_refspecs.is_empty() {
-        return false;
-    }
-    if !context.extra_refspecs.is_empty() {
-        return false;
-    }
-    all_by_id(&context.fetch_refspecs)
+    name_ids(&context.fetch_refspecs, &context.extra_refspecs)
 }
 
 /// Whether the server needn't list its refs: the handshake has none, as under version 2, and no refspec names one.

@@ -91,7 +91,7 @@ fn map_of_whole(made: Result<RefMap, init::Error>, is_whole: bool) -> Result<Ref
     }
 }
 
-// The ref map over the refs of the handshake. If there are none, the server lists those with the prefixes of the refspecs.
+// The ref map of the refs of the handshake. If it has none, the server lists those with the prefixes of the refspecs.
 fn map_refs<T: Transport>(
     alloc: Global,
     handshake: &mut Handshake,
@@ -109,7 +109,7 @@ fn map_refs<T: Transport>(
     )
 }
 
-// The ref map. If the server needn't list refs, it is made without them, and takes none of the handshake.
+// The ref map. If no list of refs is needed, it is made without refs, and nothing is sent.
 fn map_by<T: Transport>(
     alloc: Global,
     needs_no_list: bool,
@@ -127,40 +127,33 @@ fn map_by<T: Transport>(
     map_refs(alloc, handshake, context, transport)
 }
 
-// The server of a fetch, and the name of the client that it receives.
+// The server of a fetch.
 struct Peer<'s, T> {
     handshake: &'s mut Handshake,
     transport: &'s mut T,
-    agent: Feature,
-}
-
-// The shallow boundary, and how the depth of the history changes.
-struct Depth<'d> {
-    boundary: &'d mut ShallowMemory,
-    shallow: &'d Shallow,
 }
 
 // Fetches by a negotiation, up to the pack.
 fn fetch_over<N: Negotiate, T: Transport>(
     alloc: Global,
     negotiation: &mut N,
+    agent: Feature,
+    shallow: &Shallow,
     peer: Peer<'_, T>,
-    depth: Depth<'_>,
+    boundary: &mut ShallowMemory,
 ) -> Result<Option<Outcome>, FetchError<N::AlternatesError, Left>>
-    requires { feature_value peer.entry.agent ≡ engine_agent }
+    requires { feature_value agent ≡ engine_agent }
     ensures { CarriesAlone
         (parties_of N.calls ⟦<ShallowMemory as ShallowStore>⟧.calls ⟦<NeverInterrupt as Interrupt>⟧.polls
         ⟦<LeavePack as ConsumePack<Discard>>⟧.consumes T.is_plain)
-        (engine_call peer.entry.handshake.now (shallow_value depth.entry.shallow.now)) negotiation.old
-        (T.reading peer.entry.transport.now) depth.entry.boundary.now result
-        negotiation.new (T.reading peer.exit.1.0.now) depth.exit.0.now }
+        (engine_call peer.entry.handshake.now (shallow_value shallow.now)) negotiation.old
+        (T.reading peer.entry.transport.now) boundary.old result
+        negotiation.new (T.reading peer.exit.1.0.now) boundary.new }
 {
     let Peer {
         handshake,
         transport,
-        agent,
     } = peer;
-    let Depth { boundary, shallow } = depth;
     let mut leave = LeavePack;
     let mut quiet = Discard;
     let mut never = NeverInterrupt;
@@ -175,7 +168,8 @@ fn fetch_over<N: Negotiate, T: Transport>(
         tags: Tags::None,
         reject_shallow_remote: false,
     };
-    fetch(
+    // Without this name the borrow checker doesn't cover the function.
+    let fetched = fetch(
         alloc,
         negotiation,
         &mut leave,
@@ -184,7 +178,8 @@ fn fetch_over<N: Negotiate, T: Transport>(
         agent,
         context,
         options,
-    )
+    );
+    fetched
 }
 
 /// The end of a session whose last response has a pack.
@@ -197,6 +192,7 @@ pub struct Received {
 }
 
 // What to fetch: the objects that the caller has, those that are mapped, and those that the server leaves out.
+#[derive(Drop)]
 struct Wanted<'a, O> {
     objects: &'a O,
     haves: Vec<ObjectId>,
@@ -205,24 +201,37 @@ struct Wanted<'a, O> {
     filter: Option<String>,
 }
 
+// What the first request of a fetch has besides its negotiation: the name of the client, the limit of the history, and a filter.
+#[derive(Drop)]
+struct Terms<'t> {
+    agent: Feature,
+    shallow: &'t Shallow,
+    filter: Option<String>,
+}
+
 // Fetches by a negotiation whose first request has a filter, up to the pack.
 fn fetch_filtered<N: Negotiate, T: Transport>(
     alloc: Global,
     negotiation: &mut N,
-    filter: Option<String>,
+    terms: Terms<'_>,
     peer: Peer<'_, T>,
-    depth: Depth<'_>,
+    boundary: &mut ShallowMemory,
 ) -> Result<Option<Outcome>, FetchError<N::AlternatesError, Left>>
-    requires { feature_value peer.entry.agent ≡ engine_agent }
+    requires { feature_value terms.agent ≡ engine_agent }
     ensures { FetchesFiltered
         (parties_of ⟦<FilterOnce<'static, N> as Negotiate>⟧.calls ⟦<ShallowMemory as ShallowStore>⟧.calls
         ⟦<NeverInterrupt as Interrupt>⟧.polls ⟦<LeavePack as ConsumePack<Discard>>⟧.consumes T.is_plain)
-        (engine_call peer.entry.handshake.now (shallow_value depth.entry.shallow.now)) negotiation.old filter
-        (T.reading peer.entry.transport.now) depth.entry.boundary.now result
-        (T.reading peer.exit.1.0.now) depth.exit.0.now }
+        (engine_call peer.entry.handshake.now (shallow_value terms.entry.shallow.now)) negotiation.old terms.entry.filter
+        (T.reading peer.entry.transport.now) boundary.old result
+        (T.reading peer.exit.1.0.now) boundary.new }
 {
+    let Terms {
+        agent,
+        shallow,
+        filter,
+    } = terms;
     let mut filtered = FilterOnce::new(negotiation, filter);
-    fetch_over(alloc, &mut filtered, peer, depth)
+    fetch_over(alloc, &mut filtered, agent, shallow, peer, boundary)
 }
 
 // Fetches the mapped refs that are missing. Everything that the negotiation borrows, except the objects, is local to this function.
@@ -237,8 +246,8 @@ fn fetch_mapped<'a, O: Objects, T: Transport>(
         (parties_of ⟦<FilterOnce<'a, Negotiation<'a, O, NoRefs, HaveList, NoObjects, AllocError>> as Negotiate>⟧.calls
         ⟦<ShallowMemory as ShallowStore>⟧.calls ⟦<NeverInterrupt as Interrupt>⟧.polls
         ⟦<LeavePack as ConsumePack<Discard>>⟧.consumes T.is_plain)
-        (OffersAlone wanted.objects.now wanted.haves.items wanted.map.now wanted.shallow.now wanted.filter)
-        (engine_call handshake.old (shallow_value wanted.shallow.now)) (T.reading transport.old) boundary.old result
+        (OffersAlone wanted.entry.objects.now wanted.entry.haves.items wanted.entry.map.now wanted.entry.shallow.now wanted.entry.filter)
+        (engine_call handshake.old (shallow_value wanted.entry.shallow.now)) (T.reading transport.old) boundary.old result
         (T.reading transport.new) boundary.new }
 {
     let Ok(agent) = engine_feature(alloc) else {
@@ -265,10 +274,13 @@ fn fetch_mapped<'a, O: Objects, T: Transport>(
     let peer = Peer {
         handshake,
         transport,
-        agent,
     };
-    let depth = Depth { boundary, shallow };
-    fetch_filtered(alloc, &mut negotiation, filter, peer, depth)
+    let terms = Terms {
+        agent,
+        shallow,
+        filter,
+    };
+    fetch_filtered(alloc, &mut negotiation, terms, peer, boundary)
 }
 
 // The result of a session by its fetch, and by the boundary after it.

@@ -19,7 +19,7 @@ returns-in-Err-map_of_whole g c =
 pub returns-then-is_empty : goal.returns-then-is_empty
 returns-then-is_empty g c =
     empty c.in-Ok.handshake _ c.in-Ok-map_of_whole.map c.in-Ok.ensures c.in-Ok-expect_filters.ensures
-    (maps-made _ _ _ _ _ _ _ c.in-Ok-map_of_whole.ensures.made.0
+    (maps-made c.args.input.specs c.in-Ok.handshake _ _ _ _ _ c.in-Ok-map_of_whole.ensures.made.0
     (maps-by _ _ _ _ _ _ _ _ c.needs_no_list-unlisted.ensures c.map_by-made.ensures.map))
     (ends-whole _ _ c.in-Ok-map_of_whole.ensures.made.1 (whole-by _ _ _ _ c.are_whole.ensures c.needs_no_list-unlisted.ensures))
     (c.is_empty.ensures.0 c.if-is_empty.true) refl
@@ -28,7 +28,7 @@ pub returns : goal.returns
 returns g c =
     session-ran _ _ _ _ _ _ _ _ _ c.in-Ok.handshake _ c.in-Ok-map_of_whole.map c.fetch_mapped-fetched.result c.new-boundary.result _ _
     c.in-Ok.ensures c.in-Ok-expect_filters.ensures
-    (maps-made _ _ _ _ _ _ _ c.in-Ok-map_of_whole.ensures.made.0
+    (maps-made c.args.input.specs c.in-Ok.handshake _ _ _ _ _ c.in-Ok-map_of_whole.ensures.made.0
     (maps-by _ _ _ _ _ _ _ _ c.needs_no_list-unlisted.ensures c.map_by-made.ensures.map))
     (ends-whole _ _ c.in-Ok-map_of_whole.ensures.made.1 (whole-by _ _ _ _ c.are_whole.ensures c.needs_no_list-unlisted.ensures))
     (took-refs c.in-Ok.handshake _ _ _ c.in-Ok-map_of_whole.ensures.made.0 c.map_by-made.ensures.handshake)
