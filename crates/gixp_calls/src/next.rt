@@ -29,7 +29,8 @@ use std::num::NonZeroU32;
 #[repr(C)]
 #[derive(Clone, Copy)]
 pub struct SessionInputRecord<'a> {
-    /// The refspecs, one per line.
+    /// The refspecs, one per line. A source that is `@` alone means `HEAD`. If each names an object by its id, a server of version 2
+    /// isn't asked for its refs.
     pub specs: &'a [u8],
     /// The ids of objects that exist locally, 20 bytes each. They are offered as haves in this order, and never requested.
     pub haves: &'a [u8],

@@ -1,5 +1,5 @@
 -- A session without an account: a handshake, a ref map, and a fetch of the mapped refs that leaves the pack to the caller.
-use Rattle.std.specs.Prelude.{◌≡◌, ◌⊎◌, ◌||◌, true, false, List, [], ◌∷◌, codes, Option, Some, None, String, Result, Ok, Err, IfOk, IsOk, Bool}
+use Rattle.std.specs.Prelude.{◌≡◌, ◌⊎◌, ◌||◌, true, false, List, [], codes, Option, Some, None, String, Result, Ok, Err, IfOk, IsOk, Bool}
 use Rattle.std.specs.FinMap as finite
 use Rattle.std.specs.declared.alloc.AllocError.{AllocError}
 use Rattle.std.specs.declared.alloc.Global.{Global}
