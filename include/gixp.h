@@ -124,8 +124,9 @@ typedef struct gixp_mapped {
     size_t names;             /* the length of all local names together, in bytes */
 } gixp_mapped;
 
-/* Maps refs by refspecs, one per line. The names of the refs are spans of `answer`. GIXP_OK: the records have the mappings, and the
- * buffer has the local names. GIXP_CONFLICT: the records are conflicts. GIXP_NO_ROOM: `counts` has the required sizes of both buffers. */
+/* Maps refs by refspecs, one per line. A source that is `@` alone means `HEAD`, also in the other calls. The names of the refs are
+ * spans of `answer`. GIXP_OK: the records have the mappings, and the buffer has the local names. GIXP_CONFLICT: the records are
+ * conflicts. GIXP_NO_ROOM: `counts` has the required sizes of both buffers. */
 uint32_t gixp_map(const uint8_t *answer, size_t answer_len, const gixp_ref *refs, size_t refs_len, const uint8_t *specs,
                   size_t specs_len, gixp_mapping *mappings, size_t mappings_len, uint8_t *names, size_t names_len,
                   gixp_mapped *counts);
@@ -142,10 +143,11 @@ enum {
     GIXP_SINCE_EXCLUDE = 4    /* the commits since `since` that no ref in `excluded` reaches */
 };
 
-/* The arguments of a session. The refspecs and the excluded refs are one per line. Ids have 20 bytes each. `haves` are objects that exist
- * locally. They are offered in this order, and never requested. `boundary` is the local repository's shallow boundary. `filter` says
- * which objects the server leaves out, as `git rev-list --filter`. If it is empty, there is none. `since` is a time in seconds since
- * 1970-01-01 00:00:00 UTC. The limit says which of the last four fields count. */
+/* The arguments of a session. The refspecs and the excluded refs are one per line. If each refspec names an object by its id, a server
+ * of version 2 isn't asked for its refs. Ids have 20 bytes each. `haves` are objects that exist locally. They are offered in this order,
+ * and never requested. `boundary` is the local repository's shallow boundary. `filter` says which objects the server leaves out, as
+ * `git rev-list --filter`. If it is empty, there is none. `since` is a time in seconds since 1970-01-01 00:00:00 UTC. The limit says
+ * which of the last four fields count. */
 typedef struct gixp_session_input {
     const uint8_t *specs;
     size_t specs_len;

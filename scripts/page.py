@@ -183,7 +183,8 @@ def node_tests(folder, url):
 
 
 def clone_test(folder, url):
-    """The clone of bindings/js/clone.js has the refs and objects of the repository. -> what is wrong, or nothing."""
+    """The clone of bindings/js/clone.js has the refs and objects of the repository, and one with a depth the boundary of git's.
+    -> what is wrong, or nothing."""
     to = folder / "cloned"
     clone = [*node_words(), BINDINGS / "js/clone.js"]
     ran = subprocess.run([*clone, url + "/served.git", to], capture_output=True)
@@ -195,6 +196,14 @@ def clone_test(folder, url):
     cloned = cloned.replace(b"refs/remotes/origin/", b"refs/heads/")
     if sorted(served.split(b"\n")) != sorted(cloned.split(b"\n")):
         return "the refs of the clone differ"
+    shallow, by_git = folder / "shallow", folder / "by-git.git"
+    ran = subprocess.run([*clone, url + "/served.git", shallow, "3"], capture_output=True)
+    if ran.returncode:
+        return text_of(ran.stderr)
+    git("clone", "-q", "--bare", "--depth=3", "--no-single-branch", "file://%s" % (folder / "served.git"), by_git)
+    boundaries = [sorted((place / "shallow").read_text().split()) for place in (by_git, shallow / ".git")]
+    if boundaries[0] != boundaries[1]:
+        return "the boundary of a shallow clone differs"
     missing = subprocess.run([*clone, url + "/none.git", folder / "none"], capture_output=True)
     is_error = missing.returncode and b"404" in missing.stderr
     return "" if is_error else "a missing repository isn't an error"

@@ -231,6 +231,9 @@ static void prefixes(void)
     CHECK(gixp_prefixes(text, strlen(specs), room, 11, &len) == GIXP_NO_ROOM && len == 12);
     CHECK(gixp_prefixes(text, strlen(specs), room, 12, &len) == GIXP_OK && memcmp(room, "refs/heads/\n", 12) == 0);
     CHECK(gixp_prefixes(empty, 0, empty, 0, &len) == GIXP_OK && len == 0);
+    uint8_t *head = copy("+@:refs/x", 9);
+    CHECK(gixp_prefixes(head, 9, room, 12, &len) == GIXP_OK && len == 5 && memcmp(room, "HEAD\n", 5) == 0);
+    free(head);
     uint32_t code = GIXP_NO_MEMORY;
     long tried = 0;
     for (; code == GIXP_NO_MEMORY && tried < 1000; tried++) {

@@ -210,7 +210,7 @@ const tests = {
     const many = Array.from({ length: 5000 }, (_, n) => `refs/heads/${n}`);
     assert.equal(map(many, ["refs/heads/*:refs/remotes/a/long/name/of/a/remote/*", "refs/heads/*:refs/y/*"]).mappings.length, 10000);
     assert.equal(refused(() => map([], ["a:b:c"])).kind, "BAD_SPEC");
-    assert.deepEqual(prefixes(["refs/heads/*:refs/x/*"]), ["refs/heads/"]);
+    assert.deepEqual(prefixes(["refs/heads/*:refs/x/*", "@:refs/x"]), ["refs/heads/", "HEAD"]);
     assert.equal(prefixes(Array.from({ length: 200 }, (_, n) => `refs/heads/${n}:refs/x/${n}`)).length, 200);
   },
 

@@ -222,6 +222,45 @@ class Sessions(unittest.TestCase):
         wants = [line for line in payloads(self.session(greeting, self.listed).step().data) if line.startswith(b"want")]
         self.assertEqual(wants, [b"want %040x" % 5])
 
+    def test_head(self):
+        """A source that is `@` alone means `HEAD` (gitrevisions)."""
+        for spec, same in ((b"@:refs/heads/x", b"HEAD:refs/heads/x"), (b"+@", b"+HEAD")):
+            requests = []
+            for text in (spec, same):
+                session = gixp.Session([text])
+                session.answer(self.greeting)
+                requests.append(session.step())
+                session.answer(packet(b"%040x HEAD\n" % 5) + b"0000")
+                requests.append(session.step())
+            self.assertEqual(requests[:2], requests[2:])
+            self.assertIn(b"ref-prefix HEAD", payloads(requests[0].data))
+            self.assertIn(b"want %040x" % 5, payloads(requests[1].data))
+
+    def test_ids(self):
+        """If all refspecs are ids, only the fetch is requested, as git does (git-fetch, "<refspec>")."""
+        specs, pack = [b"%040x" % 5, b"+%040x:refs/heads/x" % 6], packet(b"packfile\n") + packet(b"\1PACK") + b"0000"
+        session = gixp.Session(specs)
+        session.answer(self.greeting)
+        step = session.step()
+        self.assertTrue(step.data.startswith(b"0012command=fetch\n"))
+        self.assertEqual([line for line in payloads(step.data) if line.startswith(b"want")], [b"want %040x" % n for n in (5, 6)])
+        session.answer(pack)
+        self.assertEqual(session.step(), gixp.Pack(13))
+        session.answer(b"0000")
+        with self.assertRaises(gixp.GixpError) as caught:
+            session.step()
+        self.assertEqual(caught.exception.code, 31)
+        session = gixp.Session(specs, haves=[bytes(19) + b"\5", bytes(19) + b"\6"])
+        session.answer(self.greeting)
+        self.assertEqual(session.step(), gixp.Nothing())
+        for others in ([b"refs/heads/main"], [b"refs/heads/*:refs/x/*"], [b"@"]):
+            session = gixp.Session(specs + others)
+            session.answer(self.greeting)
+            self.assertTrue(session.step().data.startswith(b"0014command=ls-refs\n"), others)
+        session = gixp.Session(specs[:1])
+        session.answer(self.advertised)
+        self.assertTrue(payloads(session.step().data)[0].startswith(b"want %040x" % 5))
+
     def test_no_limits(self):
         """A server without a feature: nothing is requested of it that needs the feature."""
         for more in (dict(filter=b"blob:none"), dict(filter=b"tree:0", depth=1)):
@@ -304,6 +343,17 @@ class Maps(unittest.TestCase):
             count += 1
         self.assertGreater(count, 50)
 
+    def test_head(self):
+        """A source that is `@` alone means `HEAD` (gitrevisions)."""
+        self.assertEqual(gixp.prefixes([b"@", b"@:refs/x", b"+@:refs/x"]), [b"HEAD"] * 3)
+        names = [b"refs/heads/main", b"HEAD", b"refs/heads/@x"]
+        for spec, item in ((b"@:refs/heads/x", 1), (b"+@:refs/heads/x", 1), (b"@x:refs/heads/x", 2)):
+            self.assertEqual(gixp.map_refs(names, [spec]).mappings, [gixp.Mapping(item, 0, b"refs/heads/x")], spec)
+        self.assertEqual(gixp.map_refs(names, [b"HEAD:refs/heads/x", b"^@"]).mappings, [])
+        with self.assertRaises(gixp.GixpError) as caught:
+            gixp.prefixes([b"refs/heads/x:@"])
+        self.assertIs(caught.exception.kind, gixp.Kind.BAD_SPEC)
+
 
 @unittest.skipUnless(shutil.which("git"), "git isn't here")
 class Clones(unittest.TestCase):
@@ -356,22 +406,35 @@ class Clones(unittest.TestCase):
         git("fsck", "--strict", folder=again)
         self.assertEqual(sorted(pathlib.Path(again, ".git/shallow").read_text().split()), sorted(by_git))
 
-    def fetch(self, version, served, **more):
-        """A fetch of all branches from `git upload-pack`, and the pack's bytes."""
+    def fetch(self, version, served, specs=(b"refs/heads/main:refs/remotes/o/main",), **more):
+        """A fetch from `git upload-pack`: the last step, the pack's bytes, and the number of requests."""
         def upload_pack(words=(), data=b""):
             env = dict(os.environ, GIT_PROTOCOL="version=%d" % version)
             run = subprocess.run(["git", "-c", "uploadpack.allowFilter=true", "upload-pack", "--stateless-rpc", *words, served],
                                  env=env, input=data, stdout=subprocess.PIPE, stderr=subprocess.PIPE)
             return run.stdout
 
-        session = gixp.Session([b"refs/heads/main:refs/remotes/o/main"], **more)
+        session = gixp.Session(specs, **more)
         session.answer(upload_pack(["--http-backend-info-refs"]))
         step = session.step()
         while isinstance(step, gixp.Request):
             session.answer(upload_pack(data=step.data))
             step = session.step()
         pieces = gixp.pieces(session.answers[-1], step.place)
-        return step, b"".join(piece.text for piece in pieces if piece.band is gixp.Band.CONTENT)
+        return step, b"".join(piece.text for piece in pieces if piece.band is gixp.Band.CONTENT), len(session.answers) - 1
+
+    def test_head_and_ids(self):
+        """By each version of the protocol: `HEAD` by `@`, and an object by its id. Under version 2 the refs aren't listed for an id."""
+        served = os.path.join(self.folder, "served.git")
+        head = git("rev-parse", "HEAD", folder=served).strip()
+        for version in (0, 1, 2):
+            for spec, requests in ((b"@:refs/heads/x", 1 + (version == 2)), (head, 1)):
+                _, pack, sent = self.fetch(version, served, [spec])
+                here = os.path.join(self.folder, "%d%s" % (version, spec[:1].decode()))
+                git("init", "-q", "--bare", here)
+                git("index-pack", "--stdin", folder=here, input=pack)
+                self.assertEqual(git("rev-list", "--count", head.decode(), folder=here).strip(), b"30", (version, spec))
+                self.assertEqual(sent, requests, (version, spec))
 
     def test_limits_and_filters(self):
         """By each version of the protocol: the boundary and the objects that `git clone` or `git fetch` gets with the same options."""
@@ -393,7 +456,7 @@ class Clones(unittest.TestCase):
                 by_git, here = (os.path.join(self.folder, "%s%d%s" % (name, version, option)) for name in ("git", "here"))
                 git("-c", "protocol.version=%d" % version, "clone", "-q", "--bare", "--single-branch", "-b", "main", "--no-tags", option,
                     "file://" + served, by_git)
-                step, pack = self.fetch(version, served, **more)
+                step, pack, _ = self.fetch(version, served, **more)
                 git("init", "-q", "--bare", here)
                 git("index-pack", "--stdin", "--fix-thin", "--promisor", folder=here, input=pack)
                 shallow = pathlib.Path(by_git, "shallow")
@@ -405,7 +468,7 @@ class Clones(unittest.TestCase):
                     continue
                 # `git fetch --deepen` from there: the same boundary.
                 git("-c", "protocol.version=%d" % version, "fetch", "-q", "--no-tags", "--deepen=3", "origin", "main", folder=by_git)
-                step, _ = self.fetch(version, served, shallow=step.boundary, haves=[bytes.fromhex(commit)], deepen=3)
+                step, _, _ = self.fetch(version, served, shallow=step.boundary, haves=[bytes.fromhex(commit)], deepen=3)
                 boundary = sorted(shallow.read_text().split())
                 self.assertEqual((sorted(id.hex() for id in step.boundary), step.is_unasked), (boundary, False), version)
 

@@ -241,6 +241,20 @@ fn nothing_and_refusals() {
 }
 
 #[test]
+fn head_and_ids() {
+    let first = |specs: &[&str]| {
+        let Step::Request(first) = Session::new(specs).answer(&greeting()).step().unwrap() else { panic!() };
+        String::from_utf8(first).unwrap()
+    };
+    assert_eq!(first(&["@:refs/heads/x"]), first(&["HEAD:refs/heads/x"]));
+    assert!(first(&["+@"]).contains("ref-prefix HEAD"));
+    let ids = [format!("{}", id(5)), format!("+{}:refs/heads/x", id(6))];
+    let fetch = first(&[&ids[0], &ids[1]]);
+    assert!(fetch.starts_with("0012command=fetch\n") && fetch.contains(&format!("want {}", id(5))), "{fetch}");
+    assert!(first(&[&ids[0], "refs/heads/main"]).starts_with("0014command=ls-refs\n"));
+}
+
+#[test]
 fn services() {
     let plain = greeting();
     let over_http = [packet(b"# service=git-upload-pack\n"), b"0000".to_vec(), plain.clone()].concat();
@@ -272,5 +286,6 @@ fn mappings() {
 fn prefixes() {
     assert_eq!(gixp::prefixes(["refs/heads/*:refs/remotes/o/*", "^refs/heads/x"]).unwrap(), [b"refs/heads/".to_vec()]);
     assert_eq!(gixp::prefixes([format!("refs/{}", "x".repeat(999))]).unwrap()[0].len(), 1004);
+    assert_eq!(gixp::prefixes(["@", "+@:refs/x"]).unwrap(), [b"HEAD".to_vec(), b"HEAD".to_vec()]);
     assert_eq!(gixp::prefixes(["a:b:c"]).unwrap_err().kind(), Kind::BadSpec);
 }

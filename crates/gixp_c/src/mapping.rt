@@ -6,7 +6,8 @@ use gixp_calls::{map_refs, write_prefixes};
 use gixp_records::{MappedRecord, MappingRecord, RefRecord};
 use std::alloc::Global;
 
-/// Maps refs by refspecs, one per line (git-fetch, "<refspec>"). The names of the refs are spans of `answer`.
+/// Maps refs by refspecs, one per line (git-fetch, "<refspec>"). A source that is `@` alone means `HEAD`. The names of the refs are
+/// spans of `answer`.
 ///
 /// Returns:
 ///

@@ -1,11 +1,11 @@
 -- The results of the exports, by the contracts of the functions that they call.
 use Rattle.std.specs.Prelude.{◌≡◌, ◌⊎◌, ◌≤◌, ◌<◌, ◌++◌, ℕ, Bool, true, false, List, [], length, drop, Ok, Err}
-use Rattle.gixp_utils.specs.Lines.{text_lines}
 use Rattle.gixp_refspec.specs.Spec.{Spec}
 use Rattle.gixp_records.specs.declared.mapped_refs.MapEnd.{MapEnd}
 use Rattle.gixp_records.specs.declared.mapped_refs.MapRefused.{MapRefused}
 use Rattle.gixp_records.specs.declared.spec_text.SpecsRefused.{SpecsRefused}
 use Rattle.gixp_records.specs.MapRecords.{MapsRecords}
+use Rattle.gixp_records.specs.Spelling.{spec_lines}
 use Rattle.gixp_records.specs.SpecText.{specs_of_lines, prefix_lines, WritesPrefixes}
 use Rattle.gixp_records.specs.MappingEntry.{MapBuffers}
 use Rattle.gixp_records.specs.declared.advertised.AdvertisedEnd.{AdvertisedEnd}
@@ -95,9 +95,9 @@ pub data ExportsPiece (answer : List ℕ) (from : ℕ) (old : PieceRecord) (code
 -- the refs were mapped by the refspecs of a text, or a buffer is too small, or there is an error
 pub data ExportsMap (answer : List ℕ) (refs : List RefRecord) (text : List ℕ) (old : MapBuffers) (code : ℕ)
     (new : MapBuffers) : Type 0 where
-  maps : (end : MapEnd) → MapsRecords answer refs (text_lines text) old new (Ok end) → code ≡ map_end_code end
+  maps : (end : MapEnd) → MapsRecords answer refs (spec_lines text) old new (Ok end) → code ≡ map_end_code end
       → ExportsMap answer refs text old code new
-  maps_not : (e : MapRefused) → MapsRecords answer refs (text_lines text) old new (Err e) → code ≡ map_refused_code e
+  maps_not : (e : MapRefused) → MapsRecords answer refs (spec_lines text) old new (Err e) → code ≡ map_refused_code e
       → ExportsMap answer refs text old code new
 
 -- a text is copied to the start of a buffer
@@ -116,7 +116,7 @@ WritesText text old code new now = (now ≡ length text)
 
 -- the prefixes of a text's refspecs are in the buffer, or it is too small, or there is an error
 pub data ExportsPrefixes (text old : List ℕ) (was code : ℕ) (new : List ℕ) (now : ℕ) : Type 0 where
-  prefixes : (specs : List Spec) → specs_of_lines (text_lines text) ≡ Ok specs → WritesText (prefix_lines specs) old code new now
+  prefixes : (specs : List Spec) → specs_of_lines (spec_lines text) ≡ Ok specs → WritesText (prefix_lines specs) old code new now
       → ExportsPrefixes text old was code new now
-  no_prefixes : (e : SpecsRefused) → WritesPrefixes (text_lines text) (Err e) → code ≡ specs_code e → new ≡ old → now ≡ was
+  no_prefixes : (e : SpecsRefused) → WritesPrefixes (spec_lines text) (Err e) → code ≡ specs_code e → new ≡ old → now ≡ was
       → ExportsPrefixes text old was code new now

@@ -41,7 +41,8 @@ fn specs_code(e: SpecsRefused) -> u32
     }
 }
 
-/// Maps refs by refspecs, one per line (git-fetch, "<refspec>"). The names of the refs are spans of `answer`.
+/// Maps refs by refspecs, one per line (git-fetch, "<refspec>"). A source that is `@` alone means `HEAD`. The names of the refs are
+/// spans of `answer`.
 ///
 /// Returns:
 ///

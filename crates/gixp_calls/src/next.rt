@@ -29,7 +29,8 @@ use std::num::NonZeroU32;
 #[repr(C)]
 #[derive(Clone, Copy)]
 pub struct SessionInputRecord<'a> {
-    /// The refspecs, one per line.
+    /// The refspecs, one per line. A source that is `@` alone means `HEAD`. If each names an object by its id, a server of version 2
+    /// isn't asked for its refs.
     pub specs: &'a [u8],
     /// The ids of objects that exist locally, 20 bytes each. They are offered as haves in this order, and never requested.
     pub haves: &'a [u8],
@@ -112,32 +113,13 @@ fn input_of(
 ) -> Result<SessionInput, EngineError>
     ensures { ReadsInput input_record.now result }
 {
-    let specs = match specs_of(alloc, input_record.specs) {
-        Ok(specs) => specs,
-        Err(e) => return Err(e),
-    };
-    let haves = match ids_of(alloc, input_record.haves) {
-        Ok(haves) => haves,
-        Err(e) => return Err(e),
-    };
-    let boundary = match ids_of(alloc, input_record.boundary) {
-        Ok(boundary) => boundary,
-        Err(e) => return Err(e),
-    };
-    let filter = match filter_of(alloc, input_record.filter) {
-        Ok(filter) => filter,
-        Err(e) => return Err(e),
-    };
-    match limit_of(alloc, input_record) {
-        Ok(shallow) => Ok(SessionInput {
-            specs,
-            haves,
-            shallow,
-            boundary,
-            filter,
-        }),
-        Err(e) => Err(e),
-    }
+    Ok(SessionInput {
+        specs: specs_of(alloc, input_record.specs)?,
+        haves: ids_of(alloc, input_record.haves)?,
+        boundary: ids_of(alloc, input_record.boundary)?,
+        filter: filter_of(alloc, input_record.filter)?,
+        shallow: limit_of(alloc, input_record)?,
+    })
 }
 
 fn step_of(

@@ -1,10 +1,15 @@
 -- The steps of a session without an account.
-use Rattle.std.proofs.Common.{◌≡◌, ◌∙◌, ◌↔◌, true, false, Bool, IsTrue, List, [], Option, String, Result, Ok, Err, ap, subst, sym}
-use Rattle.std.specs.Prelude.{IfOk}
+use Rattle.std.proofs.Common.{◌≡◌, ◌∙◌, ◌↔◌, true, false, Bool, IsTrue, List, [], map, Option, String, Result, Ok, Err, ap, subst, sym}
+use Rattle.std.specs.Prelude.{IfOk, IsSome, Vec}
+use Rattle.std.specs.List.{AllByRecursion}
 use Rattle.std.specs.declared.alloc.AllocError.{AllocError}
 use Rattle.std.specs.declared.alloc.Global.{Global}
 use Rattle.gixp_hash.specs.declared.object_id.ObjectId.{ObjectId}
+use Rattle.gixp_capabilities.specs.Capabilities.{CapabilityValue}
+use Rattle.gixp_packetline.specs.declared.protocol.MessageKind.{MessageKind}
 use Rattle.gixp_packetline.specs.Reading.{Reading}
+use Rattle.gixp_refs.specs.declared.handshake.Ref.{Ref}
+use Rattle.gixp_refs.specs.Ref.{ref_value}
 use Rattle.gixp_requests.specs.Command.{TableValue}
 use Rattle.gixp_requests.specs.Feature.{FeatureValue}
 use Rattle.gixp_shallow.specs.declared.store.memory.ShallowMemory.{ShallowMemory}
@@ -12,12 +17,14 @@ use Rattle.gixp_refmap.specs.declared.fetch.Tags.TheVariants as tags
 use Rattle.gixp_refmap.specs.declared.refmap.init.Context.{Context}
 use Rattle.gixp_refmap.specs.declared.refmap.init.Error.{Error as MapError}
 use Rattle.gixp_refmap.specs.declared.refmap.map.RefMap.{RefMap}
+use Rattle.gixp_refmap.specs.declared.refmap.mapping.Mapping.{Mapping}
+use Rattle.gixp_refmap.specs.Mapping.{spec_at, joined_specs, AnswersMap, HoldsOfAll}
 use Rattle.gixp_handshake.specs.declared.handshake.read.Handshake.{Handshake}
+use Rattle.gixp_handshake.specs.Obtain.{MakesMap}
 use Rattle.gixp_handshake.specs.Taken.{without_refs}
 use Rattle.gixp_fetch.specs.declared.error.Error.{Error as FetchError}
 use Rattle.gixp_fetch.specs.declared.options.Outcome.{Outcome}
 use Rattle.gixp_fetch.specs.FetchShallow.{ShallowValue}
-use Rattle.gixp_response.specs.Sections.{is_flush}
 use Rattle.gixp_fetch.specs.Fetch.{World, Parties}
 use Rattle.gixp_fetch.specs.Fetched.{Fetches, call_of}
 use Rattle.gixp_engine.specs.EngineTable.{engine_table}
@@ -26,7 +33,8 @@ use Rattle.gixp_engine.specs.declared.consumer.Left.{Left}
 use Rattle.gixp_engine.specs.declared.session.Received.{Received}
 use Rattle.gixp_engine.specs.declared.error.EngineError.{EngineError}
 use Rattle.gixp_handshake.specs.WithoutAccount.{GreetsWithoutAccount}
-use Rattle.gixp_engine.specs.Alone.{engine_agent, engine_call, end_of_fetch, CarriesCall, MapsAlone, EngineSession, map_of_whole, fetched}
+use Rattle.gixp_engine.specs.IdSpecs.{needs_no_list}
+use Rattle.gixp_engine.specs.Alone.{engine_agent, engine_call, end_of_fetch, CarriesCall, MapsBy, MapsAlone, EngineSession, are_whole, map_of_whole, fetched}
 
 -- the engine passes its table and its agent
 pub carries-call : {N I A S C P X : Type 0} (parties : Parties N I A S C P X) (first : World N I S C)
@@ -47,7 +55,7 @@ module _ (Receives : RefMap → Handshake → Reading → ShallowMemory → Read
       (r : Result (Option Outcome) (FetchError AllocError Left)) (store store' : ShallowMemory)
       (ended : Result (Option Received) EngineError)
       → GreetsWithoutAccount plain old mid (Ok h) → AllowsFilter filter h (Ok tt) → MapsAlone context h plain mid following (Ok m)
-      → is_flush following.stopped ≡ true
+      → are_whole (needs_no_list context h) following.stopped ≡ true
       → k ≡ without_refs h → (m.mappings.items ≡ [] → ⊥) → store.ids.items ≡ ids → store.locked ≡ false
       → Receives m k following store new store' r → ended ≡ end_of_fetch k.server_protocol_version store' r
       → EngineSession Receives context filter ids plain old new ended
@@ -55,6 +63,34 @@ module _ (Receives : RefMap → Handshake → Reading → ShallowMemory → Read
       fetched h mid following m r store store' s allowed l whole some (record { ids = held; unlocked = free })
       (subst (λ x. Receives m x following store new store' r) e f)
       (q ∙ ap (λ (x : Handshake). end_of_fetch x.server_protocol_version store' r) e)
+
+-- a ref map over no refs
+pub makes-unlisted : (caps : List CapabilityValue) (context : Context) (none : Vec Ref Global) (r : Result RefMap MapError)
+    → none.items ≡ [] → AnswersMap caps context.fetch_refspecs.items context.extra_refspecs.items (map ref_value none.items) r
+    → HoldsOfAll (joined_specs context.fetch_refspecs.items context.extra_refspecs.items) (map ref_value none.items)
+    (λ all. AnswersMap caps context.fetch_refspecs.items context.extra_refspecs.items all r)
+    → IfOk r (λ m. AllByRecursion (λ (x : Mapping). IsSome (spec_at x.spec_index m.refspecs.items m.extra_refspecs.items)) m.mappings.items)
+    → IfOk r (λ m. m.remote_refs.items ≡ []) → IfOk r (λ m. m.refspecs ≡ context.fetch_refspecs)
+    → IfOk r (λ m. m.extra_refspecs ≡ context.extra_refspecs) → MakesMap caps context [] r
+makes-unlisted caps context none r e maps filtered found refs explicit extra = record {
+  maps = subst (λ (xs : List Ref). AnswersMap caps context.fetch_refspecs.items context.extra_refspecs.items (map ref_value xs) r) e maps;
+  filtered =
+      subst (λ (xs : List Ref). HoldsOfAll (joined_specs context.fetch_refspecs.items context.extra_refspecs.items) (map ref_value xs)
+      (λ all. AnswersMap caps context.fetch_refspecs.items context.extra_refspecs.items all r)) e filtered;
+  found = found;
+  refs = refs;
+  explicit = explicit;
+  extra = extra;
+}
+
+-- the same ref map, by an equal test
+pub maps-by : (b b' : Bool) (context : Context) (h : Handshake) (plain : Bool) (old new : Reading) (r : Result RefMap MapError)
+    → b ≡ b' → MapsBy b context h plain old new r → MapsBy b' context h plain old new r
+maps-by b b' context h plain old new r e m = subst (λ (x : Bool). MapsBy x context h plain old new r) e m
+
+-- whether the refs are complete, by an equal test
+pub whole-by : (w b b' : Bool) (stopped : Option MessageKind) → w ≡ are_whole b stopped → b ≡ b' → w ≡ are_whole b' stopped
+whole-by w b b' stopped e f = e ∙ ap (λ (x : Bool). are_whole x stopped) f
 
 -- a ref map that was made
 pub maps-made : (context : Context) (h : Handshake) (plain : Bool) (old new : Reading) (r : Result RefMap MapError) (m : RefMap)

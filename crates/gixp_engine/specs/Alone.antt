@@ -1,9 +1,10 @@
 -- A session without an account: a handshake, a ref map, and a fetch of the mapped refs that leaves the pack to the caller.
-use Rattle.std.specs.Prelude.{◌≡◌, ◌⊎◌, true, false, List, [], ◌∷◌, codes, Option, Some, None, String, Result, Ok, Err, IfOk, IsOk, Bool}
+use Rattle.std.specs.Prelude.{◌≡◌, ◌⊎◌, ◌||◌, true, false, List, [], codes, Option, Some, None, String, Result, Ok, Err, IfOk, IsOk, Bool}
 use Rattle.std.specs.FinMap as finite
 use Rattle.std.specs.declared.alloc.AllocError.{AllocError}
 use Rattle.std.specs.declared.alloc.Global.{Global}
 use Rattle.gixp_hash.specs.declared.object_id.ObjectId.{ObjectId}
+use Rattle.gixp_packetline.specs.declared.protocol.MessageKind.{MessageKind}
 use Rattle.gixp_packetline.specs.declared.protocol.Protocol.{Protocol}
 use Rattle.gixp_packetline.specs.Reading.{Reading}
 use Rattle.gixp_response.specs.Sections.{is_flush}
@@ -23,7 +24,7 @@ use Rattle.gixp_handshake.specs.declared.handshake.error.Error.{Error as Handsha
 use Rattle.gixp_handshake.specs.declared.handshake.read.Handshake.{Handshake}
 use Rattle.gixp_handshake.specs.WithoutAccount.{GreetsWithoutAccount}
 use Rattle.gixp_handshake.specs.Taken.{without_refs}
-use Rattle.gixp_handshake.specs.Obtain.{ObtainsMappings}
+use Rattle.gixp_handshake.specs.Obtain.{MakesMap, ObtainsMappings}
 use Rattle.gixp_fetch.specs.declared.error.Error.{Error as FetchError}
 use Rattle.gixp_fetch.specs.declared.error.Error.TheVariants as fetch
 use Rattle.gixp_fetch.specs.declared.options.Outcome.{Outcome}
@@ -32,6 +33,7 @@ use Rattle.gixp_fetch.specs.Fetch.{World, Parties}
 use Rattle.gixp_fetch.specs.Fetched.{FetchCall, Fetches, call_of, unlocked_world}
 use Rattle.gixp_engine.specs.EngineTable.{engine_table}
 use Rattle.gixp_engine.specs.FilterLine.{AllowsFilter}
+use Rattle.gixp_engine.specs.IdSpecs.{needs_no_list}
 use Rattle.gixp_engine.specs.declared.filter.FilterOnce.{FilterOnce}
 use Rattle.gixp_engine.specs.declared.session.Received.{Received}
 use Rattle.gixp_engine.specs.declared.consumer.Left.{Left}
@@ -42,10 +44,19 @@ use Rattle.gixp_engine.specs.declared.error.EngineError.TheVariants.{Handshake a
 abbrev pub engine_agent : FeatureValue
 engine_agent = record { name = codes "agent"; value = Some (codes "git/gixp") }
 
--- the ref map of the server, which lists the refs with the prefixes of the refspecs; or an allocation failed first
-abbrev pub MapsAlone : Context → Handshake → Bool → Reading → Reading → Result RefMap MapError → Type 0
-MapsAlone context h plain old new r = ObtainsMappings engine_table engine_agent context h plain old new r
+-- the ref map. If no list of refs is needed, it is made without refs, and nothing is sent. Otherwise it is made of the refs of the
+-- handshake, or of those that the server lists for the prefixes of the refspecs; or an allocation failed first
+abbrev pub MapsBy : (needs_no_list : Bool) → Context → Handshake → Bool → Reading → Reading → Result RefMap MapError → Type 0
+MapsBy true context h plain old new r = (new ≡ old) × MakesMap h.capabilities context [] r
+MapsBy false context h plain old new r = ObtainsMappings engine_table engine_agent context h plain old new r
     ⊎ ((new ≡ old) × (r ≡ Err map.Memory))
+
+abbrev pub MapsAlone : Context → Handshake → Bool → Reading → Reading → Result RefMap MapError → Type 0
+MapsAlone context h plain old new r = MapsBy (needs_no_list context h) context h plain old new r
+
+-- the refs of a ref map are complete: no list was needed, or it ended with a flush packet
+abbrev pub are_whole : (needs_no_list : Bool) → Option MessageKind → Bool
+are_whole needs_no_list stopped = needs_no_list || is_flush stopped
 
 -- the error of a ref map whose list didn't end with a flush packet: refs that were read are incomplete, whether they can be mapped
 -- or not
@@ -138,14 +149,14 @@ module _ (Receives : RefMap → Handshake → Reading → ShallowMemory → Read
         → ended ≡ Err e → EngineSession new ended
     unmapped : (h : Handshake) (mid : Reading) (r : Result RefMap MapError) (e : EngineError) → GreetsWithoutAccount plain old mid (Ok h)
         → AllowsFilter filter h (Ok tt)
-        → MapsAlone context h plain mid new r → map_of_whole r (is_flush new.stopped) ≡ Err e → ended ≡ Err e
+        → MapsAlone context h plain mid new r → map_of_whole r (are_whole (needs_no_list context h) new.stopped) ≡ Err e → ended ≡ Err e
         → EngineSession new ended
     empty : (h : Handshake) (mid : Reading) (m : RefMap) → GreetsWithoutAccount plain old mid (Ok h) → AllowsFilter filter h (Ok tt)
-        → MapsAlone context h plain mid new (Ok m) → is_flush new.stopped ≡ true → m.mappings.items ≡ [] → ended ≡ Ok None
-        → EngineSession new ended
+        → MapsAlone context h plain mid new (Ok m) → are_whole (needs_no_list context h) new.stopped ≡ true
+        → m.mappings.items ≡ [] → ended ≡ Ok None → EngineSession new ended
     fetched : (h : Handshake) (mid following : Reading) (m : RefMap) (r : Result (Option Outcome) (FetchError AllocError Left))
         (store store' : ShallowMemory)
         → GreetsWithoutAccount plain old mid (Ok h) → AllowsFilter filter h (Ok tt)
-        → MapsAlone context h plain mid following (Ok m) → is_flush following.stopped ≡ true → (m.mappings.items ≡ [] → ⊥)
-        → HoldsAlone boundary store → Receives m (without_refs h) following store new store' r
+        → MapsAlone context h plain mid following (Ok m) → are_whole (needs_no_list context h) following.stopped ≡ true
+        → (m.mappings.items ≡ [] → ⊥) → HoldsAlone boundary store → Receives m (without_refs h) following store new store' r
         → ended ≡ end_of_fetch h.server_protocol_version store' r → EngineSession new ended

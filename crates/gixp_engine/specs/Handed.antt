@@ -3,7 +3,6 @@ use Rattle.std.specs.Prelude.{◌≡◌, ◌==◌, ℕ, ◌/◌, ◌%◌, ◌<�
 use Rattle.std.specs.Simd.{first_chunks}
 use Rattle.std.specs.declared.alloc.Global.{Global}
 use Rattle.gixp_hash.specs.declared.object_id.ObjectId.{ObjectId}
-use Rattle.gixp_utils.specs.Lines.{text_lines}
 use Rattle.gixp_packetline.specs.Pieces.{stream_pieces}
 use Rattle.gixp_packetline.specs.TransportState.{Answer, body}
 use Rattle.gixp_refspec.specs.RefSpec.{owned_value_of}
@@ -16,6 +15,7 @@ use Rattle.gixp_memory.specs.Repository.{with_id}
 use Rattle.gixp_response.specs.AnswerLine.{id_from}
 use Rattle.gixp_records.specs.declared.spec_text.SpecsRefused.{SpecsRefused}
 use Rattle.gixp_records.specs.declared.spec_text.SpecsRefused.TheVariants as none
+use Rattle.gixp_records.specs.Spelling.{spec_lines}
 use Rattle.gixp_records.specs.SpecText.{specs_of_lines}
 use Rattle.gixp_engine.specs.declared.error.EngineError.{EngineError}
 use Rattle.gixp_engine.specs.declared.error.EngineError.TheVariants.{Lengths, Spec, Memory}
@@ -35,11 +35,12 @@ abbrev pub refused_specs : SpecsRefused → EngineError
 refused_specs (none.Spec e) = Spec e
 refused_specs none.Memory = Memory
 
--- the refspecs of the lines of a text, unless a line is invalid or an allocation failed; empty lines are skipped
+-- the refspecs of the lines of a text, in which `@` means `HEAD`, unless a line is invalid or an allocation failed; empty lines are
+-- skipped
 abbrev pub HandsSpecs : List ℕ → Result Context EngineError → Type 0
-HandsSpecs text (Ok specs) = (specs_of_lines (text_lines text) ≡ Ok (map owned_value_of specs.fetch_refspecs.items))
+HandsSpecs text (Ok specs) = (specs_of_lines (spec_lines text) ≡ Ok (map owned_value_of specs.fetch_refspecs.items))
     × (specs.extra_refspecs.items ≡ [])
-HandsSpecs text (Err (Spec e)) = specs_of_lines (text_lines text) ≡ Err e
+HandsSpecs text (Err (Spec e)) = specs_of_lines (spec_lines text) ≡ Err e
 HandsSpecs text (Err Memory) = ⊤
 HandsSpecs text (Err _) = ⊥
 

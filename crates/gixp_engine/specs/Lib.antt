@@ -3,6 +3,7 @@ pub mod EngineMessage
 pub mod EngineTable
 pub mod FilterLine
 pub mod Handed
+pub mod IdSpecs
 pub mod Leave
 pub mod Limits
 pub mod NextStep

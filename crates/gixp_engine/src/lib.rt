@@ -2,6 +2,7 @@
 //! over HTTP.
 #![tactic(auto)]
 
+mod by_id;
 mod consumer;
 mod error;
 mod filter;

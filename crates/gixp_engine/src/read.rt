@@ -12,7 +12,7 @@ use crate::error::EngineError;
 use bstr::{BStr, BString};
 use gixp_hash::ObjectId;
 use gixp_memory::StoredObjects;
-use gixp_records::{SpecsRefused, specs_in};
+use gixp_records::{SpecsRefused, spec_lines, specs_in};
 use gixp_refmap::refmap::init::Context;
 use gixp_refspec::{PartialName, RefSpec, RefSpecRef};
 use gixp_transport::Body;
@@ -66,7 +66,7 @@ fn refused_specs(e: SpecsRefused) -> EngineError
     }
 }
 
-/// The refspecs of a text, one per line. Empty lines are skipped.
+/// The refspecs of a text, one per line. Empty lines are skipped. A source that is `@` alone means `HEAD` (gitrevisions, "@").
 ///
 /// # Errors
 ///
@@ -74,7 +74,8 @@ fn refused_specs(e: SpecsRefused) -> EngineError
 pub fn specs_of(alloc: Global, text: &[u8]) -> Result<Context, EngineError>
     ensures { HandsSpecs text.now result }
 {
-    let specs = match specs_in(alloc, text) {
+    let lines = spec_lines(alloc, text)?;
+    let specs = match specs_in(alloc, &lines) {
         Ok(specs) => specs,
         Err(e) => return Err(refused_specs(e)),
     };

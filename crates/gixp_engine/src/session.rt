@@ -1,12 +1,13 @@
 //! A session over the responses so far.
-ghost use Rattle.std.specs.Prelude.{◌≡◌, true, None, Ok, IfOk};
+ghost use Rattle.std.specs.Prelude.{◌≡◌, true, false, None, Ok, IfOk};
 ghost use Rattle.gixp_response.specs.Sections.{is_flush};
 ghost use Rattle.gixp_requests.specs.Feature.{feature_value};
 ghost use Rattle.gixp_handshake.specs.Taken.{without_refs};
 ghost use Rattle.gixp_fetch.specs.Fetch.{parties_of};
 ghost use Rattle.gixp_fetch.specs.FetchShallow.{shallow_value};
-ghost use Rattle.gixp_engine.specs.Alone.{engine_agent, engine_call, end_of_fetch, unmapped_of_cut, map_of_whole, MapsAlone, CarriesAlone, FetchesFiltered, FetchesAlone, OffersAlone, EngineSession};
+ghost use Rattle.gixp_engine.specs.Alone.{engine_agent, engine_call, end_of_fetch, are_whole, unmapped_of_cut, map_of_whole, MapsBy, CarriesAlone, FetchesFiltered, FetchesAlone, OffersAlone, EngineSession};
 
+use crate::by_id::needs_no_list;
 use crate::consumer::{LeavePack, Left};
 use crate::error::EngineError;
 use crate::filter::{FilterOnce, expect_filters};
@@ -47,6 +48,13 @@ fn is_at_flush<T: ExtendedBufRead>(reader: &T) -> bool
     matches!(reader.stopped_at(), Some(MessageKind::Flush))
 }
 
+// Whether the refs of a ref map are complete.
+fn are_whole<T: ExtendedBufRead>(needs_no_list: bool, reader: &T) -> bool
+    ensures { result ≡ are_whole needs_no_list (T.reading reader.now).stopped }
+{
+    needs_no_list || is_at_flush(reader)
+}
+
 // The error of a ref map whose list of refs didn't end with a flush packet.
 fn unmapped_of_cut(e: init::Error) -> EngineError
     ensures { result ≡ unmapped_of_cut e }
@@ -83,14 +91,14 @@ fn map_of_whole(made: Result<RefMap, init::Error>, is_whole: bool) -> Result<Ref
     }
 }
 
-// The ref map of the server, which lists the refs with the prefixes of the refspecs.
+// The ref map of the refs of the handshake. If it has none, the server lists those with the prefixes of the refspecs.
 fn map_refs<T: Transport>(
     alloc: Global,
     handshake: &mut Handshake,
     context: init::Context,
     transport: &mut T,
 ) -> Result<RefMap, init::Error>
-    ensures map { MapsAlone context handshake.old T.is_plain (T.reading transport.old) (T.reading transport.new) result }
+    ensures map { MapsBy false context handshake.old T.is_plain (T.reading transport.old) (T.reading transport.new) result }
     ensures handshake { IfOk result (λ _. handshake.new ≡ without_refs handshake.old) }
 {
     let agent = engine_feature(alloc)?;
@@ -101,23 +109,51 @@ fn map_refs<T: Transport>(
     )
 }
 
+// The ref map. If no list of refs is needed, it is made without refs, and nothing is sent.
+fn map_by<T: Transport>(
+    alloc: Global,
+    needs_no_list: bool,
+    handshake: &mut Handshake,
+    context: init::Context,
+    transport: &mut T,
+) -> Result<RefMap, init::Error>
+    ensures map { MapsBy needs_no_list context handshake.old T.is_plain (T.reading transport.old) (T.reading transport.new) result }
+    ensures handshake { IfOk result (λ _. handshake.new ≡ without_refs handshake.old) }
+{
+    if needs_no_list {
+        handshake.refs = None;
+        return RefMap::mappings_only(alloc, Vec::new(alloc), &handshake.capabilities, context);
+    }
+    map_refs(alloc, handshake, context, transport)
+}
+
+// The server of a fetch.
+struct Peer<'s, T> {
+    handshake: &'s mut Handshake,
+    transport: &'s mut T,
+}
+
 // Fetches by a negotiation, up to the pack.
 fn fetch_over<N: Negotiate, T: Transport>(
     alloc: Global,
     negotiation: &mut N,
     agent: Feature,
-    handshake: &mut Handshake,
-    transport: &mut T,
     shallow: &Shallow,
+    peer: Peer<'_, T>,
     boundary: &mut ShallowMemory,
 ) -> Result<Option<Outcome>, FetchError<N::AlternatesError, Left>>
     requires { feature_value agent ≡ engine_agent }
     ensures { CarriesAlone
         (parties_of N.calls ⟦<ShallowMemory as ShallowStore>⟧.calls ⟦<NeverInterrupt as Interrupt>⟧.polls
         ⟦<LeavePack as ConsumePack<Discard>>⟧.consumes T.is_plain)
-        (engine_call handshake.old (shallow_value shallow.now)) negotiation.old (T.reading transport.old) boundary.old result
-        negotiation.new (T.reading transport.new) boundary.new }
+        (engine_call peer.entry.handshake.now (shallow_value shallow.now)) negotiation.old
+        (T.reading peer.entry.transport.now) boundary.old result
+        negotiation.new (T.reading peer.exit.1.0.now) boundary.new }
 {
+    let Peer {
+        handshake,
+        transport,
+    } = peer;
     let mut leave = LeavePack;
     let mut quiet = Discard;
     let mut never = NeverInterrupt;
@@ -132,7 +168,8 @@ fn fetch_over<N: Negotiate, T: Transport>(
         tags: Tags::None,
         reject_shallow_remote: false,
     };
-    fetch(
+    // Without this name the borrow checker doesn't cover the function.
+    let fetched = fetch(
         alloc,
         negotiation,
         &mut leave,
@@ -141,7 +178,8 @@ fn fetch_over<N: Negotiate, T: Transport>(
         agent,
         context,
         options,
-    )
+    );
+    fetched
 }
 
 /// The end of a session whose last response has a pack.
@@ -153,10 +191,21 @@ pub struct Received {
     pub boundary: ShallowMemory,
 }
 
-// The objects that the caller has, and those that the server leaves out.
+// What to fetch: the objects that the caller has, those that are mapped, and those that the server leaves out.
 #[derive(Drop)]
-struct Terms {
+struct Wanted<'a, O> {
+    objects: &'a O,
     haves: Vec<ObjectId>,
+    map: &'a RefMap,
+    shallow: &'a Shallow,
+    filter: Option<String>,
+}
+
+// What the first request of a fetch has besides its negotiation: the name of the client, the limit of the history, and a filter.
+#[derive(Drop)]
+struct Terms<'t> {
+    agent: Feature,
+    shallow: &'t Shallow,
     filter: Option<String>,
 }
 
@@ -164,39 +213,31 @@ struct Terms {
 fn fetch_filtered<N: Negotiate, T: Transport>(
     alloc: Global,
     negotiation: &mut N,
-    filter: Option<String>,
-    agent: Feature,
-    handshake: &mut Handshake,
-    transport: &mut T,
-    shallow: &Shallow,
+    terms: Terms<'_>,
+    peer: Peer<'_, T>,
     boundary: &mut ShallowMemory,
 ) -> Result<Option<Outcome>, FetchError<N::AlternatesError, Left>>
-    requires { feature_value agent ≡ engine_agent }
+    requires { feature_value terms.agent ≡ engine_agent }
     ensures { FetchesFiltered
         (parties_of ⟦<FilterOnce<'static, N> as Negotiate>⟧.calls ⟦<ShallowMemory as ShallowStore>⟧.calls
         ⟦<NeverInterrupt as Interrupt>⟧.polls ⟦<LeavePack as ConsumePack<Discard>>⟧.consumes T.is_plain)
-        (engine_call handshake.old (shallow_value shallow.now)) negotiation.old filter (T.reading transport.old) boundary.old result
-        (T.reading transport.new) boundary.new }
+        (engine_call peer.entry.handshake.now (shallow_value terms.entry.shallow.now)) negotiation.old terms.entry.filter
+        (T.reading peer.entry.transport.now) boundary.old result
+        (T.reading peer.exit.1.0.now) boundary.new }
 {
-    let mut filtered = FilterOnce::new(negotiation, filter);
-    fetch_over(
-        alloc,
-        &mut filtered,
+    let Terms {
         agent,
-        handshake,
-        transport,
         shallow,
-        boundary,
-    )
+        filter,
+    } = terms;
+    let mut filtered = FilterOnce::new(negotiation, filter);
+    fetch_over(alloc, &mut filtered, agent, shallow, peer, boundary)
 }
 
 // Fetches the mapped refs that are missing. Everything that the negotiation borrows, except the objects, is local to this function.
 fn fetch_mapped<'a, O: Objects, T: Transport>(
     alloc: Global,
-    objects: &'a O,
-    map: &'a RefMap,
-    terms: Terms,
-    shallow: &'a Shallow,
+    wanted: Wanted<'a, O>,
     handshake: &mut Handshake,
     transport: &mut T,
     boundary: &mut ShallowMemory,
@@ -205,14 +246,20 @@ fn fetch_mapped<'a, O: Objects, T: Transport>(
         (parties_of ⟦<FilterOnce<'a, Negotiation<'a, O, NoRefs, HaveList, NoObjects, AllocError>> as Negotiate>⟧.calls
         ⟦<ShallowMemory as ShallowStore>⟧.calls ⟦<NeverInterrupt as Interrupt>⟧.polls
         ⟦<LeavePack as ConsumePack<Discard>>⟧.consumes T.is_plain)
-        (OffersAlone objects.now terms.haves.items map.now shallow.now terms.filter)
-        (engine_call handshake.old (shallow_value shallow.now)) (T.reading transport.old) boundary.old result
+        (OffersAlone wanted.entry.objects.now wanted.entry.haves.items wanted.entry.map.now wanted.entry.shallow.now wanted.entry.filter)
+        (engine_call handshake.old (shallow_value wanted.entry.shallow.now)) (T.reading transport.old) boundary.old result
         (T.reading transport.new) boundary.new }
 {
     let Ok(agent) = engine_feature(alloc) else {
         return Err(FetchError::Memory);
     };
-    let Terms { haves, filter } = terms;
+    let Wanted {
+        objects,
+        haves,
+        map,
+        shallow,
+        filter,
+    } = wanted;
     let mut graph = Graph::new(alloc, NoObjects);
     let mut negotiator = HaveList::new(haves);
     let mut refs = NoRefs;
@@ -224,16 +271,16 @@ fn fetch_mapped<'a, O: Objects, T: Transport>(
         graph: &mut graph,
     };
     let mut negotiation = Negotiation::new(context, map, shallow, Tags::None);
-    fetch_filtered(
-        alloc,
-        &mut negotiation,
-        filter,
-        agent,
+    let peer = Peer {
         handshake,
         transport,
+    };
+    let terms = Terms {
+        agent,
         shallow,
-        boundary,
-    )
+        filter,
+    };
+    fetch_filtered(alloc, &mut negotiation, terms, peer, boundary)
 }
 
 // The result of a session by its fetch, and by the boundary after it.
@@ -282,8 +329,9 @@ pub(crate) fn run<'a, O: Objects, T: Transport>(
         Ok(()) => {}
         Err(e) => return Err(e),
     }
-    let made = map_refs(alloc, &mut handshake, specs, transport);
-    let map = match map_of_whole(made, is_at_flush(transport)) {
+    let unlisted = needs_no_list(&specs, &handshake);
+    let made = map_by(alloc, unlisted, &mut handshake, specs, transport);
+    let map = match map_of_whole(made, are_whole(unlisted, transport)) {
         Ok(map) => map,
         Err(e) => return Err(e),
     };
@@ -292,16 +340,13 @@ pub(crate) fn run<'a, O: Objects, T: Transport>(
     }
     let version = handshake.server_protocol_version;
     let mut boundary = ShallowMemory::new(boundary);
-    let terms = Terms { haves, filter };
-    let fetched = fetch_mapped(
-        alloc,
+    let wanted = Wanted {
         objects,
-        &map,
-        terms,
-        &shallow,
-        &mut handshake,
-        transport,
-        &mut boundary,
-    );
+        haves,
+        map: &map,
+        shallow: &shallow,
+        filter,
+    };
+    let fetched = fetch_mapped(alloc, wanted, &mut handshake, transport, &mut boundary);
     end_of(version, boundary, fetched)
 }

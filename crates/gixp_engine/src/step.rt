@@ -31,7 +31,7 @@ use std::alloc::{AllocError, Global};
 /// The arguments of a session.
 #[derive(Drop)]
 pub struct SessionInput {
-    /// The refspecs.
+    /// The refspecs. If each names an object by its id, and the server's advertisement has no refs, no refs are listed.
     pub specs: Context,
     /// The objects that exist locally. They are offered as haves in this order, and never requested.
     pub haves: Vec<ObjectId>,

@@ -3,8 +3,8 @@ use Rattle.std.proofs.Common.{◌≡◌, ◌==◌, ◌+◌, ◌<◌, ℕ, get_or
 use Rattle.std.proofs.lemmas.List.{drop_more}
 use Rattle.gixp_refspec.specs.declared.parse.Error.{Error as SpecError}
 use Rattle.gixp_refspec.specs.Spec.{Spec, spec_of}
-use Rattle.bstr.specs.BStr.{bstr_bytes}
-use Rattle.bstr.specs.declared.bstr.BStr.{BStr}
+use Rattle.bstr.specs.Owned.{bstring_bytes}
+use Rattle.bstr.specs.declared.bstring.BString.{BString}
 use Rattle.gixp_refspec.specs.declared.spec.RefSpecRef.{RefSpecRef}
 use Rattle.gixp_refspec.specs.RefSpec.{value_of}
 use Rattle.gixp_records.specs.declared.spec_text.SpecsRefused.{SpecsRefused}
@@ -70,22 +70,22 @@ by-spec false (Err x) s e f = cc
 pub spec-line : (line : List ℕ) (s : Spec) → (length line == 0) ≡ false → spec_of line ≡ Ok s → specs_of_lines (line ∷ []) ≡ Ok (s ∷ [])
 spec-line line s e f = by-spec (length line == 0) (spec_of line) s e f
 
-left-of : (lines : List BStr) (i : ℕ) (d : BStr) → i < length lines
-    → map bstr_bytes (drop i lines) ≡ bstr_bytes (get_or lines i d) ∷ map bstr_bytes (drop (i + 1) lines)
-left-of lines i d h = ap (map bstr_bytes) (drop_more lines i d h)
+left-of : (lines : List BString) (i : ℕ) (d : BString) → i < length lines
+    → map bstring_bytes (drop i lines) ≡ bstring_bytes (get_or lines i d) ∷ map bstring_bytes (drop (i + 1) lines)
+left-of lines i d h = ap (map bstring_bytes) (drop_more lines i d h)
 
 -- the line at this index is read
-pub spec-lines-next : (lines : List BStr) (i : ℕ) (d : BStr) (old new : List RefSpecRef) (x : Unit {0})
-    → SpecLinesSoFar (map bstr_bytes lines) (map bstr_bytes (drop i lines)) (map value_of old) → i < length lines
-    → AddsLineSpec (bstr_bytes (get_or lines i d)) old new (Ok x)
-    → SpecLinesSoFar (map bstr_bytes lines) (map bstr_bytes (drop (i + 1) lines)) (map value_of new)
+pub spec-lines-next : (lines : List BString) (i : ℕ) (d : BString) (old new : List RefSpecRef) (x : Unit {0})
+    → SpecLinesSoFar (map bstring_bytes lines) (map bstring_bytes (drop i lines)) (map value_of old) → i < length lines
+    → AddsLineSpec (bstring_bytes (get_or lines i d)) old new (Ok x)
+    → SpecLinesSoFar (map bstring_bytes lines) (map bstring_bytes (drop (i + 1) lines)) (map value_of new)
 spec-lines-next lines i d old new x so h adds =
     spec-lines-more _ _ _ _ _ _ adds.0 so (left-of lines i d h) adds.1 adds.2
 
 -- the line at this index has an error
-pub spec-lines-refused-at : (lines : List BStr) (i : ℕ) (d : BStr) (specs : List Spec) (old new : List RefSpecRef) (e : SpecsRefused)
-    → SpecLinesSoFar (map bstr_bytes lines) (map bstr_bytes (drop i lines)) specs → i < length lines
-    → AddsLineSpec (bstr_bytes (get_or lines i d)) old new (Err e) → ReadsSpecLines (map bstr_bytes lines) (Err e)
+pub spec-lines-refused-at : (lines : List BString) (i : ℕ) (d : BString) (specs : List Spec) (old new : List RefSpecRef) (e : SpecsRefused)
+    → SpecLinesSoFar (map bstring_bytes lines) (map bstring_bytes (drop i lines)) specs → i < length lines
+    → AddsLineSpec (bstring_bytes (get_or lines i d)) old new (Err e) → ReadsSpecLines (map bstring_bytes lines) (Err e)
 spec-lines-refused-at lines i d specs old new (RefusedSpec e) so h adds =
     spec-lines-refused _ _ _ _ specs e so (left-of lines i d h) adds
 spec-lines-refused-at lines i d specs old new Memory so h adds = tt

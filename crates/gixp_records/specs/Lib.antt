@@ -8,5 +8,6 @@ pub mod V1RecordLine
 pub mod RefsOpening
 pub mod AdvertisedRecords
 pub mod MappingEntry
+pub mod Spelling
 pub mod SpecText
 pub mod MapRecords

@@ -11,6 +11,7 @@ mod place;
 mod refs;
 mod span;
 mod spec_text;
+mod spelling;
 
 pub use advertised::{
     AdvertisedEnd, AdvertisedFound, AdvertisedLineRefused, AdvertisedRefused, read_advertised,
@@ -24,3 +25,4 @@ pub use place::{pack_start_v0, pack_start_v2};
 pub use refs::{RefRecord, RefsEnd, RefsFound, RefsRefused, read_refs};
 pub use span::Span;
 pub use spec_text::{SpecsRefused, prefix_text, specs_in};
+pub use spelling::spec_lines;

@@ -1,19 +1,21 @@
 //! The mappings that refspecs make from refs, as records (git-fetch, "<refspec>").
 ghost use Rattle.std.specs.Prelude.{◌≡◌, ◌↔◌, ◌++◌, IsTrue, IfOk, OnOk, true, false, length, map};
-ghost use Rattle.gixp_utils.specs.Lines.{text_lines};
 ghost use Rattle.gixp_refspec.specs.RefSpec.{value_of};
+ghost use Rattle.gixp_refspec.specs.Texts.{texts};
 ghost use Rattle.gixp_matching.specs.Mappings.{mappings};
 ghost use Rattle.gixp_matching.specs.MatchGroup.{mapped_of, names};
 ghost use Rattle.gixp_matching.specs.Validate.{removed_of, conflict_of, Validates};
 ghost use Rattle.gixp_records.specs.Span.{IsWithin};
 ghost use Rattle.gixp_records.specs.MappingEntry.{entry_value, buffers, WritesOrFails};
+ghost use Rattle.gixp_records.specs.Spelling.{spec_lines};
 ghost use Rattle.gixp_records.specs.MapRecords.{names_in, AreNamesWithin, mapping_entry, removed_entry, conflict_entry, end_of, MapsRecords};
 
 use crate::mapping_entry::{MappedRecord, MappingEntry, MappingRecord, tell};
 use crate::refs::RefRecord;
 use crate::span::{Span, text_at};
 use crate::spec_text::{SpecsRefused, specs_in};
-use bstr::BStr;
+use crate::spelling::spec_lines;
+use bstr::{BStr, BString};
 use gixp_hash::ObjectId;
 use gixp_matching::match_group::validate::{Error as Conflicting, Fix, Issue};
 use gixp_matching::match_group::{Item, Mapping, MatchGroup, Outcome};
@@ -235,26 +237,20 @@ fn end_of(entries: Result<bool, AllocError>, whole: MapEnd) -> Result<MapEnd, Ma
     }
 }
 
-/// Maps refs by refspecs, one per line of `text` (git-fetch, "<refspec>"). The names of the refs are spans of `bytes`. The records
-/// become the mappings, then the removed ones; or the conflicts, if there are any. The buffer `names` becomes their local names,
-/// one after another.
-///
-/// # Errors
-///
-/// Those of [`MapRefused`]. Then nothing is changed.
-pub fn map_records(
+// Maps refs by the refspecs of lines.
+fn map_lines(
     alloc: Global,
     bytes: &[u8],
     refs: &[RefRecord],
-    text: &[u8],
+    lines: &Vec<BString>,
     records: &mut [MappingRecord],
     names: &mut [u8],
     counts: &mut MappedRecord,
 ) -> Result<MapEnd, MapRefused>
-    ensures { MapsRecords bytes.now refs.now (text_lines text.now) (buffers records.old names.old counts.old)
+    ensures { MapsRecords bytes.now refs.now (texts lines.now) (buffers records.old names.old counts.old)
         (buffers records.new names.new counts.new) result }
 {
-    let specs = match specs_in(alloc, text) {
+    let specs = match specs_in(alloc, lines) {
         Ok(specs) => specs,
         Err(SpecsRefused::Spec(e)) => return Err(MapRefused::Spec(e)),
         Err(SpecsRefused::Memory) => return Err(MapRefused::Memory),
@@ -275,4 +271,29 @@ pub fn map_records(
         }
         Err(_) => Err(MapRefused::Memory),
     }
+}
+
+/// Maps refs by refspecs, one per line of `text` (git-fetch, "<refspec>"). A source that is `@` alone means `HEAD`. The names of the
+/// refs are spans of `bytes`. The records become the mappings, then the removed ones; or the conflicts, if there are any. The buffer
+/// `names` becomes their local names, one after another.
+///
+/// # Errors
+///
+/// Those of [`MapRefused`]. Then nothing is changed.
+pub fn map_records(
+    alloc: Global,
+    bytes: &[u8],
+    refs: &[RefRecord],
+    text: &[u8],
+    records: &mut [MappingRecord],
+    names: &mut [u8],
+    counts: &mut MappedRecord,
+) -> Result<MapEnd, MapRefused>
+    ensures { MapsRecords bytes.now refs.now (spec_lines text.now) (buffers records.old names.old counts.old)
+        (buffers records.new names.new counts.new) result }
+{
+    let Ok(lines) = spec_lines(alloc, text) else {
+        return Err(MapRefused::Memory);
+    };
+    map_lines(alloc, bytes, refs, &lines, records, names, counts)
 }

@@ -3,16 +3,16 @@ ghost use Rattle.std.specs.Prelude.{◌≡◌, ◌++◌, IfOk, OnOk, map};
 ghost use Rattle.std.specs.List.{flat_map};
 ghost use Rattle.bstr.specs.BStr.{bstr_bytes};
 ghost use Rattle.bstr.specs.Owned.{bstring_bytes};
-ghost use Rattle.gixp_utils.specs.Lines.{text_lines};
 ghost use Rattle.gixp_refspec.specs.Matching.{prefixes_of};
 ghost use Rattle.gixp_refspec.specs.RefSpec.{value_of};
 ghost use Rattle.gixp_refspec.specs.Texts.{texts};
 ghost use Rattle.gixp_records.specs.SpecText.{AddsLineSpec, ReadsSpecLines, WritesPrefixes, ended_line};
+ghost use Rattle.gixp_records.specs.Spelling.{spec_lines};
 
+use crate::spelling::spec_lines;
 use bstr::{BStr, BString};
 use gixp_refspec::RefSpecRef;
 use gixp_refspec::parse::{Error, Operation, parse};
-use gixp_utils::text_lines;
 use std::alloc::{AllocError, AllocFailed, Global};
 
 /// The error of reading refspecs.
@@ -62,12 +62,12 @@ fn push_spec<'a>(line: BStr<'a>, specs: &mut Vec<RefSpecRef<'a>>) -> Result<(), 
     }
 }
 
-fn line_specs<'a>(alloc: Global, lines: &[BStr<'a>]) -> Result<Vec<RefSpecRef<'a>>, SpecsRefused>
-    ensures { ReadsSpecLines (map bstr_bytes lines.now) result }
+fn line_specs<'a>(alloc: Global, lines: &'a [BString]) -> Result<Vec<RefSpecRef<'a>>, SpecsRefused>
+    ensures { ReadsSpecLines (map bstring_bytes lines.now) result }
 {
     let mut specs = Vec::new(alloc);
     for line in lines {
-        match push_spec(*line, &mut specs) {
+        match push_spec(BStr::new(line.as_bytes()), &mut specs) {
             Ok(()) => {}
             Err(e) => return Err(e),
         }
@@ -75,18 +75,18 @@ fn line_specs<'a>(alloc: Global, lines: &[BStr<'a>]) -> Result<Vec<RefSpecRef<'a
     Ok(specs)
 }
 
-/// The refspecs of a text, one per line. Empty lines are skipped. The refspecs borrow the text.
+/// The refspecs of lines, as [`spec_lines`] returns them. Empty lines are skipped. The refspecs borrow the lines.
 ///
 /// # Errors
 ///
 /// `Spec` for the first line that isn't a valid refspec, or `Memory`.
-pub fn specs_in<'a>(alloc: Global, text: &'a [u8]) -> Result<Vec<RefSpecRef<'a>>, SpecsRefused>
-    ensures { ReadsSpecLines (text_lines text.now) result }
+pub fn specs_in<'a>(
+    alloc: Global,
+    lines: &'a Vec<BString>,
+) -> Result<Vec<RefSpecRef<'a>>, SpecsRefused>
+    ensures { ReadsSpecLines (texts lines.now) result }
 {
-    match text_lines(alloc, text) {
-        Ok(lines) => line_specs(alloc, &lines),
-        Err(_) => Err(SpecsRefused::Memory),
-    }
+    line_specs(alloc, lines)
 }
 
 fn prefixes_of(alloc: Global, specs: &[RefSpecRef<'_>]) -> Result<Vec<BString>, AllocError>
@@ -118,16 +118,17 @@ fn text_of_lines(alloc: Global, lines: &[BString]) -> Result<Vec<u8>, AllocError
     Ok(text)
 }
 
-/// The ref prefixes of the refspecs in a text, one refspec per line. The prefixes of each refspec in turn, each followed by an LF
-/// (gitprotocol-v2, `ref-prefix`).
+/// The ref prefixes of the refspecs in a text, one refspec per line. A source that is `@` alone means `HEAD`. The prefixes of each
+/// refspec in turn, each followed by an LF (gitprotocol-v2, `ref-prefix`).
 ///
 /// # Errors
 ///
-/// As [`specs_in`].
+/// `Spec` for the first line that isn't a valid refspec, or `Memory`.
 pub fn prefix_text(alloc: Global, text: &[u8]) -> Result<Vec<u8>, SpecsRefused>
-    ensures { WritesPrefixes (text_lines text.now) result }
+    ensures { WritesPrefixes (spec_lines text.now) result }
 {
-    let specs = match specs_in(alloc, text) {
+    let lines = spec_lines(alloc, text)?;
+    let specs = match specs_in(alloc, &lines) {
         Ok(specs) => specs,
         Err(e) => return Err(e),
     };

@@ -10,5 +10,5 @@ returns g c = record {
   consumer' = _;
   progress = _;
   carries =
-      carries-call _ _ _ _ _ c.args.handshake.now (shallow_value c.args.shallow.now) _ _ c.engine_table.ensures c.requires c.fetch.ensures.fetched;
+      carries-call _ _ _ _ _ c.args.peer.handshake.now (shallow_value c.args.shallow.now) _ _ c.engine_table.ensures c.requires c.fetch-fetched.ensures.fetched;
 }

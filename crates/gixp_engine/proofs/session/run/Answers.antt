@@ -1,6 +1,6 @@
 use Rattle.std.proofs.Common.{refl}
 use Rattle.gixp_engine.specs.Alone.{unshaken, unfiltered, unmapped, empty}
-use Rattle.gixp_engine.proofs.AloneLemmas.{session-ran, maps-made, took-refs, ends-whole, refused-by, untold}
+use Rattle.gixp_engine.proofs.AloneLemmas.{session-ran, maps-made, maps-by, whole-by, took-refs, ends-whole, refused-by, untold}
 use Rattle.gixp_engine.proofs.session.run.Goals as goal
 
 pub returns-in-Err : goal.returns-in-Err
@@ -12,22 +12,25 @@ returns-in-Err-expect_filters g c =
 
 pub returns-in-Err-map_of_whole : goal.returns-in-Err-map_of_whole
 returns-in-Err-map_of_whole g c =
-    unmapped c.in-Ok.handshake _ c.map_refs-made.result c.in-Err-map_of_whole.e c.in-Ok.ensures c.in-Ok-expect_filters.ensures
-    c.map_refs-made.ensures.map
-    (refused-by _ _ _ _ c.in-Err-map_of_whole.ensures.whole c.is_at_flush.ensures) refl
+    unmapped c.in-Ok.handshake _ c.map_by-made.result c.in-Err-map_of_whole.e c.in-Ok.ensures c.in-Ok-expect_filters.ensures
+    (maps-by _ _ _ _ _ _ _ _ c.needs_no_list-unlisted.ensures c.map_by-made.ensures.map)
+    (refused-by _ _ _ _ c.in-Err-map_of_whole.ensures.whole (whole-by _ _ _ _ c.are_whole.ensures c.needs_no_list-unlisted.ensures)) refl
 
 pub returns-then-is_empty : goal.returns-then-is_empty
 returns-then-is_empty g c =
     empty c.in-Ok.handshake _ c.in-Ok-map_of_whole.map c.in-Ok.ensures c.in-Ok-expect_filters.ensures
-    (maps-made _ _ _ _ _ _ _ c.in-Ok-map_of_whole.ensures.made.0 c.map_refs-made.ensures.map)
-    (ends-whole _ _ c.in-Ok-map_of_whole.ensures.made.1 c.is_at_flush.ensures) (c.is_empty.ensures.0 c.if-is_empty.true) refl
+    (maps-made c.args.input.specs c.in-Ok.handshake _ _ _ _ _ c.in-Ok-map_of_whole.ensures.made.0
+    (maps-by _ _ _ _ _ _ _ _ c.needs_no_list-unlisted.ensures c.map_by-made.ensures.map))
+    (ends-whole _ _ c.in-Ok-map_of_whole.ensures.made.1 (whole-by _ _ _ _ c.are_whole.ensures c.needs_no_list-unlisted.ensures))
+    (c.is_empty.ensures.0 c.if-is_empty.true) refl
 
 pub returns : goal.returns
 returns g c =
     session-ran _ _ _ _ _ _ _ _ _ c.in-Ok.handshake _ c.in-Ok-map_of_whole.map c.fetch_mapped-fetched.result c.new-boundary.result _ _
     c.in-Ok.ensures c.in-Ok-expect_filters.ensures
-    (maps-made _ _ _ _ _ _ _ c.in-Ok-map_of_whole.ensures.made.0 c.map_refs-made.ensures.map)
-    (ends-whole _ _ c.in-Ok-map_of_whole.ensures.made.1 c.is_at_flush.ensures)
-    (took-refs c.in-Ok.handshake _ _ _ c.in-Ok-map_of_whole.ensures.made.0 c.map_refs-made.ensures.handshake)
+    (maps-made c.args.input.specs c.in-Ok.handshake _ _ _ _ _ c.in-Ok-map_of_whole.ensures.made.0
+    (maps-by _ _ _ _ _ _ _ _ c.needs_no_list-unlisted.ensures c.map_by-made.ensures.map))
+    (ends-whole _ _ c.in-Ok-map_of_whole.ensures.made.1 (whole-by _ _ _ _ c.are_whole.ensures c.needs_no_list-unlisted.ensures))
+    (took-refs c.in-Ok.handshake _ _ _ c.in-Ok-map_of_whole.ensures.made.0 c.map_by-made.ensures.handshake)
     (untold _ c.is_empty.ensures c.if-is_empty.false) c.new-boundary.ensures.ids c.new-boundary.ensures.locked
     c.fetch_mapped-fetched.ensures c.end_of.ensures
