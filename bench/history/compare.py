@@ -3,7 +3,7 @@ the haves use it.
 
 Each has a folder with `main.rt.in` of the program, over `history.rt.in`, and `baseline.rs`, over `history.rs`. A program
 takes a mode and the number of commits. With the mode `history` it only makes its input, so that the script can subtract the
-memory of that. Otherwise it prints the microseconds that it measured, and counts, which must be equal for both. The script needs
+memory of that; what it prints then doesn't count. Otherwise it prints the microseconds that it measured, and counts, which must be equal for both. The script needs
 `rustc`, GNU time, and what bench/build.py needs.
 """
 import os
@@ -32,7 +32,8 @@ def run(program, mode, commits):
     with tempfile.NamedTemporaryFile("r") as memory:
         words = ["time", "-o", memory.name, "-f", "%M", str(program), mode, str(commits)]
         running = subprocess.Popen(words, stdout=subprocess.PIPE, text=True)
-        printed = [int(word) for word in running.stdout.read().split()]
+        output = running.stdout.read()
+        printed = [] if mode == "history" else [int(word) for word in output.split()]
         _, status, used = os.wait4(running.pid, 0)
         running.returncode = os.waitstatus_to_exitcode(status)
         if running.returncode:
