@@ -3,8 +3,8 @@ the haves use it.
 
 Each has a folder with `main.rt.in` of the program, over `history.rt.in`, and `baseline.rs`, over `history.rs`. A program
 takes a mode and the number of commits. With the mode `history` it only makes its input, so that the script can subtract the
-memory of that; what it prints then doesn't count. Otherwise it prints the microseconds that it measured, and counts, which must be equal for both. The script needs
-`rustc`, GNU time, and what bench/build.py needs.
+memory of that; its output is ignored. Otherwise it prints the microseconds that it measured, and counts, which must be equal for
+both. The script needs `rustc`, GNU time, and what bench/build.py needs.
 """
 import os
 import subprocess
