@@ -74,6 +74,19 @@ fn text_of(alloc: Global, e: &Error) -> Result<String, Error> {
     Ok(format!(in alloc; "{e}")?)
 }
 
+// Checks that a call failed since a name isn't supported.
+fn expect_unsupported(rt: &HostRuntime, called: Result<(), Error>) -> Result<(), Error> {
+    match unless_memory(called)? {
+        Ok(()) => assert!(rt; false, "a list is read"),
+        Err(e) => {
+            assert!(rt; matches!(e, Error::UnsupportedRefName));
+            assert!(rt; e.class() == ErrorClass::Refused);
+            assert_eq!(rt; text_of(rt.alloc(), &e)?.as_str(), SENTENCE);
+        }
+    }
+    Ok(())
+}
+
 #[test]
 fn a_listed_name_that_ends_in_wide_space_is_rejected(rt: HostRuntime) -> Result<(), Error> {
     let alloc = rt.alloc();
@@ -81,20 +94,10 @@ fn a_listed_name_that_ends_in_wide_space_is_rejected(rt: HostRuntime) -> Result<
         let transport = server(alloc, &[GREETING, *list, *list, *list, REFS, PACK])?;
         let mut session = Session::open(alloc, transport, "first/1.0", Silent)?;
         let request = branches(alloc)?;
-        match unless_memory(session.list())? {
-            Ok(()) => assert!(rt; false, "a list is read"),
-            Err(e) => {
-                assert!(rt; matches!(e, Error::UnsupportedRefName));
-                assert!(rt; e.class() == ErrorClass::Refused);
-                assert_eq!(rt; text_of(alloc, &e)?.as_str(), SENTENCE);
-            }
-        }
+        expect_unsupported(&rt, session.list())?;
+        expect_unsupported(&rt, session.map(&request).map(|_map| ()))?;
+        expect_unsupported(&rt, session.refs().map(|_refs| ()))?;
         assert!(rt; session.state() == State::AtStop);
-        let mapped = unless_memory(session.map(&request))?;
-        assert!(rt; matches!(mapped, Err(Error::UnsupportedRefName)));
-        assert!(rt; session.state() == State::AtStop);
-        let refs = unless_memory(session.refs())?;
-        assert!(rt; matches!(refs, Err(Error::UnsupportedRefName)));
         let (_, pack) = fetch(alloc, &mut session, &request)?;
         assert_eq!(rt; pack.as_slice(), b"PACK".as_slice());
     }
