@@ -65,7 +65,7 @@ COUNTED = [
     ("README.md", "a listing in # of git's time", of("bench/README.md", "`git ls-remote` on the same bytes | # of its time")),
     ("README.md", "and # of a plain C program's", of("bench/README.md", "(`refs.c`) | # of its time")),
     ("README.md", "a clone of # MiB in", of("bench/README.md", "a clone of # MiB from a server")),
-    ("README.md", "MiB in # of git's", of("bench/README.md", "over `file://` | # of its time (5.1 s")),
+    ("README.md", "MiB in # of git's", of("bench/README.md", "over `file://` | # of its time (3.6 s")),
     ("README.md", "`gix-protocol` #", UPSTREAM),
     ("CONTRIBUTING.md", "`gix-protocol` #", UPSTREAM),
     ("CONTRIBUTING.md", "the source of git #", GIT),
