@@ -1,12 +1,12 @@
 -- Lists of lines that lose white space.
-use Rattle.std.proofs.Common.{◌≡◌, ℕ, ◌||◌, Bool, true, false, if◌then◌else◌, List, [], ◌∷◌, take, refl, sym, ap, ◌∙◌, Result, Ok, Err}
+use Rattle.std.proofs.Common.{◌≡◌, ℕ, ◌||◌, Bool, true, false, if◌then◌else◌, List, take, refl, sym, ap, ◌∙◌, Result}
 use Rattle.gixp_packetline.specs.declared.protocol.MessageKind.{MessageKind}
 use Rattle.gixp_packetline.specs.declared.protocol.Protocol.{Protocol}
 use Rattle.gixp_packetline.specs.Pieces.{Refusal, line, mark, Pieces, no_pieces, with_piece}
 use Rattle.gixp_packetline.specs.Items.{is_stop}
-use Rattle.gixp_packetline.specs.Lines.{Ending, stop, refusal, Lines, lines_of, no_lines, before}
+use Rattle.gixp_packetline.specs.Lines.{Ending, stop, refusal, lines_of, no_lines}
 use Rattle.gixp_capabilities.specs.Client.{ClientRefusal}
-use Rattle.gixp_transport.specs.CapabilityAdvertisement.{Advertised, by_lines, from_capability_lines}
+use Rattle.gixp_transport.specs.CapabilityAdvertisement.{Advertised, by_lines}
 use Rattle.gixp_records.specs.declared.advertised.opening.RefsOpening.{RefsOpening}
 use Rattle.gixp_records.specs.declared.advertised.refused.AdvertisedRefused.{AdvertisedRefused}
 use Rattle.gixp_records.specs.declared.advertised.refused.AdvertisedRefused.TheVariants.{Packet, Line, NoCapabilities, VersionTwo, UnknownVersion, Memory}
