@@ -32,7 +32,7 @@ enum {
     GIXP_UNEXPECTED = 16,     /* a packet without a payload is out of place */
     GIXP_UNKNOWN_BAND = 17,
     GIXP_BAD_ID = 20,         /* a ref line has an invalid object id */
-    GIXP_BAD_LINE = 21,
+    GIXP_BAD_LINE = 21,       /* a ref line is malformed, or ends in white space outside ASCII, which git allows in names */
     GIXP_BAD_ATTRIBUTE = 22,
     GIXP_BAD_UNBORN = 23,
     GIXP_BAD_PEELED = 24,     /* an advertisement: a peeled line doesn't follow the ref line of its name */

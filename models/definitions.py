@@ -180,10 +180,23 @@ def v2_ref(line):
     return ("Symbolic", name, target, None, ident) if peeled is None else ("Symbolic", name, target, ident, peeled)
 
 
-def v2_ref_list(data):
+def loses_white_space(line):
+    """White space outside ASCII at the end of the line isn't read."""
+    return any(byte > 127 for byte in line[len(trim(line)):])
+
+
+def v2_listed(line):
+    """The ref of a line that loses no white space."""
+    ref = v2_ref(line)
+    if loses_white_space(line):
+        raise Err("MalformedV2RefLine", line)
+    return ref
+
+
+def v2_ref_list(data, ref_of=v2_ref):
     got = lines_of(data, 2)
     lines, error = got if isinstance(got, tuple) else (got, None)
-    refs = [v2_ref(x) for x in lines]      # an error of a line precedes an error of the stream after it
+    refs = [ref_of(x) for x in lines]      # an error of a line precedes an error of the stream after it
     if error:
         raise error
     return refs
@@ -218,6 +231,12 @@ def v1_class(line):
     return ("bad id", left, b"")
 
 
+def v1_listed_class(line):
+    """The class of a line that loses no white space."""
+    found = v1_class(line)
+    return ("malformed", line, b"") if found[0] not in ("malformed", "bad id") and loses_white_space(line) else found
+
+
 def v1_grouping(kept, names):
     """The groups of the whole list, or None."""
     if not kept:
@@ -237,10 +256,10 @@ def v1_grouping(kept, names):
     return answers[0] if answers else None
 
 
-def v1_ref_list(lines, caps):
+def v1_ref_list(lines, caps, class_of=v1_class):
     table = symref_table(caps)
     names = [n for n, _ in table]
-    classes = [v1_class(x) for x in lines]
+    classes = [class_of(x) for x in lines]
     for k in range(1, len(classes) + 1):         # the earliest line with which no grouping continues
         kept = [c for c in classes[:k] if c[0] not in ("capabilities", "shallow")]
         if v1_grouping(kept, names) is None:
@@ -298,7 +317,7 @@ def capability_words(caps, name):
     return [] if v is None else v.split(BLANK)
 
 
-def advertisement(data):
+def advertisement(data, class_of=v1_class):
     """-> dict(version, caps, refs, updates, rest_items) by the first line."""
     items, error = items_of(data, 0)
     if not items:
@@ -325,10 +344,10 @@ def advertisement(data):
     lines = [items[start][1][:place]]
     for it in items[start + 1:]:
         if it[0] == "stop":
-            refs, updates = v1_ref_list(lines, caps)
+            refs, updates = v1_ref_list(lines, caps, class_of)
             return dict(version=version, caps=caps, refs=refs, updates=updates)
         lines.append(it[1])
-    v1_ref_list(lines, caps)
+    v1_ref_list(lines, caps, class_of)
     raise error
 
 
@@ -878,6 +897,9 @@ def examples_of_parts():
     example(v2_ref(b"unborn HEAD symref-target:refs/heads/main") == ("Unborn", b"HEAD", b"refs/heads/main")
         and is_error("InvariantViolation", v2_ref, b"unborn HEAD") and is_error("MalformedV2RefLine", v2_ref, A)
         and is_error("UnknownAttribute", v2_ref, A + b" x foo:1"))
+    example(v2_listed(A + b" x \t\n") == ("Direct", b"x", IA) and is_error("MalformedV2RefLine", v2_listed, A + b" x\xc2\xa0\n")
+        and is_error("UnknownAttribute", v2_listed, A + b" x y:1\xc2\xa0") and v1_listed_class(A + b" x\xc2\xa0")[0] == "malformed"
+        and v1_listed_class(b"x y\xc2\xa0")[0] == "bad id" and v1_listed_class(A + b" x\n") == v1_class(A + b" x"))
     example(is_error("Server", v2_ref_list, b"0011ERR no access", rest=(b"no access",))
         and lens_ok((b"0011", b"ERR no access", False)))
     example(frames_of(b"0003")[1] == ("Bad", "InvalidLineLength") and frames_of(b"0004")[1] == ("Bad", "DataIsEmpty")

@@ -64,7 +64,7 @@ def error_of(e, codes):
 
 def expected_refs(data):
     try:
-        return [0, "", [in_js(ref) for ref in definitions.v2_ref_list(data)]]
+        return [0, "", [in_js(ref) for ref in definitions.v2_ref_list(data, definitions.v2_listed)]]
     except definitions.Err as e:
         return error_of(e, CODES)
 
@@ -74,7 +74,7 @@ def expected_advertised(data):
         items = definitions.items_of(data, 0)[0]
         if items and items[0][0] != "stop" and definitions.trim(items[0][1]) == b"version 2":
             return [VERSION_TWO, "", []]
-        return [0, "", [in_js(ref) for ref in definitions.advertisement(data)["refs"]]]
+        return [0, "", [in_js(ref) for ref in definitions.advertisement(data, definitions.v1_listed_class)["refs"]]]
     except definitions.Err as e:
         return error_of(e, FIRST_CODES)
 

@@ -73,6 +73,7 @@ static void refs(void)
         {"zzzz", GIXP_BAD_HEX}, {"fff1", GIXP_TOO_LONG}, {"0004", GIXP_NO_PAYLOAD}, {"0003", GIXP_TOO_SHORT}, {"000aERR no", GIXP_SERVER},
         {"0002", GIXP_UNEXPECTED}, {"00", GIXP_INCOMPLETE}, {"0008x y\n", GIXP_BAD_ID}, {"0006a\n", GIXP_BAD_LINE},
         {"0033" ID " a b:c\n", GIXP_BAD_ATTRIBUTE}, {"000dunborn a\n", GIXP_BAD_UNBORN}, {"0001", GIXP_OK},
+        {"0031" ID " a\xc2\xa0\n", GIXP_BAD_LINE},
     };
     for (size_t i = 0; i < sizeof rows / sizeof *rows; i++) {
         uint8_t *bytes = copy(rows[i].text, strlen(rows[i].text));
@@ -125,7 +126,7 @@ static void advertisements(void)
         {"000aERR no", 10, GIXP_SERVER}, {"0001", 4, GIXP_UNEXPECTED}, {"00", 2, GIXP_INCOMPLETE}, {"", 0, GIXP_INCOMPLETE},
         {"0006a\n", 6, GIXP_NO_CAPABILITIES}, {"000eversion 2\n", 14, GIXP_VERSION_TWO}, {"000eversion 3\n", 14, GIXP_UNKNOWN_VERSION},
         {"000ax y\0a\n", 10, GIXP_BAD_ID}, {"0007a\0\n", 7, GIXP_BAD_LINE}, {"0032" ID " H^{}\0", 50, GIXP_BAD_PEELED},
-        {"0037" ID " H\0symref=H\n", 55, GIXP_BAD_SYMREF}, {"0000", 4, GIXP_OK},
+        {"0037" ID " H\0symref=H\n", 55, GIXP_BAD_SYMREF}, {"0000", 4, GIXP_OK}, {"0031" ID " H\xc2\xa0\0", 49, GIXP_BAD_LINE},
     };
     for (size_t i = 0; i < sizeof rows / sizeof *rows; i++) {
         CHECK(advertised(rows[i].text, rows[i].len, 0, records, 3, &found) == rows[i].code && found.count == 0);
@@ -287,6 +288,13 @@ static void session(void)
     answers[ends[1] - 1] = '0';
     for (ends[1]--; ends[1] >= ends[0]; ends[1]--)
         CHECK(next(answers, ends, 2, room, 4096, &step) == GIXP_INCOMPLETE);
+    /* a name that ends in white space outside ASCII, and one before ASCII blanks */
+    snprintf(answers, sizeof answers, "%s%s", GREETING, "003c" ID " refs/heads/x\xc2\xa0\n" "0000");
+    ends[1] = strlen(answers);
+    CHECK(next(answers, ends, 2, room, 4096, &step) == GIXP_BAD_LINE && step.length == 0);
+    snprintf(answers, sizeof answers, "%s%s", GREETING, "003c" ID " refs/heads/x \t\n" "0000");
+    CHECK(next(answers, ends, 2, room, 4096, &step) == GIXP_OK && step.kind == 1 && memcmp(room, "0012command=fetch\n", 18) == 0);
+    snprintf(answers, sizeof answers, "%s%s", GREETING, LISTED);
     size_t len = strlen(SPEC);
     uint8_t *bytes = copy(GREETING, ends[0]), *spec = copy(SPEC, len), *ids = copy(LISTED, 40), *empty = copy("", 0);
     static const size_t wrong[][2] = {{19, 0}, {21, 20}, {20, 1}, {0, 39}};

@@ -182,7 +182,8 @@ const tests = {
 
   "refusals of a session": () => {
     const codes = [[[], 30], [[greeting, bytes("0000"), bytes("0000")], 31], [[bytes("")], 10], [[bytes("<html>")], 43],
-      [[greeting, bytes(packet(id(5) + " refs/heads/main\n"), "0001")], 53]];
+      [[greeting, bytes(packet(id(5) + " refs/heads/main\n"), "0001")], 53],
+      [[greeting, bytes(packet(id(5) + " refs/heads/main\u00a0\n"), "0000")], 21]];
     for (const [answers, code] of codes) assert.equal(codeOf(answers), code);
     assert.equal(codeOf([greeting], { haves: [new Uint8Array(19)] }), 3);
     assert.equal(refused(() => session([greeting], { haves: ["short"] })).code, 3);

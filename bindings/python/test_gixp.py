@@ -61,7 +61,7 @@ class Refs(unittest.TestCase):
         for row in all_rows():
             found, code, words = read_all(gixp.refs, row.data)
             try:
-                wanted = definitions.v2_ref_list(row.data)
+                wanted = definitions.v2_ref_list(row.data, definitions.v2_listed)
                 self.assertEqual((code, [(r.name, r.id, r.peeled) for r in found]), (0, list(map(definitions.unpack, wanted))), row.name)
                 self.assertEqual([r.target for r in found], [r[2] if r[0] in ("Symbolic", "Unborn") else None for r in wanted], row.name)
             except definitions.Err as e:
@@ -106,7 +106,7 @@ class Advertisements(unittest.TestCase):
                     self.assertEqual(code, VERSION_TWO, row.name)
                     codes[code] += 1
                     continue
-                wanted = definitions.advertisement(row.data)["refs"]
+                wanted = definitions.advertisement(row.data, definitions.v1_listed_class)["refs"]
                 self.assertEqual((code, [(r.name, r.id, r.peeled) for r in found]), (0, list(map(definitions.unpack, wanted))), row.name)
                 self.assertEqual([r.target for r in found], [r[2] if r[0] == "Symbolic" else None for r in wanted], row.name)
             except definitions.Err as e:
@@ -201,6 +201,30 @@ class Sessions(unittest.TestCase):
             self.session(self.greeting, packet(b"ERR go away\n")).step()
         self.assertEqual((caught.exception.code, caught.exception.words), (15, b"go away"))
 
+
+    def test_white_space(self):
+        """A list of refs with a name that ends in white space outside ASCII is refused, and ASCII blanks at its end are ignored."""
+        for end, code in ((b"\xc2\xa0\n", 21), (b"\xe3\x80\x80", 21), (b"\xc2\x85\t\n", 21), (b" \t\r\n", 0), (b"\xc2\xa0x\n", 0)):
+            line = packet(b"%040x refs/heads/x" % 5 + end)
+            listed, advertised = line + b"0000", packet(b"%040x HEAD\0side-band-64k\n" % 5) + line + b"0000"
+            first = packet(b"%040x HEAD" % 5 + end.rstrip(b"\n") + b"\0multi_ack_detailed side-band-64k\n") + b"0000"
+            for call, data in ((gixp.refs, listed), (gixp.advertised, advertised), (gixp.advertised, first)):
+                self.assertEqual(read_all(call, data)[1], code, (call, end))
+            for answers in ((self.greeting, listed), (self.advertised[:-4] + line + b"0000",), (first,)):
+                try:
+                    self.session(*answers).step()
+                    found = 0
+                except gixp.GixpError as e:
+                    found = e.code
+                self.assertEqual(found, code, (answers, end))
+        # neither the response to a fetch nor capabilities are lists of refs
+        pack = packet(b"packfile\n") + packet(b"\1\xc2\xa0") + b"0000"
+        self.assertEqual(self.session(self.greeting, self.listed, pack).step(), gixp.Pack(13))
+        session = gixp.Session([b"%040x" % 5])
+        session.answer(self.greeting)
+        session.answer(pack)
+        self.assertEqual(session.step(), gixp.Pack(13))
+        self.session(packet(b"%040x HEAD\0multi_ack_detailed side-band-64k agent=\xc2\xa0\n" % 5) + self.listed).step()
 
     def test_limits(self):
         """The lines of each limit, as `git fetch` sends them (gitprotocol-pack, "Packfile Negotiation")."""

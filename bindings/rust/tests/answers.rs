@@ -241,6 +241,24 @@ fn nothing_and_refusals() {
 }
 
 #[test]
+fn white_space() {
+    let step = |answers: &[Vec<u8>]| {
+        let mut session = Session::new(["refs/heads/*:refs/remotes/o/*"]);
+        answers.iter().for_each(|answer| drop(session.answer(answer)));
+        session.step().err().map(|e| e.code())
+    };
+    for (name, code) in [("refs/heads/x\u{a0}", Some(21)), ("refs/heads/x \t", None), ("refs/heads/\u{a0}x", None)] {
+        let listed = [line(5, name), b"0000".to_vec()].concat();
+        assert_eq!(read(&listed).1.map(|e| e.code()), code, "{name}");
+        assert_eq!(step(&[greeting(), listed.clone()]), code, "{name}");
+        let first = [id(1).to_string().as_bytes(), b" HEAD\0multi_ack_detailed side-band-64k\n"].concat();
+        let whole = [packet(&first), listed].concat();
+        assert_eq!(advertised(&whole).find_map(Result::err).map(|e| e.code()), code, "{name}");
+        assert_eq!(step(&[whole]), code, "{name}");
+    }
+}
+
+#[test]
 fn head_and_ids() {
     let first = |specs: &[&str]| {
         let Step::Request(first) = Session::new(specs).answer(&greeting()).step().unwrap() else { panic!() };

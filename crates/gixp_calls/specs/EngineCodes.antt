@@ -87,5 +87,6 @@ engine_code engine.Limit = 82
 engine_code (engine.Handshake e) = handshake_code e
 engine_code (engine.Refs e) = map_code e
 engine_code engine.UnterminatedRefs = 53
+engine_code engine.UnsupportedRefName = 21
 engine_code (engine.Fetch e) = fetch_code e
 engine_code (engine.Pack e) = packet_code e

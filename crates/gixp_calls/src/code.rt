@@ -230,6 +230,7 @@ pub(crate) fn engine_code(e: &EngineError) -> u32
         EngineError::Handshake(e) => handshake_code(e),
         EngineError::Refs(e) => map_code(e),
         EngineError::UnterminatedRefs => 53,
+        EngineError::UnsupportedRefName => 21,
         EngineError::Fetch(e) => fetch_code(e),
         EngineError::Pack(e) => packet_code(*e),
     }

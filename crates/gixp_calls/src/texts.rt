@@ -21,7 +21,7 @@ fn text_of(code: u32) -> &'static str {
         16 => "a packet line without a payload is out of place",
         17 => "a packet line belongs to no band",
         20 => "an object id isn't 40 hexadecimal digits",
-        21 => "a ref line isn't an id and a name with attributes",
+        21 => "a ref line is malformed, or ends in white space outside ASCII",
         22 => "a ref line has an unknown attribute",
         23 => "a ref line without an id has more than a target",
         24 => "a peeled line doesn't follow the ref line of its name",

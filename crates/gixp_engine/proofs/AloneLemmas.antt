@@ -34,6 +34,8 @@ use Rattle.gixp_engine.specs.declared.session.Received.{Received}
 use Rattle.gixp_engine.specs.declared.error.EngineError.{EngineError}
 use Rattle.gixp_handshake.specs.WithoutAccount.{GreetsWithoutAccount}
 use Rattle.gixp_engine.specs.IdSpecs.{needs_no_list}
+use Rattle.gixp_engine.specs.ListLosses.{is_lossy}
+use Rattle.gixp_engine.specs.declared.losses.ListLosses.{ListLosses}
 use Rattle.gixp_engine.specs.Alone.{engine_agent, engine_call, end_of_fetch, CarriesCall, MapsBy, MapsAlone, EngineSession, are_whole, map_of_whole, fetched}
 
 -- the engine passes its table and its agent
@@ -50,17 +52,17 @@ carries-call parties first r last progress h shallow table agent e f it = record
 
 module _ (Receives : RefMap → Handshake → Reading → ShallowMemory → Reading → ShallowMemory
     → Result (Option Outcome) (FetchError AllocError Left) → Type 0) where
-  pub session-ran : (context : Context) (filter : Option (String Global)) (ids : List ObjectId) (plain : Bool)
+  pub session-ran : (context : Context) (filter : Option (String Global)) (ids : List ObjectId) (losses : ListLosses) (plain : Bool)
       (old mid following new : Reading) (h k : Handshake) (m : RefMap)
       (r : Result (Option Outcome) (FetchError AllocError Left)) (store store' : ShallowMemory)
       (ended : Result (Option Received) EngineError)
       → GreetsWithoutAccount plain old mid (Ok h) → AllowsFilter filter h (Ok tt) → MapsAlone context h plain mid following (Ok m)
-      → are_whole (needs_no_list context h) following.stopped ≡ true
+      → are_whole (needs_no_list context h) following.stopped ≡ true → is_lossy losses (needs_no_list context h) h ≡ false
       → k ≡ without_refs h → (m.mappings.items ≡ [] → ⊥) → store.ids.items ≡ ids → store.locked ≡ false
       → Receives m k following store new store' r → ended ≡ end_of_fetch k.server_protocol_version store' r
-      → EngineSession Receives context filter ids plain old new ended
-  session-ran context filter ids plain old mid following new h k m r store store' ended s allowed l whole e some held free f q =
-      fetched h mid following m r store store' s allowed l whole some (record { ids = held; unlocked = free })
+      → EngineSession Receives context filter ids losses plain old new ended
+  session-ran context filter ids losses plain old mid following new h k m r store store' ended s allowed l whole lossless e some held free f q =
+      fetched h mid following m r store store' s allowed l whole lossless some (record { ids = held; unlocked = free })
       (subst (λ x. Receives m x following store new store' r) e f)
       (q ∙ ap (λ (x : Handshake). end_of_fetch x.server_protocol_version store' r) e)
 
@@ -104,10 +106,28 @@ took-refs h k r m e f = subst (λ (x : Result RefMap MapError). IfOk x (λ _. k 
 pub ends-whole : (b b' : Bool) → b ≡ true → b ≡ b' → b' ≡ true
 ends-whole b b' h e = sym e ∙ h
 
--- the error of a ref map depends only on where the refs end
-pub refused-by : (r : Result RefMap MapError) (b b' : Bool) (e : EngineError) → Err e ≡ map_of_whole r b → b ≡ b'
-    → map_of_whole r b' ≡ Err e
-refused-by r b b' e h f = ap (map_of_whole r) (sym f) ∙ sym h
+-- the error of a ref map depends only on where the refs end, and on the white space that they lose
+pub refused-by : (r : Result RefMap MapError) (b b' lossy lossy' : Bool) (e : EngineError) → Err e ≡ map_of_whole r b lossy → b ≡ b'
+    → lossy ≡ lossy' → map_of_whole r b' lossy' ≡ Err e
+refused-by r b b' lossy lossy' e h f k =
+    ap (map_of_whole r b') (sym k) ∙ (ap (λ (x : Bool). map_of_whole r x lossy) (sym f) ∙ sym h)
+
+-- whether the refs lose white space, by an equal test
+pub lossy-by : (lossy b b' : Bool) (losses : ListLosses) (h : Handshake) → lossy ≡ is_lossy losses b h → b ≡ b'
+    → lossy ≡ is_lossy losses b' h
+lossy-by lossy b b' losses h e f = e ∙ ap (λ (x : Bool). is_lossy losses x h) f
+
+pub ends-lossless : (b b' : Bool) → b ≡ false → b ≡ b' → b' ≡ false
+ends-lossless b b' h e = sym e ∙ h
+
+-- the same session, where the lists lose the same white space
+pub session-by : (Receives : RefMap → Handshake → Reading → ShallowMemory → Reading → ShallowMemory
+    → Result (Option Outcome) (FetchError AllocError Left) → Type 0) (context : Context) (filter : Option (String Global))
+    (ids : List ObjectId) (losses losses' : ListLosses) (plain : Bool) (old new : Reading) (ended : Result (Option Received) EngineError)
+    → losses ≡ losses' → EngineSession Receives context filter ids losses plain old new ended
+    → EngineSession Receives context filter ids losses' plain old new ended
+session-by Receives context filter ids losses losses' plain old new ended e h =
+    subst (λ (l : ListLosses). EngineSession Receives context filter ids l plain old new ended) e h
 
 -- a test that fails refutes its statement
 pub untold : (b : Bool) {P : Type 0} → IsTrue b ↔ P → b ≡ false → P → ⊥

@@ -8,7 +8,7 @@ use Rattle.bstr.specs.declared.bstr.BStr.{BStr}
 use Rattle.gixp_refspec.specs.Name.{is_partial_name}
 use Rattle.gixp_refspec.specs.declared.name.PartialName.{PartialName}
 use Rattle.gixp_engine.specs.declared.error.EngineError.{EngineError}
-use Rattle.gixp_engine.specs.declared.error.EngineError.TheVariants.{NoAnswer, TooManyAnswers, Lengths, Spec, Filter, Name, Limit, Handshake, NoFilters, Refs, UnterminatedRefs, Fetch, Pack, Memory}
+use Rattle.gixp_engine.specs.declared.error.EngineError.TheVariants.{NoAnswer, TooManyAnswers, Lengths, Spec, Filter, Name, Limit, Handshake, NoFilters, Refs, UnterminatedRefs, UnsupportedRefName, Fetch, Pack, Memory}
 use Rattle.gixp_engine.specs.Limits.{AddsName, HandsNames}
 
 -- the line at this index is no name
@@ -32,5 +32,6 @@ names-refused-at lines i d old new (Handshake e) h adds = adds
 names-refused-at lines i d old new NoFilters h adds = adds
 names-refused-at lines i d old new (Refs e) h adds = adds
 names-refused-at lines i d old new UnterminatedRefs h adds = adds
+names-refused-at lines i d old new UnsupportedRefName h adds = adds
 names-refused-at lines i d old new (Fetch e) h adds = adds
 names-refused-at lines i d old new (Pack e) h adds = adds

@@ -34,11 +34,13 @@ use Rattle.gixp_fetch.specs.Fetched.{FetchCall, Fetches, call_of, unlocked_world
 use Rattle.gixp_engine.specs.EngineTable.{engine_table}
 use Rattle.gixp_engine.specs.FilterLine.{AllowsFilter}
 use Rattle.gixp_engine.specs.IdSpecs.{needs_no_list}
+use Rattle.gixp_engine.specs.ListLosses.{is_lossy}
+use Rattle.gixp_engine.specs.declared.losses.ListLosses.{ListLosses}
 use Rattle.gixp_engine.specs.declared.filter.FilterOnce.{FilterOnce}
 use Rattle.gixp_engine.specs.declared.session.Received.{Received}
 use Rattle.gixp_engine.specs.declared.consumer.Left.{Left}
 use Rattle.gixp_engine.specs.declared.error.EngineError.{EngineError}
-use Rattle.gixp_engine.specs.declared.error.EngineError.TheVariants.{Handshake as Unshaken, Refs as Unmapped, UnterminatedRefs, Fetch as Unfetched}
+use Rattle.gixp_engine.specs.declared.error.EngineError.TheVariants.{Handshake as Unshaken, Refs as Unmapped, UnterminatedRefs, UnsupportedRefName, Fetch as Unfetched}
 
 -- the feature `agent`
 abbrev pub engine_agent : FeatureValue
@@ -67,12 +69,13 @@ unmapped_of_cut (map.ListRefs e) = Unmapped (map.ListRefs e)
 unmapped_of_cut map.Memory = Unmapped map.Memory
 
 -- the ref map, if its refs are complete: they end with a flush packet (gitprotocol-v2, "ls-refs"; gitprotocol-pack,
--- "Reference Discovery")
-abbrev pub map_of_whole : Result RefMap MapError → Bool → Result RefMap EngineError
-map_of_whole (Ok m) true = Ok m
-map_of_whole (Ok m) false = Err UnterminatedRefs
-map_of_whole (Err e) true = Err (Unmapped e)
-map_of_whole (Err e) false = Err (unmapped_of_cut e)
+-- "Reference Discovery"); and if their list lost no white space of a name
+abbrev pub map_of_whole : Result RefMap MapError → (is_whole is_lossy : Bool) → Result RefMap EngineError
+map_of_whole (Ok m) true false = Ok m
+map_of_whole (Ok m) true true = Err UnsupportedRefName
+map_of_whole (Ok m) false is_lossy = Err UnterminatedRefs
+map_of_whole (Err e) true is_lossy = Err (Unmapped e)
+map_of_whole (Err e) false is_lossy = Err (unmapped_of_cut e)
 
 -- the arguments of the fetch: only mapped tags are requested
 abbrev pub engine_call : Handshake → ShallowValue → FetchCall
@@ -139,9 +142,10 @@ end_of_fetch version boundary (Err e) = Err (Unfetched e)
 
 module _ (Receives : RefMap → Handshake → Reading → ShallowMemory → Reading → ShallowMemory
     → Result (Option Outcome) (FetchError AllocError Left) → Type 0)
-    (context : Context) (filter : Option (String Global)) (boundary : List ObjectId) (plain : Bool) (old : Reading) where
-  -- a session up to its pack: the handshake failed, or the server lacks filters, or the ref map failed, or nothing is mapped, or the
-  -- mapped refs were fetched
+    (context : Context) (filter : Option (String Global)) (boundary : List ObjectId) (losses : ListLosses) (plain : Bool)
+    (old : Reading) where
+  -- a session up to its pack: the handshake failed, or the server lacks filters, or the ref map failed, or its list of refs is
+  -- incomplete or lost white space, or nothing is mapped, or the mapped refs were fetched
   pub data EngineSession (new : Reading) (ended : Result (Option Received) EngineError) : Type 0 where
     unshaken : (e : HandshakeError) → GreetsWithoutAccount plain old new (Err e) → ended ≡ Err (Unshaken e) → EngineSession new ended
     -- nothing was sent after the handshake
@@ -149,14 +153,16 @@ module _ (Receives : RefMap → Handshake → Reading → ShallowMemory → Read
         → ended ≡ Err e → EngineSession new ended
     unmapped : (h : Handshake) (mid : Reading) (r : Result RefMap MapError) (e : EngineError) → GreetsWithoutAccount plain old mid (Ok h)
         → AllowsFilter filter h (Ok tt)
-        → MapsAlone context h plain mid new r → map_of_whole r (are_whole (needs_no_list context h) new.stopped) ≡ Err e → ended ≡ Err e
-        → EngineSession new ended
+        → MapsAlone context h plain mid new r
+        → map_of_whole r (are_whole (needs_no_list context h) new.stopped) (is_lossy losses (needs_no_list context h) h) ≡ Err e
+        → ended ≡ Err e → EngineSession new ended
     empty : (h : Handshake) (mid : Reading) (m : RefMap) → GreetsWithoutAccount plain old mid (Ok h) → AllowsFilter filter h (Ok tt)
         → MapsAlone context h plain mid new (Ok m) → are_whole (needs_no_list context h) new.stopped ≡ true
-        → m.mappings.items ≡ [] → ended ≡ Ok None → EngineSession new ended
+        → is_lossy losses (needs_no_list context h) h ≡ false → m.mappings.items ≡ [] → ended ≡ Ok None → EngineSession new ended
     fetched : (h : Handshake) (mid following : Reading) (m : RefMap) (r : Result (Option Outcome) (FetchError AllocError Left))
         (store store' : ShallowMemory)
         → GreetsWithoutAccount plain old mid (Ok h) → AllowsFilter filter h (Ok tt)
         → MapsAlone context h plain mid following (Ok m) → are_whole (needs_no_list context h) following.stopped ≡ true
-        → (m.mappings.items ≡ [] → ⊥) → HoldsAlone boundary store → Receives m (without_refs h) following store new store' r
+        → is_lossy losses (needs_no_list context h) h ≡ false → (m.mappings.items ≡ [] → ⊥) → HoldsAlone boundary store
+        → Receives m (without_refs h) following store new store' r
         → ended ≡ end_of_fetch h.server_protocol_version store' r → EngineSession new ended

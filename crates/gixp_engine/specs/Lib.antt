@@ -6,4 +6,5 @@ pub mod Handed
 pub mod IdSpecs
 pub mod Leave
 pub mod Limits
+pub mod ListLosses
 pub mod NextStep

@@ -25,6 +25,7 @@ use Rattle.gixp_engine.specs.declared.step.EngineStep.{EngineStep}
 use Rattle.gixp_engine.specs.declared.step.EngineStep.TheVariants.{Request, Pack, Nothing}
 use Rattle.gixp_engine.specs.declared.step.SessionInput.{SessionInput}
 use Rattle.gixp_engine.specs.Handed.{answers_between, answer_in, objects_held}
+use Rattle.gixp_engine.specs.ListLosses.{losses_of}
 use Rattle.gixp_engine.specs.Alone.{EngineSession}
 
 -- the last response begins where the one before it ends
@@ -77,7 +78,8 @@ module _ {O : Type 0} (contents : O → Objects)
     pub new : Reading
     pub holds : contents here ≡ objects_held finite.empty input.haves.items
     pub opens : OpensOver answers transport
-    pub session : EngineSession (Receives here) input.specs input.filter input.boundary.items true (bodies_reading transport) new ended
+    pub session : EngineSession (Receives here) input.specs input.filter input.boundary.items (losses_of (map answer_in answers)) true
+        (bodies_reading transport) new ended
     pub requests : sent ≡ new.held.sent
 
   -- the step by that session, unless the offsets are invalid, or there is no response, or an allocation failed

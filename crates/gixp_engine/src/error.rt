@@ -51,6 +51,10 @@ pub enum EngineError {
     /// The list of refs didn't end with a flush packet, so refs may be missing (gitprotocol-v2, "ls-refs").
     #[error("expected flush after ref listing")]
     UnterminatedRefs,
+    /// A line of the list of refs ends in white space outside ASCII, which git allows in names of refs (git-check-ref-format). The
+    /// parser of refs trims it, so the name may be another ref's.
+    #[error("the server lists a ref whose name ends in white space outside ASCII")]
+    UnsupportedRefName,
     /// The fetch failed.
     #[error("{0}")]
     Fetch(FetchError<AllocError, Left>),

@@ -6,6 +6,7 @@ mod by_id;
 mod consumer;
 mod error;
 mod filter;
+mod losses;
 mod read;
 mod session;
 mod step;

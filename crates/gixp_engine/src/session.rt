@@ -11,6 +11,7 @@ use crate::by_id::needs_no_list;
 use crate::consumer::{LeavePack, Left};
 use crate::error::EngineError;
 use crate::filter::{FilterOnce, expect_filters};
+use crate::losses::{ListLosses, is_lossy};
 use crate::step::SessionInput;
 use crate::table::engine_table;
 use gixp_fetch::consume::ConsumePack;
@@ -68,17 +69,24 @@ fn unmapped_of_cut(e: init::Error) -> EngineError
     }
 }
 
-// Returns `UnterminatedRefs` for a ref map whose list of refs is incomplete.
-fn map_of_whole(made: Result<RefMap, init::Error>, is_whole: bool) -> Result<RefMap, EngineError>
-    ensures whole { result ≡ map_of_whole made is_whole }
-    ensures made { IfOk result (λ m. (made ≡ Ok m) × (is_whole ≡ true)) }
+// Returns `UnterminatedRefs` for a ref map whose list of refs is incomplete, and `UnsupportedRefName` for one whose list lost white
+// space of a name.
+fn map_of_whole(
+    made: Result<RefMap, init::Error>,
+    is_whole: bool,
+    is_lossy: bool,
+) -> Result<RefMap, EngineError>
+    ensures whole { result ≡ map_of_whole made is_whole is_lossy }
+    ensures made { IfOk result (λ m. (made ≡ Ok m) × (is_whole ≡ true) × (is_lossy ≡ false)) }
 {
     match made {
         Ok(map) => {
-            if is_whole {
-                Ok(map)
-            } else {
+            if !is_whole {
                 Err(EngineError::UnterminatedRefs)
+            } else if is_lossy {
+                Err(EngineError::UnsupportedRefName)
+            } else {
+                Ok(map)
             }
         }
         Err(e) => {
@@ -298,11 +306,13 @@ fn end_of(
     }
 }
 
-/// Runs a session up to its pack. Returns `None` if there is nothing to request.
+/// Runs a session up to its pack. Returns `None` if there is nothing to request. `losses` says which lists of refs among the
+/// transport's responses lose white space.
 pub(crate) fn run<'a, O: Objects, T: Transport>(
     alloc: Global,
     objects: &'a O,
     input: SessionInput,
+    losses: ListLosses,
     transport: &mut T,
 ) -> Result<Option<Received>, EngineError>
     ensures { EngineSession
@@ -312,7 +322,7 @@ pub(crate) fn run<'a, O: Objects, T: Transport>(
         ⟦<LeavePack as ConsumePack<Discard>>⟧.consumes T.is_plain)
         (OffersAlone objects.now input.haves.items m input.shallow input.filter)
         (engine_call h (shallow_value input.shallow)) old store r new store')
-        input.specs input.filter input.boundary.items T.is_plain (T.reading transport.old) (T.reading transport.new) result }
+        input.specs input.filter input.boundary.items losses T.is_plain (T.reading transport.old) (T.reading transport.new) result }
 {
     let SessionInput {
         specs,
@@ -330,8 +340,9 @@ pub(crate) fn run<'a, O: Objects, T: Transport>(
         Err(e) => return Err(e),
     }
     let unlisted = needs_no_list(&specs, &handshake);
+    let lossy = is_lossy(losses, unlisted, &handshake);
     let made = map_by(alloc, unlisted, &mut handshake, specs, transport);
-    let map = match map_of_whole(made, are_whole(unlisted, transport)) {
+    let map = match map_of_whole(made, are_whole(unlisted, transport), lossy) {
         Ok(map) => map,
         Err(e) => return Err(e),
     };

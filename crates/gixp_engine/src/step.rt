@@ -9,6 +9,7 @@ ghost use Rattle.gixp_engine.specs.NextStep.{start_of_last, BeginsPack, StepsTo,
 use crate::consumer::LeavePack;
 use crate::error::EngineError;
 use crate::filter::FilterOnce;
+use crate::losses::losses_of;
 use crate::read::{answers_of, objects_of};
 use crate::session::{Received, run};
 use bstr::BString;
@@ -174,10 +175,11 @@ pub fn next_step(
     let Ok(here) = objects_of(alloc, &input.haves) else {
         return Err(EngineError::Memory);
     };
+    let losses = losses_of(&answers);
     let url = BString::new(Vec::new(alloc));
     let Ok(mut transport) = Bodies::new(alloc, answers, url, Vec::new(alloc)) else {
         return Err(EngineError::Memory);
     };
-    let ended = run(alloc, &Shared::new(&here), input, &mut transport);
+    let ended = run(alloc, &Shared::new(&here), input, losses, &mut transport);
     step_of(alloc, bytes, ends, transport.sent(), ended)
 }

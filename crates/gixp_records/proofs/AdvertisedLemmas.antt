@@ -9,7 +9,7 @@ use Rattle.gixp_packetline.specs.Lines.{Ending, Lines, lines_of, no_lines, befor
 use Rattle.gixp_refs.specs.Ref.{RefValue}
 use Rattle.gixp_refs.specs.RefLine.{RefsRefusal}
 use Rattle.gixp_refs.specs.Refs.{with_ref}
-use Rattle.gixp_refs.specs.RefAdvertisement.{Symref, V1Line, peels, names, v1_line, NamedRef, pair, single, in_front, group_with, end_refusal, groups, symref_named, pair_by, not_preceded, other_base}
+use Rattle.gixp_refs.specs.RefAdvertisement.{Symref, V1Line, peels, names, NamedRef, pair, single, in_front, group_with, end_refusal, symref_named, pair_by, not_preceded, other_base}
 use Rattle.gixp_capabilities.specs.Capabilities.{is_text}
 use Rattle.gixp_records.specs.declared.advertised.ref_line.NamedLine.{NamedLine}
 use Rattle.gixp_records.specs.declared.advertised.opening.RefsOpening.{RefsOpening}
@@ -22,6 +22,7 @@ use Rattle.gixp_records.specs.declared.span.Span.{Span}
 use Rattle.gixp_records.specs.Span.{text_at, IsWithin}
 use Rattle.gixp_records.specs.Packets.{pieces_at}
 use Rattle.gixp_records.specs.V1RecordLine.{IsRefusedAs, named_in, symref_at}
+use Rattle.gixp_records.specs.ListedLine.{listed_v1, listed_groups}
 use Rattle.gixp_records.specs.RefsOpening.{cut_lines, cut_span, advertised_lines}
 use Rattle.gixp_records.specs.AdvertisedRecords.{refs_of_lines, refs_following, StopsBefore, ReadsGroups}
 use Rattle.gixp_records.specs.Refs.{ref_in, refs_in, IsRecordWithin}
@@ -79,10 +80,10 @@ none_comes bytes o at e h = ap (cut_lines (at == o.first) o.cut) h ∙ none_cut 
 
 -- the refs of the rest, after this ref line
 abbrev pub refs_after : List ℕ → RefsOpening → List Symref → ℕ → Option NamedRef → Result (List RefValue) RefsRefusal
-refs_after bytes o t next last = let l = advertised_lines bytes o next in groups l.lines (end_refusal l.ending) t last
+refs_after bytes o t next last = let l = advertised_lines bytes o next in listed_groups l.lines (end_refusal l.ending) t last
 
 pub one_more : (bytes : List ℕ) (o : RefsOpening) (t : List Symref) (at next : ℕ) (last : Option NamedLine) (text : List ℕ)
-    (l : Result V1Line RefsRefusal) → advertised_lines bytes o at ≡ before (text ∷ []) (advertised_lines bytes o next) → v1_line text ≡ l
+    (l : Result V1Line RefsRefusal) → advertised_lines bytes o at ≡ before (text ∷ []) (advertised_lines bytes o next) → listed_v1 text ≡ l
     → refs_of_lines t last bytes (advertised_lines bytes o at)
     ≡ group_with t (option_map (named_in bytes) last) l (refs_after bytes o t next)
 one_more bytes o t at next last text l e v =
@@ -104,7 +105,7 @@ front_more xs v (Err e) = refl
 
 -- a line that completes no ref and leaves the same ref line open
 pub passed : (bytes : List ℕ) (o : RefsOpening) (t : List Symref) (at next : ℕ) (last : Option NamedLine) (text : List ℕ) (l : V1Line)
-    → advertised_lines bytes o at ≡ before (text ∷ []) (advertised_lines bytes o next) → v1_line text ≡ Ok l
+    → advertised_lines bytes o at ≡ before (text ∷ []) (advertised_lines bytes o next) → listed_v1 text ≡ Ok l
     → group_with t (option_map (named_in bytes) last) (Ok l) (refs_after bytes o t next)
     ≡ refs_after bytes o t next (option_map (named_in bytes) last)
     → refs_of_lines t last bytes (advertised_lines bytes o at) ≡ refs_of_lines t last bytes (advertised_lines bytes o next)
@@ -113,7 +114,7 @@ passed bytes o t at next last text l e v g = one_more bytes o t at next last tex
 -- a ref line without an open one before it is open
 pub opened : (bytes : List ℕ) (o : RefsOpening) (t : List Symref) (at next : ℕ) (n : NamedLine) (text : List ℕ)
     → advertised_lines bytes o at ≡ before (text ∷ []) (advertised_lines bytes o next)
-    → v1_line text ≡ Ok (names n.object.bytes (text_at bytes n.name))
+    → listed_v1 text ≡ Ok (names n.object.bytes (text_at bytes n.name))
     → refs_following bytes o t at ≡ refs_of_lines t (Some n) bytes (advertised_lines bytes o next)
 opened bytes o t at next n text e v =
     one_more bytes o t at next None text (Ok (names n.object.bytes (text_at bytes n.name))) e v
@@ -122,7 +123,7 @@ opened bytes o t at next n text e v =
 -- a ref line after an open one
 pub closes : (bytes : List ℕ) (o : RefsOpening) (t : List Symref) (at next : ℕ) (b n : NamedLine) (text : List ℕ)
     → advertised_lines bytes o at ≡ before (text ∷ []) (advertised_lines bytes o next)
-    → v1_line text ≡ Ok (names n.object.bytes (text_at bytes n.name))
+    → listed_v1 text ≡ Ok (names n.object.bytes (text_at bytes n.name))
     → refs_of_lines t (Some b) bytes (advertised_lines bytes o at)
     ≡ in_front (single t (named_in bytes b) ∷ []) (refs_following bytes o t at)
 closes bytes o t at next b n text e v =
@@ -131,7 +132,7 @@ closes bytes o t at next b n text e v =
 
 -- a peeled line after an open ref line
 pub pairs : (bytes : List ℕ) (o : RefsOpening) (t : List Symref) (at next : ℕ) (b : NamedLine) (left base text : List ℕ) (v : RefValue)
-    → advertised_lines bytes o at ≡ before (text ∷ []) (advertised_lines bytes o next) → v1_line text ≡ Ok (peels left base)
+    → advertised_lines bytes o at ≡ before (text ∷ []) (advertised_lines bytes o next) → listed_v1 text ≡ Ok (peels left base)
     → pair t (Some (named_in bytes b)) left base ≡ Ok v
     → refs_of_lines t (Some b) bytes (advertised_lines bytes o at) ≡ in_front (v ∷ []) (refs_following bytes o t next)
 pairs bytes o t at next b left base text v e l p =
@@ -141,7 +142,7 @@ pairs bytes o t at next b left base text v e l p =
 -- a peeled line with an error
 pub unpaired : (bytes : List ℕ) (o : RefsOpening) (t : List Symref) (at next : ℕ) (last : Option NamedLine) (left base text : List ℕ)
     (e : AdvertisedLineRefused) → advertised_lines bytes o at ≡ before (text ∷ []) (advertised_lines bytes o next)
-    → v1_line text ≡ Ok (peels left base) → IsRefusedAs (pair t (option_map (named_in bytes) last) left base) e
+    → listed_v1 text ≡ Ok (peels left base) → IsRefusedAs (pair t (option_map (named_in bytes) last) left base) e
     → IsRefusedAs (refs_of_lines t last bytes (advertised_lines bytes o at)) e
 unpaired bytes o t at next last left base text e h l j = (
   j.0,
@@ -151,12 +152,12 @@ unpaired bytes o t at next last left base text e h l j = (
 
 -- a line with an error
 pub refused_line : (bytes : List ℕ) (o : RefsOpening) (t : List Symref) (at : ℕ) (last : Option NamedLine) (text : List ℕ) (rest : Lines)
-    (e : AdvertisedLineRefused) → advertised_lines bytes o at ≡ before (text ∷ []) rest → IsRefusedAs (v1_line text) e
+    (e : AdvertisedLineRefused) → advertised_lines bytes o at ≡ before (text ∷ []) rest → IsRefusedAs (listed_v1 text) e
     → IsRefusedAs (refs_of_lines t last bytes (advertised_lines bytes o at)) e
 refused_line bytes o t at last text rest e h j = (
   j.0,
   ap (refs_of_lines t last bytes) h
-      ∙ ap (λ x. group_with t (option_map (named_in bytes) last) x (λ now. groups rest.lines (end_refusal rest.ending) t now)) j.1,
+      ∙ ap (λ x. group_with t (option_map (named_in bytes) last) x (λ now. listed_groups rest.lines (end_refusal rest.ending) t now)) j.1,
   j.2,
 )
 

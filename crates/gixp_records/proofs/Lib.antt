@@ -1,6 +1,8 @@
 pub mod SpanLemmas
 pub mod PacketLemmas
 pub mod RecordLineLemmas
+pub mod ListedLineLemmas
+pub mod LostSpaceLemmas
 pub mod PlaceLemmas
 pub mod RefsLemmas
 pub mod AdvertisedLineLemmas

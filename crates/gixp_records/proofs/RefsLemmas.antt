@@ -1,5 +1,5 @@
 -- The refs read so far.
-use Rattle.std.proofs.Common.{◌≡◌, ℕ, ◌≤◌, List, [], ◌∷◌, ◌++◌, length, take, drop, refl, sym, ap, ◌∙◌, arith, append_assoc, Ok}
+use Rattle.std.proofs.Common.{◌≡◌, ℕ, ◌≤◌, false, List, [], ◌∷◌, ◌++◌, length, take, drop, refl, sym, ap, ◌∙◌, arith, append_assoc, Ok}
 use Rattle.std.specs.Prelude.{All}
 use Rattle.std.proofs.lemmas.List.{append-nil}
 use Rattle.gixp_packetline.specs.declared.protocol.MessageKind.{MessageKind}
@@ -11,6 +11,9 @@ use Rattle.gixp_refs.specs.Refs.{AreRefs, refs_from, v2_refs, stream_refs}
 use Rattle.gixp_records.specs.declared.refs.RefRecord.{RefRecord}
 use Rattle.gixp_records.specs.declared.refs.RefsRefused.{RefsRefused}
 use Rattle.gixp_records.specs.declared.refs.RefsEnd.TheVariants.{Full, Stop, Refused}
+use Rattle.std.proofs.lemmas.List.Elements.{All-nil, All-push}
+use Rattle.gixp_records.specs.ListedLine.{loses_white_space, listed_v2}
+use Rattle.gixp_records.proofs.ListedLineLemmas.{v2_listed-ok}
 use Rattle.gixp_records.specs.Refs.{refs_in, lines_at, IsRecordWithin, IsRefusedAt, AreLinesTo, ReadsRecords}
 use Rattle.gixp_records.specs.Packets.{pieces_at, IsAfterPacket}
 
@@ -25,19 +28,21 @@ before-append : (xs ys : List (List ℕ)) (rest : Lines) → before (xs ++ ys) r
 before-append xs ys rest = ap (λ l. record { lines = l; ending = rest.ending }) (append_assoc xs ys rest.lines)
 
 pub lines_none : (bytes : List ℕ) (from : ℕ) → from ≤ length bytes → AreLinesTo bytes from from []
-lines_none bytes from h = record { texts = []; lines = refl; refs = tt; in_order = omega arith; within = h }
+lines_none bytes from h = record { texts = []; lines = refl; refs = tt; lossless = All-nil (λ (text : List ℕ). loses_white_space text ≡ false); in_order = omega arith; within = h }
 
 pub lines_more : (bytes : List ℕ) (from at next : ℕ) (values : List RefValue) (text : List ℕ) (value : RefValue)
-    → AreLinesTo bytes from at values → lines_at bytes at ≡ before (text ∷ []) (lines_at bytes next) → v2_line text ≡ Ok value
+    → AreLinesTo bytes from at values → lines_at bytes at ≡ before (text ∷ []) (lines_at bytes next) → listed_v2 text ≡ Ok value
     → IsAfterPacket bytes at next → AreLinesTo bytes from next (values ++ value ∷ [])
 lines_more bytes from at next values text value so e v b =
     let after = b.0 in
     let inside = b.1 in
     let order = so.in_order in
+    let read = v2_listed-ok text value v in
     record {
       texts = so.texts ++ text ∷ [];
       lines = so.lines ∙ ap (before so.texts) e ∙ sym (before-append so.texts (text ∷ []) (lines_at bytes next));
-      refs = refs_more so.texts values text value so.refs v;
+      refs = refs_more so.texts values text value so.refs read.0;
+      lossless = All-push (λ (t : List ℕ). loses_white_space t ≡ false) so.texts text so.lossless read.1;
       in_order = omega arith;
       within = inside;
     }

@@ -8,7 +8,7 @@ use Rattle.gixp_capabilities.specs.Capabilities.{capabilities_of_words}
 use Rattle.gixp_transport.specs.CapabilityAdvertisement.{advertisement, empty_advertisement}
 use Rattle.gixp_refs.specs.Ref.{RefValue}
 use Rattle.gixp_refs.specs.RefLine.{RefsRefusal, refusal_from}
-use Rattle.gixp_refs.specs.RefAdvertisement.{Symref, symref_table, v1_line, end_refusal, groups, in_front}
+use Rattle.gixp_refs.specs.RefAdvertisement.{Symref, symref_table, end_refusal, in_front}
 use Rattle.gixp_records.specs.declared.advertised.AdvertisedEnd.{AdvertisedEnd}
 use Rattle.gixp_records.specs.declared.advertised.AdvertisedEnd.TheVariants.{Full, Stop, Refused}
 use Rattle.gixp_records.specs.declared.advertised.AdvertisedFound.{AdvertisedFound}
@@ -28,24 +28,25 @@ use Rattle.gixp_records.specs.Span.{text_at, IsWithin}
 use Rattle.gixp_records.specs.Packets.{pieces_at, refusal_in, AreWordsWithin, IsAfterPacket}
 use Rattle.gixp_records.specs.Refs.{ref_in, refs_in, IsRecordWithin}
 use Rattle.gixp_records.specs.V1RecordLine.{IsRefusedAs, named_in, line_in, IsAdvertisedWithin}
+use Rattle.gixp_records.specs.ListedLine.{listed_v1, listed_groups}
 use Rattle.gixp_records.specs.RefsOpening.{IsOpening, IsNotOpened, advertised_lines}
 
 -- the line at an offset, the stop, or the error
 abbrev pub IsNextAdvertised : List ℕ → RefsOpening → ℕ → Result NextAdvertised AdvertisedRefused → Type 0
 IsNextAdvertised bytes o at (Ok (Line l next)) = (text : List ℕ)
     × (advertised_lines bytes o at ≡ before (text ∷ []) (advertised_lines bytes o next))
-    × (v1_line text ≡ Ok (line_in bytes l)) × IsAdvertisedWithin bytes l × IsAfterPacket bytes at next
+    × (listed_v1 text ≡ Ok (line_in bytes l)) × IsAdvertisedWithin bytes l × IsAfterPacket bytes at next
 IsNextAdvertised bytes o at (Ok (StopNext next)) = (kind : MessageKind)
     × (advertised_lines bytes o at ≡ no_lines (stop kind (pieces_at bytes next))) × IsAfterPacket bytes at next
 IsNextAdvertised bytes o at (Err (Packet e)) = (advertised_lines bytes o at ≡ no_lines (refusal (refusal_in bytes e)))
     × AreWordsWithin bytes e
 IsNextAdvertised bytes o at (Err (LineRefused e)) = (text : List ℕ) × (rest : Lines)
-    × (advertised_lines bytes o at ≡ before (text ∷ []) rest) × IsRefusedAs (v1_line text) e
+    × (advertised_lines bytes o at ≡ before (text ∷ []) rest) × IsRefusedAs (listed_v1 text) e
 IsNextAdvertised bytes o at (Err _) = ⊥
 
 -- the refs of these lines after a ref line whose peeled line may follow
 abbrev pub refs_of_lines : List Symref → Option NamedLine → List ℕ → Lines → Result (List RefValue) RefsRefusal
-refs_of_lines t last bytes l = groups l.lines (end_refusal l.ending) t (option_map (named_in bytes) last)
+refs_of_lines t last bytes l = listed_groups l.lines (end_refusal l.ending) t (option_map (named_in bytes) last)
 
 -- the refs from an offset on, or the first error
 abbrev pub refs_following : List ℕ → RefsOpening → List Symref → ℕ → Result (List RefValue) RefsRefusal
@@ -65,7 +66,7 @@ pub record IsNextLine (bytes : List ℕ) (o : RefsOpening) (t : List Symref) (r 
   pub scope : IsSymrefScope bytes o t r
   pub text : List ℕ
   pub lines : advertised_lines bytes o r.at ≡ before (text ∷ []) (advertised_lines bytes o next)
-  pub value : v1_line text ≡ Ok (line_in bytes l)
+  pub value : listed_v1 text ≡ Ok (line_in bytes l)
   pub following : IsAfterPacket bytes r.at next
 
 -- the error of reading refs from an offset on

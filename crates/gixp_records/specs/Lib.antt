@@ -2,6 +2,7 @@ pub mod Span
 pub mod Packets
 pub mod Bands
 pub mod RecordLine
+pub mod ListedLine
 pub mod Refs
 pub mod Place
 pub mod V1RecordLine

@@ -1,10 +1,9 @@
 -- The refs of an `ls-refs` response as records (gitprotocol-v2, "ls-refs").
-use Rattle.std.specs.Prelude.{◌≡◌, ◌≢◌, ℕ, ◌==◌, ◌≤◌, if◌then◌else◌, All, List, [], ◌∷◌, length, take, drop, map, replicate, Some, None, Result, Ok, Err}
+use Rattle.std.specs.Prelude.{◌≡◌, ◌≢◌, ℕ, ◌==◌, ◌≤◌, false, if◌then◌else◌, All, List, [], ◌∷◌, length, take, drop, map, replicate, Some, None, Result, Ok, Err}
 use Rattle.gixp_packetline.specs.declared.protocol.MessageKind.{MessageKind}
 use Rattle.gixp_packetline.specs.declared.protocol.Protocol.TheVariants.{V2}
 use Rattle.gixp_packetline.specs.Lines.{Lines, lines_of, no_lines, before, stop, refusal}
 use Rattle.gixp_refs.specs.Ref.{RefValue, direct, peeled, symbolic, unborn}
-use Rattle.gixp_refs.specs.RefLine.{v2_line}
 use Rattle.gixp_refs.specs.Refs.{AreRefs, stream_refs}
 use Rattle.gixp_records.specs.declared.refs.RefRecord.{RefRecord}
 use Rattle.gixp_records.specs.declared.refs.RefsRefused.{RefsRefused}
@@ -17,6 +16,7 @@ use Rattle.gixp_records.specs.declared.refs.NextRef.TheVariants.{Ref, Stop as St
 use Rattle.gixp_records.specs.Span.{text_at, IsWithin}
 use Rattle.gixp_records.specs.Packets.{pieces_at, refusal_in, AreWordsWithin, IsAfterPacket}
 use Rattle.gixp_records.specs.RecordLine.{Judges}
+use Rattle.gixp_records.specs.ListedLine.{loses_white_space, listed_v2}
 
 -- the ref of a record; a record of an unknown kind has an empty name, which no server's ref has
 abbrev pub ref_in : List ℕ → RefRecord → RefValue
@@ -46,21 +46,22 @@ lines_at bytes at = lines_of V2 (pieces_at bytes at)
 -- the error at an offset: the packet line can't be read, or the line is malformed
 abbrev pub IsRefusedAt : List ℕ → ℕ → RefsRefused → Type 0
 IsRefusedAt bytes at (Packet e) = (lines_at bytes at ≡ no_lines (refusal (refusal_in bytes e))) × AreWordsWithin bytes e
-IsRefusedAt bytes at (Line e) = (text : List ℕ) × (rest : Lines) × (lines_at bytes at ≡ before (text ∷ []) rest) × Judges (v2_line text) e
+IsRefusedAt bytes at (Line e) = (text : List ℕ) × (rest : Lines) × (lines_at bytes at ≡ before (text ∷ []) rest) × Judges (listed_v2 text) e
 
 -- the ref at an offset, or the stop, or the error
 abbrev pub IsNextRef : List ℕ → ℕ → Result NextRef RefsRefused → Type 0
 IsNextRef bytes at (Ok (Ref found next)) = (text : List ℕ) × (lines_at bytes at ≡ before (text ∷ []) (lines_at bytes next))
-    × (v2_line text ≡ Ok (ref_in bytes found)) × IsRecordWithin bytes found × IsAfterPacket bytes at next
+    × (listed_v2 text ≡ Ok (ref_in bytes found)) × IsRecordWithin bytes found × IsAfterPacket bytes at next
 IsNextRef bytes at (Ok (StopNext next)) = (kind : MessageKind) × (lines_at bytes at ≡ no_lines (stop kind (pieces_at bytes next)))
     × IsAfterPacket bytes at next
 IsNextRef bytes at (Err e) = IsRefusedAt bytes at e
 
--- the lines from one offset to another are these refs
+-- the lines from one offset to another are these refs, and none of them loses white space
 pub record AreLinesTo (bytes : List ℕ) (from next : ℕ) (values : List RefValue) : Type 0 where
   pub texts : List (List ℕ)
   pub lines : lines_at bytes from ≡ before texts (lines_at bytes next)
   pub refs : AreRefs texts values
+  pub lossless : All (λ text. loses_white_space text ≡ false) texts
   pub in_order : from ≤ next
   pub within : next ≤ length bytes
 

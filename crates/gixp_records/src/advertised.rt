@@ -1,9 +1,18 @@
 //! The refs of an advertisement under version 0 or 1 as records (gitprotocol-pack, "Reference Discovery").
-ghost use Rattle.std.specs.Prelude.{◌≡◌, ◌≤◌, All, length, map};
+ghost use Rattle.std.specs.Prelude.{◌≡◌, ◌≤◌, true, All, length, map};
+ghost use Rattle.gixp_packetline.specs.Lines.{lines_of};
+ghost use Rattle.gixp_transport.specs.CapabilityAdvertisement.{advertisement};
+ghost use Rattle.gixp_packetline.specs.Pieces.{stream_pieces};
+ghost use Rattle.gixp_records.specs.Packets.{pieces_at};
+ghost use Rattle.gixp_records.specs.ListedLine.{lines_lose_white_space, refs_lose_white_space};
+ghost use Rattle.gixp_records.specs.RefsOpening.{cut_lines};
 ghost use Rattle.gixp_records.specs.V1RecordLine.{symref_at, IsSymrefWithin};
 ghost use Rattle.gixp_records.specs.AdvertisedRecords.{ReadsGroups, ReadsAdvertised};
 
+use crate::packets::{NextPacket, next_packet};
 use crate::refs::RefRecord;
+use crate::span::text_at;
+use crate::white_space::{lines_lose_white_space, loses_white_space};
 use std::alloc::Global;
 
 mod groups;
@@ -132,4 +141,36 @@ pub fn read_advertised(
         }
     };
     read_groups(bytes, &opening, &symrefs, from.max(opening.first), records)
+}
+
+// Whether a ref line from the first one on loses white space.
+fn refs_lose_white_space(bytes: &[u8], opening: &RefsOpening) -> bool
+    requires { opening.now.first ≤ length bytes.now }
+    ensures { result ≡ lines_lose_white_space
+        (cut_lines true opening.now.cut (lines_of opening.now.version (pieces_at bytes.now opening.now.first))) }
+{
+    match next_packet(bytes, opening.first) {
+        Ok(NextPacket::Line(line, next)) => {
+            let text = text_at(bytes, line);
+            if loses_white_space(&text[..opening.cut.min(text.len())]) {
+                return true;
+            }
+            lines_lose_white_space(bytes, next)
+        }
+        Ok(NextPacket::Mark(_, _)) => false,
+        Err(_) => false,
+    }
+}
+
+/// Whether a line of the refs of a version 0 or 1 advertisement loses white space outside ASCII at its end, which git allows in names
+/// of refs (gitprotocol-pack, "Reference Discovery"; git-check-ref-format). The capabilities of the first ref line don't count. An
+/// advertisement of another version has no refs. The lines end at the stop, or at an error.
+pub fn advertisement_loses_white_space(bytes: &[u8]) -> bool
+    ensures { result ≡ refs_lose_white_space (advertisement (stream_pieces bytes.now)) }
+{
+    match open_advertisement(bytes) {
+        Ok(Opened::Refs(opening)) => refs_lose_white_space(bytes, &opening),
+        Ok(Opened::Empty(_)) => false,
+        Err(_) => false,
+    }
 }

@@ -12,9 +12,11 @@ mod refs;
 mod span;
 mod spec_text;
 mod spelling;
+mod white_space;
 
 pub use advertised::{
-    AdvertisedEnd, AdvertisedFound, AdvertisedLineRefused, AdvertisedRefused, read_advertised,
+    AdvertisedEnd, AdvertisedFound, AdvertisedLineRefused, AdvertisedRefused,
+    advertisement_loses_white_space, read_advertised,
 };
 pub use bands::{BandPiece, next_piece};
 pub use line::LineRefused;
@@ -26,3 +28,4 @@ pub use refs::{RefRecord, RefsEnd, RefsFound, RefsRefused, read_refs};
 pub use span::Span;
 pub use spec_text::{SpecsRefused, prefix_text, specs_in};
 pub use spelling::spec_lines;
+pub use white_space::list_loses_white_space;

@@ -19,7 +19,7 @@ use gixp_hash::{ObjectId, decode};
 pub enum LineRefused {
     /// The object id is invalid.
     Id,
-    /// The line has no name, or an attribute without a value.
+    /// The line has no name, or an attribute without a value, or white space outside ASCII at its end, which git allows in names.
     Malformed,
     /// The line has an attribute other than `peeled` and `symref-target`.
     UnknownAttribute,

@@ -6,11 +6,13 @@ ghost use Rattle.gixp_packetline.specs.Items.{is_stop};
 ghost use Rattle.gixp_refs.specs.RefLine.{target_of, born, never_born, v2_line};
 ghost use Rattle.gixp_records.specs.Span.{text_at, IsWithin};
 ghost use Rattle.gixp_records.specs.RecordLine.{Judges, attributes_in, AreAttributesWithin, line_ref_value, IsLineWithin};
+ghost use Rattle.gixp_records.specs.ListedLine.{listed_v2};
 ghost use Rattle.gixp_records.specs.Refs.{ref_in, IsRecordWithin, IsNextRef, ReadsRecords};
 
 use crate::line::{LineAttributes, LineRef, LineRefused, is_null, read_line};
 use crate::packets::{NextPacket, PacketRefused, next_packet};
 use crate::span::{Span, text_at};
+use crate::white_space::loses_white_space;
 use gixp_hash::ObjectId;
 use gixp_packetline::MessageKind;
 
@@ -180,8 +182,9 @@ fn record_of(bytes: &[u8], line: LineRef) -> Result<RefRecord, LineRefused>
     }
 }
 
+// The record of a line without the white space at its end.
 #[inline(always)]
-fn line_record(bytes: &[u8], payload: Span) -> Result<RefRecord, LineRefused>
+fn trimmed_record(bytes: &[u8], payload: Span) -> Result<RefRecord, LineRefused>
     requires { IsWithin bytes.now payload }
     ensures value { MatchResult result
         (λ r. v2_line (text_at bytes.now payload) ≡ Ok (ref_in bytes.now r)) (Judges (v2_line (text_at bytes.now payload))) }
@@ -189,6 +192,25 @@ fn line_record(bytes: &[u8], payload: Span) -> Result<RefRecord, LineRefused>
 {
     match read_line(bytes, payload) {
         Ok(line) => record_of(bytes, line),
+        Err(e) => Err(e),
+    }
+}
+
+// The record of a line, which is malformed if it loses white space.
+#[inline(always)]
+fn line_record(bytes: &[u8], payload: Span) -> Result<RefRecord, LineRefused>
+    requires { IsWithin bytes.now payload }
+    ensures value { MatchResult result
+        (λ r. listed_v2 (text_at bytes.now payload) ≡ Ok (ref_in bytes.now r)) (Judges (listed_v2 (text_at bytes.now payload))) }
+    ensures within { IfOk result (IsRecordWithin bytes.now) }
+{
+    match trimmed_record(bytes, payload) {
+        Ok(record) => {
+            if loses_white_space(text_at(bytes, payload)) {
+                return Err(LineRefused::Malformed);
+            }
+            Ok(record)
+        }
         Err(e) => Err(e),
     }
 }

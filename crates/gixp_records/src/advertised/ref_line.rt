@@ -4,11 +4,13 @@ ghost use Rattle.std.specs.List.{list_all};
 ghost use Rattle.gixp_refs.specs.RefLine.{id_value};
 ghost use Rattle.gixp_refs.specs.RefAdvertisement.{line_by_path, plain_line, peeled_line, v1_line};
 ghost use Rattle.gixp_records.specs.Span.{text_at, IsWithin};
+ghost use Rattle.gixp_records.specs.ListedLine.{listed_v1};
 ghost use Rattle.gixp_records.specs.V1RecordLine.{IsRefusedAs, line_in, IsAdvertisedWithin};
 
 use crate::advertised::refused::AdvertisedLineRefused;
 use crate::line::{id_in, trimmed};
 use crate::span::{Span, cut_at, text_at};
+use crate::white_space::loses_white_space;
 use gixp_hash::ObjectId;
 
 #[derive(Clone, Copy)]
@@ -105,11 +107,9 @@ fn read_path(bytes: &[u8], left: Span, path: Span) -> Result<AdvertisedLine, Adv
     }
 }
 
+// Reads a line without the white space at its end.
 #[inline(always)]
-pub(crate) fn read_advertised_line(
-    bytes: &[u8],
-    line: Span,
-) -> Result<AdvertisedLine, AdvertisedLineRefused>
+fn read_trimmed_line(bytes: &[u8], line: Span) -> Result<AdvertisedLine, AdvertisedLineRefused>
     requires { IsWithin bytes.now line }
     ensures value { MatchResult result
         (λ l. v1_line (text_at bytes.now line) ≡ Ok (line_in bytes.now l)) (IsRefusedAs (v1_line (text_at bytes.now line))) }
@@ -124,5 +124,27 @@ pub(crate) fn read_advertised_line(
             read_path(bytes, left, path)
         }
         None => Err(AdvertisedLineRefused::Malformed),
+    }
+}
+
+// Reads a line, which is malformed if it loses white space.
+#[inline(always)]
+pub(crate) fn read_advertised_line(
+    bytes: &[u8],
+    line: Span,
+) -> Result<AdvertisedLine, AdvertisedLineRefused>
+    requires { IsWithin bytes.now line }
+    ensures value { MatchResult result
+        (λ l. listed_v1 (text_at bytes.now line) ≡ Ok (line_in bytes.now l)) (IsRefusedAs (listed_v1 (text_at bytes.now line))) }
+    ensures within { IfOk result (IsAdvertisedWithin bytes.now) }
+{
+    match read_trimmed_line(bytes, line) {
+        Ok(found) => {
+            if loses_white_space(text_at(bytes, line)) {
+                return Err(AdvertisedLineRefused::Malformed);
+            }
+            Ok(found)
+        }
+        Err(e) => Err(e),
     }
 }

@@ -23,7 +23,7 @@ pub enum AdvertisedRefused {
 pub enum AdvertisedLineRefused {
     /// The object id is invalid.
     Id,
-    /// The line has no name.
+    /// The line has no name, or white space outside ASCII at its end, which git allows in names.
     Malformed,
     /// A peeled line doesn't follow the ref line of its name, or that ref is symbolic.
     Peeled,

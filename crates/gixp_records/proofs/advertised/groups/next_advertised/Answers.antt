@@ -1,6 +1,6 @@
 use Rattle.std.proofs.Common.{◌==◌, sym, ap, ◌∙◌}
-use Rattle.gixp_refs.specs.RefAdvertisement.{v1_line}
 use Rattle.gixp_records.specs.Span.{text_at}
+use Rattle.gixp_records.specs.ListedLine.{listed_v1}
 use Rattle.gixp_records.specs.RefsOpening.{advertised_lines}
 use Rattle.gixp_records.proofs.AdvertisedLineLemmas.{refused_same}
 use Rattle.gixp_records.proofs.AdvertisedLemmas.{shown_text, shown_at, line_comes}
@@ -18,5 +18,5 @@ returns-in-Err-read_advertised_line c =
       shown_text (at == o.first) o.cut text,
       advertised_lines bytes o c.in-Ok-Line.next,
       line_comes bytes o at c.in-Ok-Line.next text c.requires.first received.3.0 received.0,
-      refused_same _ _ c.in-Err-read_advertised_line.e (ap v1_line (sym cut)) c.in-Err-read_advertised_line.ensures.value,
+      refused_same _ _ c.in-Err-read_advertised_line.e (ap listed_v1 (sym cut)) c.in-Err-read_advertised_line.ensures.value,
     )
