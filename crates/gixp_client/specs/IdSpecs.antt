@@ -1,19 +1,9 @@
 -- Refspecs that name objects by their ids. For these git lists no refs (git-fetch, "<refspec>").
-use Rattle.std.specs.Prelude.{◌≡◌, ◌&&◌, ◌==◌, not, Bool, true, false, List, [], length, Option, Some, None, is_some, Vec}
-use Rattle.std.specs.List.{list_all}
+use Rattle.std.specs.Prelude.{◌≡◌, Bool, true, false, [], Option, Some, None, Vec}
 use Rattle.std.specs.declared.alloc.Global.{Global}
-use Rattle.gixp_hash.specs.ObjectId.{id_of}
 use Rattle.gixp_refs.specs.declared.handshake.Ref.{Ref}
-use Rattle.gixp_refspec.specs.Spec.{Spec}
+use Rattle.gixp_refspec.specs.ById.{name_ids}
 use Rattle.gixp_refmap.specs.Values.{ContextValue}
-
--- the source is an object id
-abbrev pub is_by_id : Spec → Bool
-is_by_id spec = is_some (id_of spec.source)
-
--- no refspec names a ref: the request has refspecs, there are no others, and each source is an object id
-abbrev pub name_ids : (explicit extra : List Spec) → Bool
-name_ids explicit extra = not (length explicit == 0) && length extra == 0 && list_all is_by_id explicit
 
 abbrev pub are_ids : ContextValue → Bool
 are_ids c = name_ids c.explicit c.extra

@@ -1,7 +1,5 @@
 -- The request of a session (git-fetch, "OPTIONS").
-use Rattle.std.specs.Prelude.{◌≡◌, ◌==◌, ◌||◌, ℕ, nat_eq, ⊤, Bool, true, false, if◌then◌else◌, List, [], ◌∷◌, ◌++◌, drop, codes, Some, None, Ok, Err, String, string_bytes}
-use Rattle.std.specs.List.{starts_with}
-use Rattle.std.specs.Str.{bytes_eq}
+use Rattle.std.specs.Prelude.{◌≡◌, ℕ, ⊤, true, false, List, [], ◌∷◌, ◌++◌, Some, None, Ok, Err, String, string_bytes}
 use Rattle.std.specs.declared.alloc.Global.{Global}
 use Rattle.bstr.specs.Owned.{bstring_bytes}
 use Rattle.gixp_shallow.specs.declared.shallow.Shallow.TheVariants.{NoChange}
@@ -10,6 +8,7 @@ use Rattle.gixp_refmap.specs.declared.fetch.Tags.TheVariants.{Included}
 use Rattle.gixp_refspec.specs.declared.spec.RefSpec.{RefSpec}
 use Rattle.gixp_refspec.specs.RefSpec.{owned_value_of}
 use Rattle.gixp_refspec.specs.Spec.{spec_of}
+use Rattle.gixp_refspec.specs.Spelling.{spelled}
 use Rattle.gixp_client.specs.declared.tables.UriProtocols.TheVariants.{Neither}
 use Rattle.gixp_client.specs.declared.error.Error.{Error}
 use Rattle.gixp_client.specs.declared.error.Error.TheVariants as error
@@ -28,23 +27,6 @@ pub record IsDefaultRequest (r : Request) : Type 0 where
   pub wants_progress : r.wants_progress ≡ true
   pub wants_thin_pack : r.wants_thin_pack ≡ true
   pub without_uris : r.uri_protocols ≡ Neither
-
--- a refspec without its sign whose source is `@` alone
-abbrev pub has_at : List ℕ → Bool
-has_at body = bytes_eq body (codes "@") || starts_with nat_eq body (codes "@:")
-
--- this source means `HEAD` (gitrevisions, "@")
-abbrev pub with_head : List ℕ → List ℕ
-with_head body = if has_at body then codes "HEAD" ++ drop 1 body else body
-
--- the sign of a refspec: `+` or `^`
-abbrev pub is_sign : ℕ → Bool
-is_sign b = b == 43 || b == 94
-
--- the text of a refspec, with `HEAD` for a source that is `@` alone
-abbrev pub spelled : List ℕ → List ℕ
-spelled [] = []
-spelled (b ∷ body) = if is_sign b then b ∷ with_head body else with_head (b ∷ body)
 
 -- the refspec of this text is appended
 pub record AddsSpec (text : List ℕ) (old new : Request) : Type 0 where

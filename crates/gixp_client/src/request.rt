@@ -1,11 +1,10 @@
 //! The request of a client.
-ghost use Rattle.std.specs.Prelude.{◌≡◌, ◌++◌, IfOk, IfErr, OnOk, OnErr, map};
+ghost use Rattle.std.specs.Prelude.{◌≡◌, IfOk, IfErr, OnOk, OnErr, map};
 ghost use Rattle.gixp_refspec.specs.RefSpec.{owned_value_of};
 ghost use Rattle.gixp_refmap.specs.Tags.{tags_asked};
 ghost use Rattle.gixp_refmap.specs.Values.{context_value};
 ghost use Rattle.gixp_requests.specs.Command.{table_of};
 ghost use Rattle.gixp_client.specs.ClientCalls.{some_spec};
-ghost use Rattle.gixp_client.specs.Requests.{has_at, with_head, spelled};
 ghost use Rattle.gixp_client.specs.Tables.{asked_table};
 
 use crate::error::Error;
@@ -16,6 +15,7 @@ use gixp_refmap::fetch::Tags;
 use gixp_refmap::refmap::init;
 use gixp_refspec::RefSpec;
 use gixp_refspec::parse::{Operation, parse};
+use gixp_refspec::spelling::spelled;
 use gixp_requests::command::CommandTable;
 use gixp_shallow::Shallow;
 use std::alloc::{AllocError, Global};
@@ -138,41 +138,6 @@ impl Request {
             extra_refspecs,
         })
     }
-}
-
-// Whether the source of a refspec without its sign is `@` alone.
-fn has_at(body: &[u8]) -> bool
-    ensures { result ≡ has_at body.now }
-{
-    body == b"@".as_slice() || body.starts_with(b"@:")
-}
-
-// Appends a refspec without its sign, with `HEAD` for a source that is `@` alone.
-fn push_with_head(text: &mut Vec<u8>, body: &[u8]) -> Result<(), AllocError>
-    ensures { OnOk result (text.new.items ≡ text.old.items ++ with_head body.now) }
-{
-    match body {
-        [_, rest @ ..] if has_at(body) => {
-            text.extend_from_slice(b"HEAD")?;
-            text.extend_from_slice(rest)
-        }
-        _ => text.extend_from_slice(body),
-    }
-}
-
-// The text of a refspec with `HEAD` for a source that is `@` alone.
-fn spelled(alloc: Global, text: &[u8]) -> Result<Vec<u8>, AllocError>
-    ensures { IfOk result (λ t. t.items ≡ spelled text.now) }
-{
-    let mut spelled = Vec::new(alloc);
-    match text {
-        [sign @ (b'+' | b'^'), body @ ..] => {
-            spelled.push(*sign)?;
-            push_with_head(&mut spelled, body)?;
-        }
-        _ => push_with_head(&mut spelled, text)?,
-    }
-    Ok(spelled)
 }
 
 fn copied_specs(specs: &Vec<RefSpec>) -> Result<Vec<RefSpec>, AllocError>

@@ -5,3 +5,4 @@ pub mod MatchLemmas
 pub mod PrefixLemmas
 pub mod CoverLemmas
 pub mod StarLemmas
+pub mod IdLemmas

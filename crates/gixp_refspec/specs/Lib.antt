@@ -7,3 +7,5 @@ pub mod PartialName
 pub mod Matching
 pub mod Texts
 pub mod Needle
+pub mod Spelling
+pub mod ById

@@ -2,6 +2,7 @@
 //! and their prefixes for `ls-refs`. The mappings of a list of refspecs are in `gixp_matching`.
 #![tactic(auto)]
 
+pub mod by_id;
 pub mod instruction;
 pub mod name;
 pub mod needle;
@@ -9,6 +10,7 @@ pub mod parse;
 mod prefixes;
 mod same;
 pub mod spec;
+pub mod spelling;
 pub mod text;
 
 pub use instruction::Instruction;

@@ -1,5 +1,5 @@
-use Rattle.gixp_client.proofs.SpecLemmas.{ids_by}
-use Rattle.gixp_client.proofs.by_id.name_ids.Goals as goal
+use Rattle.gixp_refspec.proofs.IdLemmas.{ids_by}
+use Rattle.gixp_refspec.proofs.by_id.name_ids.Goals as goal
 
 pub returns : goal.returns
 returns c =
