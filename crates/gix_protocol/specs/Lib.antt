@@ -185,7 +185,10 @@ pub use Rattle.gixp_utils.specs.Lines as TextLines
 pub use Rattle.gixp_negotiators.specs.WaitingLaws as NegotiatorWaitingLaws
 pub use Rattle.gixp_memory.specs.Text as RepositoryText
 pub use Rattle.gixp_memory.specs.Repository
+pub use Rattle.gixp_reachable.specs.Ids
 pub use Rattle.gixp_reachable.specs.Reachable
+pub use Rattle.gixp_reachable.specs.Reached
+pub use Rattle.gixp_reachable.specs.declared.reached.Reached as ReachedType
 pub use Rattle.gixp_packetline.specs.ServerMessage
 pub use Rattle.gixp_packetline.specs.ReadAhead
 pub use Rattle.gixp_capabilities.specs.ClientMessage
@@ -334,6 +337,7 @@ pub use Rattle.gixp_client.specs.Clashes
 pub use Rattle.gixp_client.specs.ClientMaps
 pub use Rattle.gixp_client.specs.ClientNames
 pub use Rattle.gixp_client.specs.ClientPromise
+pub use Rattle.gixp_client.specs.Doubted
 pub use Rattle.gixp_client.specs.Filters
 pub use Rattle.gixp_client.specs.FirstArguments
 pub use Rattle.gixp_client.specs.IdSpecs

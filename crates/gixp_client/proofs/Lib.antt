@@ -3,7 +3,6 @@ pub mod RunLemmas
 pub mod CloneLemmas
 pub mod ShownLemmas
 pub mod ChangeLemmas
-pub mod BoundaryLemmas
 pub mod MapLemmas
 pub mod SpecLemmas
 pub mod ArgumentLemmas

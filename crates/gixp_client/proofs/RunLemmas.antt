@@ -31,7 +31,7 @@ use Rattle.gixp_fetch.specs.declared.error.Error.TheVariants.{Memory}
 use Rattle.gixp_fetch.specs.Mapped.{Knowledge}
 use Rattle.gixp_client.specs.SentTags.{sent_tags}
 use Rattle.gixp_client.specs.Tables.{asked_table}
-use Rattle.gixp_client.specs.Boundaries.{has_id}
+use Rattle.gixp_reachable.specs.Ids.{has_id}
 use Rattle.gixp_client.specs.Unshallowed.{unknown_id, unknown_unshallow, unless_taken, known_alone}
 use Rattle.gixp_client.specs.ClientCalls.{SessionCall, CheckedNegotiation, session_call, ReportsKnown, CarriesFetch, HoldsFetch, FetchesMap, FetchesInSession}
 use Rattle.gixp_client.specs.declared.request.Request.{Request}
@@ -122,17 +122,17 @@ tells_alike converts f g first last received report report' same e t = record {
 -- a fetch that starts from this boundary, and its result
 pub in_session : {N I A C P X : Type 0} (parties : Parties (CheckedNegotiation N) I A ShallowMemory C P X)
     (converts : X → Error → Type 0) (map_of : CheckedNegotiation N → RefMap) (knows : CheckedNegotiation N → Knowledge)
-    (shaken : Handshake) (request : Request) (made : RefMap) (known : Knowledge)
+    (shaken : Handshake) (request : Request) (made : RefMap) (known known' : Knowledge)
     (is_in : ObjectId → Bool) (boundary boundary' : List ObjectId) (old : Reading) (consumer : C)
     (report report' : Result (Option Outcome) Error) (new new' : Reading) (consumer' : C) (store store' : ShallowMemory)
-    (agent agent' : FeatureValue) (more more' : List FeatureValue) → store.ids.items ≡ boundary → store.locked ≡ false → store'.ids.items ≡ boundary'
+    (agent agent' : FeatureValue) (more more' : List FeatureValue) → known ≡ known' → store.ids.items ≡ boundary → store.locked ≡ false → store'.ids.items ≡ boundary'
     → agent ≡ agent' → more ≡ more' → report ≡ report' → new ≡ new'
     → ((id : ObjectId) → is_in id ≡ has_id boundary id)
     → FetchesMap parties converts map_of knows (session_call shaken agent more request) made known is_in old store consumer report new store' consumer'
-    → FetchesInSession parties converts map_of knows (session_call shaken agent' more' request) made known boundary boundary' old
+    → FetchesInSession parties converts map_of knows (session_call shaken agent' more' request) made known' boundary boundary' old
     consumer report' new' consumer'
-in_session parties converts map_of knows shaken request made known is_in boundary boundary' old consumer report report' new new' consumer' store store'
-    agent agent' more more' before unlocked after named message_text reports position same f = record {
+in_session parties converts map_of knows shaken request made known known' is_in boundary boundary' old consumer report report' new new' consumer' store store'
+    agent agent' more more' knowing before unlocked after named message_text reports position same f = record {
       store = store;
       store' = store';
       before = before;
@@ -142,7 +142,7 @@ in_session parties converts map_of knows shaken request made known is_in boundar
         first = f.first;
         last = f.last;
         negotiates = f.negotiates;
-        knowing = f.knowing;
+        knowing = f.knowing ∙ knowing;
         limited = f.limited;
         filtered = f.filtered;
         received = f.received;
@@ -160,23 +160,23 @@ in_session parties converts map_of knows shaken request made known is_in boundar
 -- the same for a failed fetch, and the state after it
 pub refused_in_session : {N I A C P X : Type 0} (parties : Parties (CheckedNegotiation N) I A ShallowMemory C P X)
     (converts : X → Error → Type 0) (map_of : CheckedNegotiation N → RefMap) (knows : CheckedNegotiation N → Knowledge)
-    (shaken : Handshake) (request : Request) (made : RefMap) (known : Knowledge)
+    (shaken : Handshake) (request : Request) (made : RefMap) (known known' : Knowledge)
     (is_in : ObjectId → Bool) (boundary boundary' : List ObjectId) (old : Reading) (consumer : C)
     (report : Result (Option Outcome) Error) (new new' : Reading) (consumer' : C) (store store' : ShallowMemory)
     (agent agent' : FeatureValue) (more more' : List FeatureValue) (version : Protocol)
-    (e : Error) (state : State) (held kept : Handshake) → store.ids.items ≡ boundary → store.locked ≡ false → store'.ids.items ≡ boundary'
+    (e : Error) (state : State) (held kept : Handshake) → known ≡ known' → store.ids.items ≡ boundary → store.locked ≡ false → store'.ids.items ≡ boundary'
     → agent ≡ agent' → more ≡ more' → new ≡ new'
     → ((id : ObjectId) → is_in id ≡ has_id boundary id)
     → (f : FetchesMap parties converts map_of knows (session_call shaken agent more request) made known is_in old store consumer report new store'
     consumer') → IsRefusedFetch f.last.negotiated version report e state → (f.last.negotiated ≡ false → kept ≡ held)
-    → (s : FetchesInSession parties converts map_of knows (session_call shaken agent' more' request) made known boundary boundary' old
+    → (s : FetchesInSession parties converts map_of knows (session_call shaken agent' more' request) made known' boundary boundary' old
     consumer report new' consumer') × IsRefusedFetch s.fetches.last.negotiated version report e state
     × (s.fetches.last.negotiated ≡ false → kept ≡ held)
 unfolding in_session
-refused_in_session parties converts map_of knows shaken request made known is_in boundary boundary' old consumer report new new' consumer' store
-    store' agent agent' more more' version e state held kept before unlocked after named message_text position same f h k = (
-      in_session parties converts map_of knows shaken request made known is_in boundary boundary' old consumer report report new new' consumer'
-          store store' agent agent' more more' before unlocked after named message_text refl position same f,
+refused_in_session parties converts map_of knows shaken request made known known' is_in boundary boundary' old consumer report new new' consumer' store
+    store' agent agent' more more' version e state held kept knowing before unlocked after named message_text position same f h k = (
+      in_session parties converts map_of knows shaken request made known known' is_in boundary boundary' old consumer report report new new' consumer'
+          store store' agent agent' more more' knowing before unlocked after named message_text refl position same f,
       h,
       k,
     )

@@ -6,7 +6,7 @@ use Rattle.std.specs.List.{list_all}
 use Rattle.gixp_hash.specs.declared.object_id.ObjectId.{ObjectId}
 use Rattle.gixp_shallow.specs.declared.update.ShallowUpdate.{ShallowUpdate}
 use Rattle.gixp_shallow.specs.declared.update.ShallowUpdate.TheVariants.{Shallow, Unshallow}
-use Rattle.gixp_client.specs.Boundaries.{has_id}
+use Rattle.gixp_reachable.specs.Ids.{has_id}
 use Rattle.gixp_client.specs.Unshallowed.{unknown_unshallow, TakesKnown, is_known, KnowsAll}
 use Rattle.gixp_packetline.specs.declared.protocol.Protocol.{Protocol}
 use Rattle.gixp_fetch.specs.declared.options.Outcome.{Outcome}

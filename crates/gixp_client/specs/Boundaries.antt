@@ -1,16 +1,11 @@
 -- The shallow boundary after a fetch (gitprotocol-pack, "Packfile Negotiation").
 use Rattle.std.specs.Prelude.{◌≡◌, Bool, true, false, not, List, [], ◌∷◌, ◌++◌, map, filter}
-use Rattle.std.specs.List.{list_any}
-use Rattle.std.specs.Ordering.{eq_by_cmp}
-use Rattle.gixp_hash.specs.ObjectId.{id_cmp}
 use Rattle.gixp_hash.specs.declared.object_id.ObjectId.{ObjectId}
+use Rattle.gixp_reachable.specs.Ids.{has_id}
 use Rattle.gixp_shallow.specs.declared.update.ShallowUpdate.{ShallowUpdate}
 use Rattle.gixp_shallow.specs.declared.update.ShallowUpdate.TheVariants.{Shallow, Unshallow}
 use Rattle.gixp_shallow.specs.Boundary.{boundary}
 use Rattle.gixp_client.specs.declared.boundary.Boundary.{Boundary}
-
-abbrev pub has_id : List ObjectId → ObjectId → Bool
-has_id ids id = list_any (λ had. eq_by_cmp id_cmp had id) ids
 
 -- the ids that `others` doesn't have
 abbrev pub ids_beyond : List ObjectId → List ObjectId → List ObjectId

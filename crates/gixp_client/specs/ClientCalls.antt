@@ -37,7 +37,7 @@ use Rattle.gixp_fetch.specs.declared.error.Error.{Error as FetchError}
 use Rattle.gixp_fetch.specs.Fetch.{World, Parties}
 use Rattle.gixp_fetch.specs.Fetched.{FetchCall, Fetches, call_of, unlocked_world}
 use Rattle.gixp_fetch.specs.Mapped.{Knowledge}
-use Rattle.gixp_client.specs.Boundaries.{has_id}
+use Rattle.gixp_reachable.specs.Ids.{has_id}
 use Rattle.gixp_client.specs.Unshallowed.{known_alone}
 use Rattle.gixp_client.specs.ClientError.{IsReportOf, of_request, of_shake}
 use Rattle.gixp_client.specs.IdSpecs.{are_ids, SeesRefs}

@@ -26,6 +26,9 @@ use Rattle.gixp_negotiate.specs.declared.negotiate.Error.{Error as NegotiateErro
 use Rattle.gixp_negotiate.specs.declared.negotiate.Error.TheVariants as negotiation
 use Rattle.gixp_client.specs.declared.consumer.PackError.{PackError}
 use Rattle.gixp_client.specs.declared.consumer.PackError.TheVariants as pack
+use Rattle.gixp_graph.specs.declared.objects.ObjectError.{ObjectError}
+use Rattle.gixp_graph.specs.declared.objects.ObjectError.TheVariants as object
+use Rattle.gixp_graph.specs.declared.refs.RefStoreError.{RefStoreError}
 use Rattle.gixp_graph.specs.declared.refs.RefStoreError.TheVariants as refs
 use Rattle.gixp_fetch.specs.declared.consume.copy.CopyError.{CopyError}
 use Rattle.gixp_fetch.specs.declared.consume.copy.CopyError.TheVariants as copy
@@ -127,6 +130,15 @@ of_init (init.MappingValidation e) = Conflicts e
 of_init (init.ListRefs e) = of_list e
 of_init init.Memory = Memory
 
+-- the error of a failed read of an object, and of the refs of the repository
+abbrev pub of_object : ObjectError → Error
+of_object object.Memory = Memory
+of_object e = Objects e
+
+abbrev pub of_ref_store : RefStoreError → Error
+of_ref_store refs.Memory = Memory
+of_ref_store e = LocalRefs e
+
 -- the error of a negotiation
 abbrev pub of_negotiation : {A : Type 0} → NegotiateError A → Error
 of_negotiation (negotiation.NegotiationFailed rounds) = Unnegotiated rounds
@@ -167,10 +179,13 @@ IsReportOf converts (fetch.ReadRemainingBytes x) e = e ≡ Rest x
 IsReportOf converts fetch.Memory e = e ≡ Memory
 
 -- the error of a fetch that failed before anything was sent, in this state of the session: the session is over; or the request has a
--- filter, which the server doesn't offer; or an allocation failed
+-- filter, which the server doesn't offer; or the repository, whose objects the request doesn't trust, couldn't be read; or an
+-- allocation failed
 abbrev pub IsUnsent : State → FetchRequest → ServerGreeting → Error → Type 0
 IsUnsent state request shaken Over = state ≢ AtStop
 IsUnsent state request shaken (MissingFeature feature) =
     (string_bytes feature ≡ codes "filter") × (request.filter ≢ None) × (offers_filter shaken ≡ false)
+IsUnsent state request shaken (Objects e) = request.trusts_objects ≡ false
+IsUnsent state request shaken (LocalRefs e) = request.trusts_objects ≡ false
 IsUnsent state request shaken Memory = ⊤
 IsUnsent state request shaken _ = ⊥

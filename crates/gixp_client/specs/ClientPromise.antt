@@ -14,7 +14,7 @@ use Rattle.gixp_fetch.specs.Fetch.{Parties}
 use Rattle.gixp_fetch.specs.Fetched.{unlocked_world}
 use Rattle.gixp_fetch.specs.Mapped.{Knowledge}
 use Rattle.gixp_fetch.specs.Headline.{Run, Promise}
-use Rattle.gixp_client.specs.Boundaries.{has_id}
+use Rattle.gixp_reachable.specs.Ids.{has_id}
 use Rattle.gixp_client.specs.ClientCalls.{CheckedNegotiation, OpensSession, MapsInSession, FetchesInSession, asked_specs, session_call, ReportsKnown}
 use Rattle.gixp_client.specs.IdSpecs.{are_ids}
 use Rattle.gixp_client.specs.declared.error.Error.{Error}

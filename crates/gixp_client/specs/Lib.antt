@@ -4,6 +4,7 @@ pub mod SentTags
 pub mod IdSpecs
 pub mod Unshallowed
 pub mod Filters
+pub mod Doubted
 pub mod ClientError
 pub mod ErrorClasses
 pub mod Clashes

@@ -26,6 +26,7 @@ pub record IsDefaultRequest (r : Request) : Type 0 where
   pub stops : r.goes_on ≡ false
   pub wants_progress : r.wants_progress ≡ true
   pub wants_thin_pack : r.wants_thin_pack ≡ true
+  pub checks_objects : r.trusts_objects ≡ false
   pub without_uris : r.uri_protocols ≡ Neither
 
 -- the refspec of this text is appended

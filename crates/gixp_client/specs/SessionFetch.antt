@@ -5,6 +5,7 @@ use Rattle.gixp_hash.specs.declared.object_id.ObjectId.{ObjectId}
 use Rattle.gixp_graph.specs.Object.{Objects}
 use Rattle.gixp_negotiate.specs.Marking.{LocalRefs}
 use Rattle.gixp_refmap.specs.declared.refmap.map.RefMap.{RefMap}
+use Rattle.gixp_reachable.specs.Reached.{IsReached}
 use Rattle.gixp_shallow.specs.declared.store.memory.ShallowMemory.{ShallowMemory}
 use Rattle.gixp_fetch.specs.Fetch.{Parties}
 use Rattle.gixp_fetch.specs.FetchShallow.{shallow_value, is_change}
@@ -13,6 +14,7 @@ use Rattle.gixp_fetch.specs.declared.options.Outcome.{Outcome}
 use Rattle.gixp_client.specs.Boundaries.{IsLeftBoundary, IsBoundaryAfter}
 use Rattle.gixp_client.specs.ClientCalls.{CheckedNegotiation, session_call, session_knowledge, FetchesInSession}
 use Rattle.gixp_client.specs.ClientError.{IsUnsent}
+use Rattle.gixp_client.specs.Doubted.{doubted}
 use Rattle.gixp_client.specs.ClientNames.{client_feature, named_by, id_features}
 use Rattle.gixp_client.specs.ClientPromise.{IsRunOrIds}
 use Rattle.gixp_client.specs.SessionStates.{IsRefusedFetch}
@@ -24,42 +26,46 @@ use Rattle.gixp_client.specs.declared.session.Session.{Session}
 module _ {N I A C P X T L S : Type 0} (parties : Parties (CheckedNegotiation N) I A ShallowMemory C P X)
     (converts : X → Error → Type 0) (map_of : CheckedNegotiation N → RefMap) (knows : CheckedNegotiation N → Knowledge)
     (reading : T → Reading) where
-  -- a session fetches the refs of a map into a repository with these objects, refs and shallow boundary, with this result
-  abbrev pub FetchesRefs : RefMap → Request → Objects → LocalRefs → (boundary boundary' : List ObjectId) → (old new : Session T L P S)
-      → (consumer consumer' : C) → Result (Option Outcome) Error → Type 0
-  FetchesRefs map request objects refs boundary boundary' old new consumer consumer' report =
-      FetchesInSession parties converts map_of knows
-      (session_call old.shaken (named_by old.name) (id_features old.shaken.capabilities old.name.session_id) request) map
-      (session_knowledge request objects refs) boundary boundary' (reading old.transport.inner) consumer report
-      (reading new.transport.inner) consumer'
+  -- a session fetches the refs of a map into a repository with these objects, refs, ids that the refs peel to and shallow boundary,
+  -- with this result
+  pub record FetchesRefs (map : RefMap) (request : Request) (objects : Objects) (refs : LocalRefs) (tips boundary boundary' : List ObjectId)
+      (old new : Session T L P S) (consumer consumer' : C) (report : Result (Option Outcome) Error) : Type 0 where
+    -- the objects that the fetch takes as complete
+    pub reached : Objects
+    pub reaches : IsReached objects tips (doubted request.trusts_objects objects refs map.mappings.items) reached
+    pub call : FetchesInSession parties converts map_of knows
+        (session_call old.shaken (named_by old.name) (id_features old.shaken.capabilities old.name.session_id) request) map
+        (session_knowledge request reached refs) boundary boundary' (reading old.transport.inner) consumer report
+        (reading new.transport.inner) consumer'
 
   -- the fetch succeeded; if the map is empty, nothing was sent
-  abbrev pub FetchSucceedsInSession : RefMap → Request → Objects → LocalRefs → List ObjectId → (old new : Session T L P S) → (consumer consumer' : C)
+  abbrev pub FetchSucceedsInSession : RefMap → Request → Objects → LocalRefs → (tips boundary : List ObjectId) → (old new : Session T L P S) → (consumer consumer' : C)
       → Fetched → Type 0
-  FetchSucceedsInSession map request objects refs boundary old new consumer consumer' f =
+  FetchSucceedsInSession map request objects refs tips boundary old new consumer consumer' f =
       ((map.mappings.items ≡ []) × (f.outcome ≡ None) × (new ≡ old) × (consumer' ≡ consumer) × IsLeftBoundary boundary [] [] f.boundary)
       ⊎ ((after : List ObjectId)
-      × FetchesRefs map request objects refs boundary after old new consumer consumer' (Ok f.outcome)
+      × FetchesRefs map request objects refs tips boundary after old new consumer consumer' (Ok f.outcome)
       × IsBoundaryAfter (is_change (shallow_value request.shallow)) boundary after f.boundary)
 
   -- the fetch failed before anything was sent, or as its state says; without a negotiated round the handshake is unchanged
-  abbrev pub FetchFailsInSession : RefMap → Request → Objects → LocalRefs → List ObjectId → (old new : Session T L P S) → (consumer consumer' : C)
+  abbrev pub FetchFailsInSession : RefMap → Request → Objects → LocalRefs → (tips boundary : List ObjectId) → (old new : Session T L P S) → (consumer consumer' : C)
       → Error → Type 0
-  FetchFailsInSession map request objects refs boundary old new consumer consumer' e =
+  FetchFailsInSession map request objects refs tips boundary old new consumer consumer' e =
       (IsUnsent old.state request old.shaken e × (new ≡ old) × (consumer' ≡ consumer))
       ⊎ ((report : Result (Option Outcome) Error) × (after : List ObjectId)
-      × (f : FetchesRefs map request objects refs boundary after old new consumer consumer' report)
-      × IsRefusedFetch f.fetches.last.negotiated old.shaken.server_protocol_version report e new.state
-      × (f.fetches.last.negotiated ≡ false → new.shaken ≡ old.shaken))
+      × (f : FetchesRefs map request objects refs tips boundary after old new consumer consumer' report)
+      × IsRefusedFetch f.call.fetches.last.negotiated old.shaken.server_protocol_version report e new.state
+      × (f.call.fetches.last.negotiated ≡ false → new.shaken ≡ old.shaken))
 
 module _ {N I A C P X T : Type 0} (parties : Parties (CheckedNegotiation N) I A ShallowMemory C P X)
     (converts : X → Error → Type 0) (map_of : CheckedNegotiation N → RefMap) (knows : CheckedNegotiation N → Knowledge)
     (reading : T → Reading) where
   -- a session with one fetch is one run of the law `headline`, or fetched ids without a list of refs; if the map is empty, there was
   -- no fetch
-  abbrev pub FetchesOnce : List ℕ → Request → Objects → LocalRefs → List ObjectId → T → (consumer consumer' : C) → RefMap × Fetched → Type 0
-  FetchesOnce agent request objects refs boundary transport consumer consumer' received =
+  abbrev pub FetchesOnce : List ℕ → Request → Objects → LocalRefs → (tips boundary : List ObjectId) → T → (consumer consumer' : C) → RefMap × Fetched → Type 0
+  FetchesOnce agent request objects refs tips boundary transport consumer consumer' received =
       ((received.0.mappings.items ≡ []) × (received.1.outcome ≡ None) × (consumer' ≡ consumer))
-      ⊎ ((end : Reading)
+      ⊎ ((reached : Objects) × (end : Reading)
+      × IsReached objects tips (doubted request.trusts_objects objects refs received.0.mappings.items) reached
       × IsRunOrIds parties converts map_of knows (client_feature agent) [] request (reading transport) received.0
-      (session_knowledge request objects refs) boundary consumer (Ok received.1.outcome) end consumer')
+      (session_knowledge request reached refs) boundary consumer (Ok received.1.outcome) end consumer')

@@ -7,7 +7,7 @@ use Rattle.gixp_shallow.specs.declared.update.ShallowUpdate.{ShallowUpdate}
 use Rattle.gixp_shallow.specs.declared.update.ShallowUpdate.TheVariants.{Shallow, Unshallow}
 use Rattle.gixp_response.specs.Answer.{AnswerValue}
 use Rattle.gixp_fetch.specs.declared.options.Outcome.{Outcome}
-use Rattle.gixp_client.specs.Boundaries.{has_id}
+use Rattle.gixp_reachable.specs.Ids.{has_id}
 use Rattle.gixp_client.specs.declared.error.Error.{Error}
 use Rattle.gixp_client.specs.declared.error.Error.TheVariants.{UnknownUnshallow}
 

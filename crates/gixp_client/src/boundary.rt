@@ -1,15 +1,11 @@
 //! The shallow boundary after a fetch.
-ghost use Rattle.std.specs.Prelude.{◌≡◌, ◌||◌, [], IfOk, OnOk};
-ghost use Rattle.std.specs.BTreeSet.{contains};
-ghost use Rattle.std.specs.Ordering.{eq_by_cmp};
-ghost use Rattle.gixp_hash.specs.ObjectId.{id_cmp};
-ghost use Rattle.gixp_hash.specs.declared.object_id.ObjectId.{ObjectId};
-ghost use Rattle.gixp_client.specs.Boundaries.{has_id, ids_beyond, updates_between, ids_after};
+ghost use Rattle.std.specs.Prelude.{◌≡◌, [], IfOk};
+ghost use Rattle.gixp_client.specs.Boundaries.{ids_beyond, updates_between, ids_after};
 
 use gixp_hash::ObjectId;
+use gixp_reachable::ids::set_of;
 use gixp_shallow::{ShallowUpdate, new_boundary};
 use std::alloc::{AllocError, Global};
-use std::collections::BTreeSet;
 
 /// The shallow boundary after a fetch (gitprotocol-pack, "Packfile Negotiation").
 ///
@@ -78,25 +74,6 @@ impl Boundary {
             unasked: updates,
         })
     }
-}
-
-fn insert_id(set: &mut BTreeSet<ObjectId>, id: ObjectId) -> Result<(), AllocError>
-    ensures { OnOk result ((q : ObjectId) → contains id_cmp set.new q ≡ (eq_by_cmp id_cmp id q || contains id_cmp set.old q)) }
-{
-    set.insert(id)?;
-    Ok(())
-}
-
-pub(crate) fn set_of(alloc: Global, ids: &[ObjectId]) -> Result<BTreeSet<ObjectId>, AllocError>
-    ensures { IfOk result (λ set. (id : ObjectId) → contains id_cmp set id ≡ has_id ids.now id) }
-{
-    let mut set = BTreeSet::new(alloc);
-    let mut rest = ids;
-    while let Some((id, tail)) = rest.split_first() {
-        insert_id(&mut set, *id)?;
-        rest = tail;
-    }
-    Ok(set)
 }
 
 fn ids_beyond(

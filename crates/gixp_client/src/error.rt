@@ -2,7 +2,7 @@
 ghost use Rattle.std.specs.Prelude.{◌≡◌};
 ghost use Rattle.std.specs.Option.{option_map};
 ghost use Rattle.bstr.specs.BStr.{bstr_bytes};
-ghost use Rattle.gixp_client.specs.ClientError.{message_in, place_of, kind_in, of_shake, of_refs, of_list, of_init, of_request, of_negotiation, of_copy, of_refused_pack};
+ghost use Rattle.gixp_client.specs.ClientError.{message_in, place_of, kind_in, of_shake, of_refs, of_list, of_init, of_request, of_object, of_ref_store, of_negotiation, of_copy, of_refused_pack};
 ghost use Rattle.gixp_client.specs.Reasons.{reason};
 
 use crate::consumer::PackError;
@@ -320,6 +320,28 @@ impl From<client::Error> for Error {
         match e {
             client::Error::Memory => Error::Memory,
             other => Error::Request(other),
+        }
+    }
+}
+
+impl From<ObjectError> for Error {
+    ghost from_gives = { λ e error. error ≡ of_object e };
+
+    fn from(e: ObjectError) -> Error {
+        match e {
+            ObjectError::Memory => Error::Memory,
+            other => Error::Objects(other),
+        }
+    }
+}
+
+impl From<RefStoreError> for Error {
+    ghost from_gives = { λ e error. error ≡ of_ref_store e };
+
+    fn from(e: RefStoreError) -> Error {
+        match e {
+            RefStoreError::Memory => Error::Memory,
+            other => Error::LocalRefs(other),
         }
     }
 }

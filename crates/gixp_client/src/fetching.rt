@@ -12,7 +12,8 @@ ghost use Rattle.gixp_client.specs.Filters.{FilterIsOffered};
 ghost use Rattle.gixp_client.specs.Unshallowed.{TakesKnown, KnowsAll};
 ghost use Rattle.gixp_client.specs.SessionStates.{state_after_outcome, state_after_fetch, is_reported, IsReportIn};
 
-use crate::boundary::{Boundary, set_of};
+use crate::boundary::Boundary;
+use crate::doubt::reached;
 use crate::error::Error;
 use crate::fetched::Fetched;
 use crate::listen::{Kept, Listener};
@@ -34,6 +35,7 @@ use gixp_graph::{Find, Negotiator, RefStore};
 use gixp_negotiate::negotiate::Negotiate;
 use gixp_negotiators::AnyNegotiator;
 use gixp_progress::NestedProgress;
+use gixp_reachable::ids::set_of;
 use gixp_refmap::RefMap;
 use gixp_shallow::{ShallowMemory, ShallowStore, ShallowUpdate};
 use gixp_sidebands::{Interrupt, NeverInterrupt};
@@ -203,9 +205,10 @@ where
             refs,
             boundary: _,
         } = repository;
+        let objects = reached(alloc, objects, refs, map, request.trusts_objects)?;
         let wanted = Wanted {
             map,
-            objects,
+            objects: &objects,
             refs,
             request,
             negotiator,

@@ -7,6 +7,7 @@ mod changes;
 mod class;
 mod conflict;
 mod consumer;
+mod doubt;
 mod error;
 mod fetched;
 mod fetching;

@@ -14,6 +14,7 @@ use gixp_fetch::consume::ConsumePack;
 use gixp_graph::{Find, Negotiator, RefStore};
 use gixp_negotiators::AnyNegotiator;
 use gixp_progress::Discard;
+use gixp_reachable::Reached;
 use gixp_refmap::RefMap;
 use gixp_sidebands::NeverInterrupt;
 use gixp_transport::Transport;
@@ -90,7 +91,7 @@ where
     let mut session = Session::open(alloc, transport, agent, listener)?;
     let map = session.map(request)?;
     let fetched = session.fetch_with(&map, repository, request, negotiator, pack)?;
-    sessions_are_runs::<MapNegotiation<'a, F, R, N>, NeverInterrupt, Discard, C>();
+    sessions_are_runs::<MapNegotiation<'a, Reached<'a, F>, R, N>, NeverInterrupt, Discard, C>();
     let _ = session.close();
     Ok((map, fetched))
 }

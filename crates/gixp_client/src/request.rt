@@ -48,6 +48,10 @@ pub struct Request {
     /// Whether the server may send a thin pack, whose deltas may have a base that the pack lacks (gitprotocol-capabilities,
     /// "thin-pack"). Turn it off if nothing adds such bases, as `git index-pack --fix-thin` does. The default is true.
     pub wants_thin_pack: bool,
+    /// Whether every object that exists in the repository counts as complete, with everything that it reaches. If not, an offered
+    /// object counts as missing if no ref of the repository reaches it, as after an interrupted fetch ([`Repository::objects`](
+    /// crate::Repository::objects)). Turn it on if the repository shows only what its refs reach. The default is false.
+    pub trusts_objects: bool,
     /// The protocols of the URIs that the server may send in place of objects in its pack (gitprotocol-v2, "packfile-uris"). The
     /// transport has to remove the section `packfile-uris` from the response, since a fetch rejects it. The default is none.
     pub uri_protocols: UriProtocols,
@@ -73,6 +77,7 @@ impl Request {
             goes_on: false,
             wants_progress: true,
             wants_thin_pack: true,
+            trusts_objects: false,
             uri_protocols: UriProtocols::Neither,
         }
     }

@@ -17,6 +17,7 @@ use gixp_fetch::mapped::NegotiatesMap;
 use gixp_graph::{Find, Negotiator, RefStore};
 use gixp_negotiate::negotiate::Negotiate;
 use gixp_progress::NestedProgress;
+use gixp_reachable::Reached;
 use gixp_shallow::{ShallowMemory, ShallowStore};
 use gixp_sidebands::{Interrupt, NeverInterrupt};
 use gixp_transport::Transport;
@@ -58,26 +59,26 @@ where
     C::Error: Into<Error>,
 {
     ghost succeeds = { λ map repository request old new pack pack' f. FetchSucceedsInSession
-        (parties_of ⟦<SessionNegotiation<'a, F, R, N> as Negotiate>⟧.calls ⟦<ShallowMemory as ShallowStore>⟧.calls
+        (parties_of ⟦<SessionNegotiation<'a, Reached<'a, F>, R, N> as Negotiate>⟧.calls ⟦<ShallowMemory as ShallowStore>⟧.calls
         ⟦<NeverInterrupt as Interrupt>⟧.polls C.consumes T.is_plain)
         ⟦<C::Error as Into<Error>>⟧.converts
-        ⟦<SessionNegotiation<'a, F, R, N> as NegotiatesMap>⟧.map_of ⟦<SessionNegotiation<'a, F, R, N> as NegotiatesMap>⟧.knows
-        T.reading map request (F.contents repository.objects.now) (R.refs repository.refs.now) repository.boundary.now
+        ⟦<SessionNegotiation<'a, Reached<'a, F>, R, N> as NegotiatesMap>⟧.map_of ⟦<SessionNegotiation<'a, Reached<'a, F>, R, N> as NegotiatesMap>⟧.knows
+        T.reading map request (F.contents repository.objects.now) (R.refs repository.refs.now) (R.targets repository.refs.now) repository.boundary.now
         old new pack pack' f };
 
     ghost fails = { λ map repository request old new pack pack' e. FetchFailsInSession
-        (parties_of ⟦<SessionNegotiation<'a, F, R, N> as Negotiate>⟧.calls ⟦<ShallowMemory as ShallowStore>⟧.calls
+        (parties_of ⟦<SessionNegotiation<'a, Reached<'a, F>, R, N> as Negotiate>⟧.calls ⟦<ShallowMemory as ShallowStore>⟧.calls
         ⟦<NeverInterrupt as Interrupt>⟧.polls C.consumes T.is_plain)
         ⟦<C::Error as Into<Error>>⟧.converts
-        ⟦<SessionNegotiation<'a, F, R, N> as NegotiatesMap>⟧.map_of ⟦<SessionNegotiation<'a, F, R, N> as NegotiatesMap>⟧.knows
-        T.reading map request (F.contents repository.objects.now) (R.refs repository.refs.now) repository.boundary.now
+        ⟦<SessionNegotiation<'a, Reached<'a, F>, R, N> as NegotiatesMap>⟧.map_of ⟦<SessionNegotiation<'a, Reached<'a, F>, R, N> as NegotiatesMap>⟧.knows
+        T.reading map request (F.contents repository.objects.now) (R.refs repository.refs.now) (R.targets repository.refs.now) repository.boundary.now
         old new pack pack' e };
 
     ghost succeeds_once = { λ agent repository request transport pack pack' received. FetchesOnce
-        (parties_of ⟦<SessionNegotiation<'a, F, R, N> as Negotiate>⟧.calls ⟦<ShallowMemory as ShallowStore>⟧.calls
+        (parties_of ⟦<SessionNegotiation<'a, Reached<'a, F>, R, N> as Negotiate>⟧.calls ⟦<ShallowMemory as ShallowStore>⟧.calls
         ⟦<NeverInterrupt as Interrupt>⟧.polls C.consumes T.is_plain)
         ⟦<C::Error as Into<Error>>⟧.converts
-        ⟦<SessionNegotiation<'a, F, R, N> as NegotiatesMap>⟧.map_of ⟦<SessionNegotiation<'a, F, R, N> as NegotiatesMap>⟧.knows
-        T.reading agent request (F.contents repository.objects.now) (R.refs repository.refs.now) repository.boundary.now
+        ⟦<SessionNegotiation<'a, Reached<'a, F>, R, N> as NegotiatesMap>⟧.map_of ⟦<SessionNegotiation<'a, Reached<'a, F>, R, N> as NegotiatesMap>⟧.knows
+        T.reading agent request (F.contents repository.objects.now) (R.refs repository.refs.now) (R.targets repository.refs.now) repository.boundary.now
         transport pack pack' received };
 }

@@ -5,12 +5,15 @@ ghost use Rattle.gix_protocol.specs.Fetch.{parties_of};
 ghost use Rattle.gix_protocol.specs.ClientCalls.{session_knowledge};
 ghost use Rattle.gix_protocol.specs.ClientNames.{client_feature};
 ghost use Rattle.gix_protocol.specs.ClientPromise.{IsRunOrIds};
+ghost use Rattle.gix_protocol.specs.Doubted.{doubted};
+ghost use Rattle.gix_protocol.specs.Object.{Objects};
+ghost use Rattle.gix_protocol.specs.Reached.{IsReached};
 
 use gix_protocol::client::{
     Error, Fetched, Repository, Request, SessionNegotiation, Silent, fetch_once,
 };
 use gix_protocol::fetch::negotiate::{
-    AnyNegotiator, Find, Negotiate, NegotiatesMap, RefStore, StoredObjects, StoredRefs,
+    AnyNegotiator, Find, Negotiate, NegotiatesMap, Reached, RefStore, StoredObjects, StoredRefs,
 };
 use gix_protocol::fetch::{ConsumePack, CopyError, CopyPack, RefMap, ShallowMemory, ShallowStore};
 use gix_protocol::transport::{Discard, Interrupt, NeverInterrupt, Transport};
@@ -28,16 +31,19 @@ pub fn promised_fetch<'a, T: Transport + Drop, W: Write>(
     pack: &mut CopyPack<W>,
 ) -> Result<(RefMap, Fetched), Error>
     ensures { IfOk result (λ received. ((received.0.mappings.items ≡ []) × (received.1.outcome ≡ None) × (pack.new ≡ pack.old))
-        ⊎ ((end : Reading) × IsRunOrIds
-        (parties_of ⟦<SessionNegotiation<'a, StoredObjects, StoredRefs, AnyNegotiator> as Negotiate>⟧.calls
+        ⊎ ((reached : Objects) × (end : Reading)
+        × IsReached (⟦<StoredObjects as Find>⟧.contents repository.entry.objects.now) (⟦<StoredRefs as RefStore>⟧.targets repository.entry.refs.now)
+        (doubted request.now.trusts_objects (⟦<StoredObjects as Find>⟧.contents repository.entry.objects.now)
+        (⟦<StoredRefs as RefStore>⟧.refs repository.entry.refs.now) received.0.mappings.items) reached
+        × IsRunOrIds
+        (parties_of ⟦<SessionNegotiation<'a, Reached<'a, StoredObjects>, StoredRefs, AnyNegotiator> as Negotiate>⟧.calls
         ⟦<ShallowMemory as ShallowStore>⟧.calls ⟦<NeverInterrupt as Interrupt>⟧.polls ⟦<CopyPack<W> as ConsumePack<Discard>>⟧.consumes
         T.is_plain)
         ⟦<CopyError as Into<Error>>⟧.converts
-        ⟦<SessionNegotiation<'a, StoredObjects, StoredRefs, AnyNegotiator> as NegotiatesMap>⟧.map_of
-        ⟦<SessionNegotiation<'a, StoredObjects, StoredRefs, AnyNegotiator> as NegotiatesMap>⟧.knows
+        ⟦<SessionNegotiation<'a, Reached<'a, StoredObjects>, StoredRefs, AnyNegotiator> as NegotiatesMap>⟧.map_of
+        ⟦<SessionNegotiation<'a, Reached<'a, StoredObjects>, StoredRefs, AnyNegotiator> as NegotiatesMap>⟧.knows
         (client_feature (codes "first/1.0")) [] request.now (T.reading transport) received.0
-        (session_knowledge request.now (⟦<StoredObjects as Find>⟧.contents repository.entry.objects.now)
-        (⟦<StoredRefs as RefStore>⟧.refs repository.entry.refs.now))
+        (session_knowledge request.now reached (⟦<StoredRefs as RefStore>⟧.refs repository.entry.refs.now))
         repository.entry.boundary.now pack.old (Ok received.1.outcome) end pack.new)) }
 {
     fetch_once(

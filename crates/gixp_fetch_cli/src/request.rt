@@ -21,6 +21,7 @@ pub fn request_of(
     ensures rejects { IfOk result (λ request. request.rejects_shallow ≡ fetch_args.now.rejects_shallow) }
     ensures goes_on { IfOk result (λ request. request.goes_on ≡ true) }
     ensures progress { IfOk result (λ request. request.wants_progress ≡ wants_progress) }
+    ensures trusts { IfOk result (λ request. request.trusts_objects ≡ true) }
     ensures defaults { IfOk result (λ request. HasOtherDefaults request) }
 {
     let mut request = Request::new(alloc);
@@ -33,6 +34,8 @@ pub fn request_of(
     request.shallow = fetch_args.shallow.clone()?;
     request.rejects_shallow = fetch_args.rejects_shallow;
     request.goes_on = true;
+    // The files list what the refs reach.
+    request.trusts_objects = true;
     request.wants_progress = wants_progress;
     Ok(request)
 }

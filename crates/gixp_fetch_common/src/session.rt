@@ -1,18 +1,14 @@
 //! The calls of a client's session, each with its failure: how it is opened, what is mapped, and what is fetched.
-ghost use Rattle.std.specs.Prelude.{◌≡◌, ◌≤◌, ◌⊎◌, ⊤, false, [], List, length, Option, None, Ok, Result, IfOk, IfErr, OnOk, string_bytes};
+ghost use Rattle.std.specs.Prelude.{◌≡◌, ◌≤◌, ⊤, [], length, None, Ok, IfOk, IfErr, OnOk, string_bytes};
 ghost use Rattle.std.specs.Option.{option_map};
-ghost use Rattle.gix_protocol.specs.Boundaries.{IsLeftBoundary, IsBoundaryAfter};
-ghost use Rattle.gix_protocol.specs.ClientCalls.{session_call, session_knowledge, OpensSession, GivesRefs, FetchesInSession};
-ghost use Rattle.gix_protocol.specs.ClientError.{IsUnsent};
-ghost use Rattle.gix_protocol.specs.ClientNames.{named_by, id_features};
+ghost use Rattle.gix_protocol.specs.ClientCalls.{OpensSession, GivesRefs};
+ghost use Rattle.gix_protocol.specs.ClientNames.{named_by};
 ghost use Rattle.gix_protocol.specs.Fetch.{parties_of};
-ghost use Rattle.gix_protocol.specs.FetchOutcomeType.{Outcome as FetchOutcome};
-ghost use Rattle.gix_protocol.specs.FetchShallow.{shallow_value, is_change};
 ghost use Rattle.gix_protocol.specs.Filters.{offers_filter};
-ghost use Rattle.gix_protocol.specs.ObjectIdType.{ObjectId as Id};
 ghost use Rattle.gix_protocol.specs.ServiceType.TheVariants.{UploadPack};
+ghost use Rattle.gix_protocol.specs.SessionFetch.{FetchSucceedsInSession, FetchFailsInSession};
 ghost use Rattle.gix_protocol.specs.SessionStateType.TheVariants.{AtStop};
-ghost use Rattle.gix_protocol.specs.SessionStates.{state_after_outcome, IsRefusedFetch};
+ghost use Rattle.gix_protocol.specs.SessionStates.{state_after_outcome};
 ghost use Rattle.gix_protocol.specs.ShakeProgress.{ReportsHandshake};
 ghost use Rattle.gix_protocol.specs.Unshallowed.{KnowsAll};
 ghost use Rattle.gixp_fetch_common.specs.RequestFilter.{SetsFilterIf, SetsFilterWhere};
@@ -32,7 +28,7 @@ use gix_protocol::client::{
     self, Error, Fetched, Listener, PackError, Request, Session, SessionNegotiation,
 };
 use gix_protocol::fetch::negotiate::{
-    Find, Negotiate, NegotiatesMap, Negotiator, RefStore, StoredObjects, StoredRefs,
+    Find, Negotiate, NegotiatesMap, Negotiator, Reached, RefStore, StoredObjects, StoredRefs,
 };
 use gix_protocol::fetch::{ConsumePack, RefMap, ShallowMemory, ShallowStore};
 use gix_protocol::handshake::Ref;
@@ -246,43 +242,29 @@ pub fn fetch<
 ) -> Result<Fetched, Failure>
 where
     S::SubProgress: Drop,
-    ensures fetched { IfOk result (λ f. OfBoundary (λ before. ((asked.entry.map.now.mappings.items ≡ []) × (f.outcome ≡ None)
-        × (session.new ≡ session.old) × (pack.new ≡ pack.old) × IsLeftBoundary before [] [] f.boundary)
-        ⊎ ((after : List Id) × FetchesInSession
-        (parties_of ⟦<SessionNegotiation<'a, StoredObjects, StoredRefs, N> as Negotiate>⟧.calls
+    ensures fetched { IfOk result (λ f. OfBoundary (λ before. FetchSucceedsInSession
+        (parties_of ⟦<SessionNegotiation<'a, Reached<'a, StoredObjects>, StoredRefs, N> as Negotiate>⟧.calls
         ⟦<ShallowMemory as ShallowStore>⟧.calls ⟦<NeverInterrupt as Interrupt>⟧.polls
         ⟦<PackReceiver<P> as ConsumePack<S>>⟧.consumes T.is_plain)
         ⟦<ReceiveError as Into<Error>>⟧.converts
-        ⟦<SessionNegotiation<'a, StoredObjects, StoredRefs, N> as NegotiatesMap>⟧.map_of
-        ⟦<SessionNegotiation<'a, StoredObjects, StoredRefs, N> as NegotiatesMap>⟧.knows
-        (session_call session.old.shaken (named_by session.old.name)
-        (id_features session.old.shaken.capabilities session.old.name.session_id) asked.entry.request.now)
-        asked.entry.map.now
-        (session_knowledge asked.entry.request.now (⟦<StoredObjects as Find>⟧.contents repository.old.objects)
-        (⟦<StoredRefs as RefStore>⟧.refs repository.old.refs))
-        before after (T.reading session.old.transport.inner) pack.old (Ok f.outcome) (T.reading session.new.transport.inner) pack.new
-        × IsBoundaryAfter (is_change (shallow_value asked.entry.request.now.shallow)) before after f.boundary))
+        ⟦<SessionNegotiation<'a, Reached<'a, StoredObjects>, StoredRefs, N> as NegotiatesMap>⟧.map_of
+        ⟦<SessionNegotiation<'a, Reached<'a, StoredObjects>, StoredRefs, N> as NegotiatesMap>⟧.knows
+        T.reading asked.entry.map.now asked.entry.request.now (⟦<StoredObjects as Find>⟧.contents repository.old.objects)
+        (⟦<StoredRefs as RefStore>⟧.refs repository.old.refs) (⟦<StoredRefs as RefStore>⟧.targets repository.old.refs)
+        before session.old session.new pack.old pack.new f)
         repository.old.boundary.items) }
     ensures stands { IfOk result (λ f. session.new.state ≡ state_after_outcome session.old.shaken.server_protocol_version f.outcome) }
     ensures known { IfOk result (λ f. KnowsAll repository.old.boundary.items f.outcome) }
-    ensures refused { IfErr result (FailsWithin Phase.Fetch (λ e. OfBoundary (λ before. (IsUnsent session.old.state
-        asked.entry.request.now session.old.shaken e × (session.new ≡ session.old)
-        × (pack.new ≡ pack.old))
-        ⊎ ((reported : Result (Option FetchOutcome) Error) × (after : List Id) × (f : FetchesInSession
-        (parties_of ⟦<SessionNegotiation<'a, StoredObjects, StoredRefs, N> as Negotiate>⟧.calls
+    ensures refused { IfErr result (FailsWithin Phase.Fetch (λ e. OfBoundary (λ before. FetchFailsInSession
+        (parties_of ⟦<SessionNegotiation<'a, Reached<'a, StoredObjects>, StoredRefs, N> as Negotiate>⟧.calls
         ⟦<ShallowMemory as ShallowStore>⟧.calls ⟦<NeverInterrupt as Interrupt>⟧.polls
         ⟦<PackReceiver<P> as ConsumePack<S>>⟧.consumes T.is_plain)
         ⟦<ReceiveError as Into<Error>>⟧.converts
-        ⟦<SessionNegotiation<'a, StoredObjects, StoredRefs, N> as NegotiatesMap>⟧.map_of
-        ⟦<SessionNegotiation<'a, StoredObjects, StoredRefs, N> as NegotiatesMap>⟧.knows
-        (session_call session.old.shaken (named_by session.old.name)
-        (id_features session.old.shaken.capabilities session.old.name.session_id) asked.entry.request.now)
-        asked.entry.map.now
-        (session_knowledge asked.entry.request.now (⟦<StoredObjects as Find>⟧.contents repository.old.objects)
-        (⟦<StoredRefs as RefStore>⟧.refs repository.old.refs))
-        before after (T.reading session.old.transport.inner) pack.old reported (T.reading session.new.transport.inner) pack.new)
-        × IsRefusedFetch f.fetches.last.negotiated session.old.shaken.server_protocol_version reported e session.new.state
-        × (f.fetches.last.negotiated ≡ false → session.new.shaken ≡ session.old.shaken)))
+        ⟦<SessionNegotiation<'a, Reached<'a, StoredObjects>, StoredRefs, N> as NegotiatesMap>⟧.map_of
+        ⟦<SessionNegotiation<'a, Reached<'a, StoredObjects>, StoredRefs, N> as NegotiatesMap>⟧.knows
+        T.reading asked.entry.map.now asked.entry.request.now (⟦<StoredObjects as Find>⟧.contents repository.old.objects)
+        (⟦<StoredRefs as RefStore>⟧.refs repository.old.refs) (⟦<StoredRefs as RefStore>⟧.targets repository.old.refs)
+        before session.old session.new pack.old pack.new e)
         repository.old.boundary.items)) }
     ensures boundary { repository.new.boundary ≡ repository.old.boundary }
 {

@@ -1,1 +1,3 @@
+mod IdLemmas
 mod TraversalLemmas
+mod ReachedLemmas

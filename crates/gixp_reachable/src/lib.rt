@@ -2,6 +2,9 @@
 //! history. A fetch over all objects then doesn't request that history; a fetch over these objects does.
 #![tactic(auto)]
 
+pub mod ids;
 mod reachable;
+mod reached;
 
 pub use reachable::reachable_objects;
+pub use reached::Reached;

@@ -81,6 +81,7 @@ pub(crate) fn request_of(
     ensures tags { IfOk result (λ request. request.tags ≡ (if job.entry.options.now.follows_tags then Included else None)) }
     ensures shallow { IfOk result (λ request. shallow_value request.shallow ≡ shallow_value shallow.now) }
     ensures goes_on { IfOk result (λ request. request.goes_on ≡ true) }
+    ensures trusts { IfOk result (λ request. request.trusts_objects ≡ true) }
     ensures pipes { IfOk result (λ request. request.is_over_pipes ≡ true) }
     ensures rejects { IfOk result (λ request. request.rejects_shallow ≡ job.entry.options.now.rejects_shallow) }
     ensures progress { IfOk result (λ request. request.wants_progress ≡ (job.entry.options.now.shows_progress && not job.entry.options.now.is_quiet)) }
@@ -93,6 +94,8 @@ pub(crate) fn request_of(
     request.shallow = shallow.clone()?;
     request.rejects_shallow = options.rejects_shallow;
     request.goes_on = true;
+    // git was asked what the refs reach.
+    request.trusts_objects = true;
     request.wants_progress = options.wants_progress();
     request.uri_protocols = protocols_of(job.context.uri_setting);
     Ok(request)

@@ -5,6 +5,9 @@ ghost use Rattle.gixp_fetch.specs.Fetch.{parties_of};
 ghost use Rattle.gixp_client.specs.ClientCalls.{session_knowledge};
 ghost use Rattle.gixp_client.specs.ClientNames.{client_feature};
 ghost use Rattle.gixp_client.specs.ClientPromise.{IsRunOrIds};
+ghost use Rattle.gixp_client.specs.Doubted.{doubted};
+ghost use Rattle.gixp_graph.specs.Object.{Objects};
+ghost use Rattle.gixp_reachable.specs.Reached.{IsReached};
 
 use crate::fetches::branches;
 use crate::servers::{GREETING, PACK, REFS, server};
@@ -18,6 +21,7 @@ use gixp_graph::{Find, RefStore};
 use gixp_memory::{StoredObjects, StoredRefs};
 use gixp_negotiate::negotiate::Negotiate;
 use gixp_progress::Discard;
+use gixp_reachable::Reached;
 use gixp_refmap::RefMap;
 use gixp_shallow::{ShallowMemory, ShallowStore};
 use gixp_sidebands::{Interrupt, NeverInterrupt};
@@ -35,16 +39,19 @@ fn fetch_leniently<'a, T: Transport + Drop, W: Write>(
     pack: &mut CopyPack<W>,
 ) -> Result<(RefMap, Fetched), Error>
     ensures { IfOk result (λ received. ((received.0.mappings.items ≡ []) × (received.1.outcome ≡ None) × (pack.new ≡ pack.old))
-        ⊎ ((end : Reading) × IsRunOrIds
-        (parties_of ⟦<SessionNegotiation<'a, StoredObjects, StoredRefs, Lenient> as Negotiate>⟧.calls
+        ⊎ ((reached : Objects) × (end : Reading)
+        × IsReached (⟦<StoredObjects as Find>⟧.contents repository.entry.objects.now) (⟦<StoredRefs as RefStore>⟧.targets repository.entry.refs.now)
+        (doubted request.now.trusts_objects (⟦<StoredObjects as Find>⟧.contents repository.entry.objects.now)
+        (⟦<StoredRefs as RefStore>⟧.refs repository.entry.refs.now) received.0.mappings.items) reached
+        × IsRunOrIds
+        (parties_of ⟦<SessionNegotiation<'a, Reached<'a, StoredObjects>, StoredRefs, Lenient> as Negotiate>⟧.calls
         ⟦<ShallowMemory as ShallowStore>⟧.calls ⟦<NeverInterrupt as Interrupt>⟧.polls ⟦<CopyPack<W> as ConsumePack<Discard>>⟧.consumes
         T.is_plain)
         ⟦<CopyError as Into<Error>>⟧.converts
-        ⟦<SessionNegotiation<'a, StoredObjects, StoredRefs, Lenient> as NegotiatesMap>⟧.map_of
-        ⟦<SessionNegotiation<'a, StoredObjects, StoredRefs, Lenient> as NegotiatesMap>⟧.knows
+        ⟦<SessionNegotiation<'a, Reached<'a, StoredObjects>, StoredRefs, Lenient> as NegotiatesMap>⟧.map_of
+        ⟦<SessionNegotiation<'a, Reached<'a, StoredObjects>, StoredRefs, Lenient> as NegotiatesMap>⟧.knows
         (client_feature (codes "first/1.0")) [] request.now (T.reading transport) received.0
-        (session_knowledge request.now (⟦<StoredObjects as Find>⟧.contents repository.entry.objects.now)
-        (⟦<StoredRefs as RefStore>⟧.refs repository.entry.refs.now))
+        (session_knowledge request.now reached (⟦<StoredRefs as RefStore>⟧.refs repository.entry.refs.now))
         repository.entry.boundary.now pack.old (Ok received.1.outcome) end pack.new)) }
 {
     fetch_once_with(

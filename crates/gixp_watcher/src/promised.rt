@@ -5,6 +5,9 @@ ghost use Rattle.gix_protocol.specs.Fetch.{parties_of};
 ghost use Rattle.gix_protocol.specs.ClientCalls.{session_knowledge};
 ghost use Rattle.gix_protocol.specs.ClientNames.{client_feature};
 ghost use Rattle.gix_protocol.specs.ClientPromise.{IsRunOrIds};
+ghost use Rattle.gix_protocol.specs.Doubted.{doubted};
+ghost use Rattle.gix_protocol.specs.Object.{Objects};
+ghost use Rattle.gix_protocol.specs.Reached.{IsReached};
 
 use crate::objects::SortedObjects;
 use crate::pack::{LimitedPack, PackTooLarge};
@@ -12,7 +15,7 @@ use crate::refs::SortedRefs;
 use gix_protocol::client::{
     Error, Fetched, Repository, Request, SessionNegotiation, Silent, fetch_once,
 };
-use gix_protocol::fetch::negotiate::{AnyNegotiator, Find, Negotiate, NegotiatesMap, RefStore};
+use gix_protocol::fetch::negotiate::{AnyNegotiator, Find, Negotiate, NegotiatesMap, Reached, RefStore};
 use gix_protocol::fetch::{ConsumePack, RefMap, ShallowMemory, ShallowStore};
 use gix_protocol::transport::{Discard, Interrupt, NeverInterrupt, Transport};
 use std::alloc::Global;
@@ -29,16 +32,19 @@ pub fn promised_fetch<'a, T: Transport + Drop, W: Write>(
     pack: &mut LimitedPack<W>,
 ) -> Result<(RefMap, Fetched), Error>
     ensures { IfOk result (λ received. ((received.0.mappings.items ≡ []) × (received.1.outcome ≡ None) × (pack.new ≡ pack.old))
-        ⊎ ((end : Reading) × IsRunOrIds
-        (parties_of ⟦<SessionNegotiation<'a, SortedObjects, SortedRefs, AnyNegotiator> as Negotiate>⟧.calls
+        ⊎ ((reached : Objects) × (end : Reading)
+        × IsReached (⟦<SortedObjects as Find>⟧.contents repository.entry.objects.now) (⟦<SortedRefs as RefStore>⟧.targets repository.entry.refs.now)
+        (doubted request.now.trusts_objects (⟦<SortedObjects as Find>⟧.contents repository.entry.objects.now)
+        (⟦<SortedRefs as RefStore>⟧.refs repository.entry.refs.now) received.0.mappings.items) reached
+        × IsRunOrIds
+        (parties_of ⟦<SessionNegotiation<'a, Reached<'a, SortedObjects>, SortedRefs, AnyNegotiator> as Negotiate>⟧.calls
         ⟦<ShallowMemory as ShallowStore>⟧.calls ⟦<NeverInterrupt as Interrupt>⟧.polls ⟦<LimitedPack<W> as ConsumePack<Discard>>⟧.consumes
         T.is_plain)
         ⟦<PackTooLarge as Into<Error>>⟧.converts
-        ⟦<SessionNegotiation<'a, SortedObjects, SortedRefs, AnyNegotiator> as NegotiatesMap>⟧.map_of
-        ⟦<SessionNegotiation<'a, SortedObjects, SortedRefs, AnyNegotiator> as NegotiatesMap>⟧.knows
+        ⟦<SessionNegotiation<'a, Reached<'a, SortedObjects>, SortedRefs, AnyNegotiator> as NegotiatesMap>⟧.map_of
+        ⟦<SessionNegotiation<'a, Reached<'a, SortedObjects>, SortedRefs, AnyNegotiator> as NegotiatesMap>⟧.knows
         (client_feature (codes "watcher/1.0")) [] request.now (T.reading transport) received.0
-        (session_knowledge request.now (⟦<SortedObjects as Find>⟧.contents repository.entry.objects.now)
-        (⟦<SortedRefs as RefStore>⟧.refs repository.entry.refs.now))
+        (session_knowledge request.now reached (⟦<SortedRefs as RefStore>⟧.refs repository.entry.refs.now))
         repository.entry.boundary.now pack.old (Ok received.1.outcome) end pack.new)) }
 {
     fetch_once(

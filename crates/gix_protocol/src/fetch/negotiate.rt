@@ -13,4 +13,4 @@ pub use gixp_negotiate::negotiate::one_round::{State, window_size};
 pub use gixp_negotiate::negotiate::wants::add_wants;
 pub use gixp_negotiate::negotiate::{Action, Error, Negotiate, Round, one_round};
 pub use gixp_negotiators::{Algorithm, AnyNegotiator, Consecutive, HaveList, Noop, Skipping};
-pub use gixp_reachable::reachable_objects;
+pub use gixp_reachable::{Reached, reachable_objects};

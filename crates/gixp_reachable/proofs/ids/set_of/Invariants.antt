@@ -3,8 +3,8 @@ use Rattle.std.specs.Prelude.{◌||◌}
 use Rattle.std.specs.BTreeSet.{contains}
 use Rattle.gixp_hash.specs.ObjectId.{id_cmp}
 use Rattle.gixp_hash.specs.declared.object_id.ObjectId.{ObjectId}
-use Rattle.gixp_client.specs.Boundaries.{has_id}
-use Rattle.gixp_client.proofs.boundary.set_of.Given as goal
+use Rattle.gixp_reachable.specs.Ids.{has_id}
+use Rattle.gixp_reachable.proofs.ids.set_of.Given as goal
 
 abbrev pub invariant-loop-id : goal.invariant-loop-id
 invariant-loop-id l = (q : ObjectId) → (contains id_cmp l.set q || has_id l.rest q) ≡ has_id l.ids q
