@@ -10,3 +10,4 @@ pub mod SpreadLemmas
 pub mod StepLemmas
 pub mod PassingLemmas
 pub mod UnreadLemmas
+pub mod TakeLemmas

@@ -1,11 +1,11 @@
 -- Distances that are passed on.
-use Rattle.std.proofs.Common.{◌≡◌, ℕ, ◌<◌, ◌≤◌, ◌+◌, ◌-◌, ◌||◌, Bool, true, false, cond, List, [], ◌∷◌, ◌++◌, length, take, get_or, Option, Some, refl, sym, ap, subst, ◌∙◌, ◌⊎◌, inl, inr, true≢false, arith}
-use Rattle.std.specs.Prelude.{nat_lt, unwrap_or, IsSome, ◌≢◌}
+use Rattle.std.proofs.Common.{◌≡◌, ℕ, ◌<◌, ◌≤◌, ◌+◌, ◌-◌, ◌||◌, Bool, true, false, cond, List, [], ◌∷◌, ◌++◌, length, take, get_or, Option, Some, refl, sym, ap, subst, ◌∙◌, ◌⊎◌, inl, inr, ⊎_elim, true≢false, arith}
+use Rattle.std.specs.Prelude.{nat_lt, unwrap_or, IsSome, All, ◌≢◌}
 use Rattle.std.specs.Map.{lookup}
 use Rattle.std.specs.BTreeMap.{is_at}
 use Rattle.std.specs.Ordering.{eq_by_cmp}
 use Rattle.std.proofs.lemmas.List.{take_more, take_all}
-use Rattle.std.proofs.lemmas.Bool.{ltb-true, ltb-false}
+use Rattle.std.proofs.lemmas.Bool.{ltb-true, ltb-false, or_cases}
 use Rattle.std.proofs.lemmas.List.Elements.{All-more, All-pop, All-weaker}
 use Rattle.gixp_hash.specs.declared.object_id.ObjectId.{ObjectId}
 use Rattle.gixp_hash.specs.ObjectId.{id_cmp}
@@ -19,9 +19,11 @@ use Rattle.gixp_negotiators.specs.declared.skipping.Legacy.{Legacy}
 use Rattle.gixp_negotiators.specs.declared.skipping.Legacy.TheVariants.{Common, Skips}
 use Rattle.gixp_negotiators.specs.Distance.{distance_after, skip_of}
 use Rattle.gixp_negotiators.specs.Marks.{COMMON, COMMON_REF, POPPED, has_all, has_mark}
-use Rattle.gixp_negotiators.specs.AddedMarks.{AddsNone, MarksNoCommon, Grows}
+use Rattle.gixp_negotiators.specs.AddedMarks.{AddsNone, MarksNoCommon, PopsNone, PopsOnly, Grows}
 use Rattle.gixp_negotiators.specs.CommitMarks.{Claims}
-use Rattle.gixp_negotiators.specs.Passing.{Skipped, skip_in, longer, handed_on, is_among, HandsOne, Hands, AllTaken, Takes}
+use Rattle.gixp_negotiators.proofs.FitLemmas.{was_mark}
+use Rattle.gixp_negotiators.proofs.TakeLemmas.{pops_none, pops_on}
+use Rattle.gixp_negotiators.specs.Passing.{Skipped, skip_in, longer, handed_on, is_among, HandsOne, Hands, AllTaken, IsCommonIfLeft, Takes}
 
 not_true : (a b : Bool) → (a ≡ true → b ≡ true) → b ≡ false → a ≡ false
 not_true true b h f = absurd (true≢false (sym (h refl) ∙ f))
@@ -146,13 +148,16 @@ hands_all legacy ids k h old new l a = subst (λ xs. Hands legacy xs h old new) 
 -- ---- a commit is taken
 
 pub takes_none : (old : Skipped) (g h : GraphData) (id : ObjectId) → (IsSome (commit_at g.objects id) → has_mark POPPED g.held id ≡ true)
-    → MarksNoCommon g h → Takes old g id false old h
-takes_none old g h id spent none = record {
+    → MarksNoCommon g h → Grows g h → PopsNone g h → Takes old g id false old h
+takes_none old g h id spent none w pops = record {
   hands = λ there lacks. absurd (true≢false (sym (spent there) ∙ lacks));
   others = λ q n. refl;
   reached = λ e. absurd (true≢false (sym e));
   passed = λ there lacks. absurd (true≢false (sym (spent there) ∙ lacks));
   settles = λ two four. none;
+  shares = λ there lacks. absurd (true≢false (sym (spent there) ∙ lacks));
+  taken = λ there. w.marks POPPED id (spent there);
+  pops = pops_none id g h pops;
 }
 
 -- the distance that it passes on
@@ -178,9 +183,12 @@ pub takes_some : (old new : Skipped) (g i h : GraphData) (id : ObjectId) (flags 
     → legacy ≡ Skips (skip_of (distance_after s.whole) (distance_after s.whole)))
     → (is_common ≡ false → s.left ≡ 0 → offered ≡ true) → (any : Bool) → (0 < s.left → any ≡ true → offered ≡ false)
     → (any ≡ false → AllTaken h parents) → (is_common ≡ false → any ≡ false → offered ≡ true) → (any ≡ true → AllTaken h parents → ⊥)
-    → MarksNoCommon g i → (legacy ≢ Common → MarksNoCommon i h)
+    → MarksNoCommon g i → (legacy ≢ Common → MarksNoCommon i h) → PopsOnly id g i → PopsNone i h
+    → (has_all COMMON flags.0 ≡ true → legacy ≡ Common) → (has_all COMMON_REF flags.0 ≡ true → legacy ≡ Common)
+    → (legacy ≡ Common → All (IsCommonIfLeft h) parents)
     → Takes old g id offered new h
 takes_some old new g i h id flags legacy parents s is_common offered k w ps ss hands common p r reached any early taken ends left none lone
+    only pops two four shared
     = record {
       hands = λ there lacks two four q among lacked.
           subst (λ t. skip_in new q ≡ longer (skip_in old q) (handed_on t)) ss
@@ -194,6 +202,12 @@ takes_some old new g i h id flags legacy parents s is_common offered k w ps ss h
         waits (common ∙ lack COMMON two) not any refl,
       );
       settles = λ two four q m. none q (lone (skips two four) q m);
+      shares = λ there lacks e. subst (All (IsCommonIfLeft h)) same (shared (⊎_elim
+          (λ c. two (sym (was_mark POPPED COMMON g i id flags k refl) ∙ c))
+          (λ c. four (sym (was_mark POPPED COMMON_REF g i id flags k refl) ∙ c))
+          (or_cases (has_mark COMMON g.held id) (has_mark COMMON_REF g.held id) e)));
+      taken = λ there. w.marks POPPED id k.after;
+      pops = pops_on id g i h only pops;
     }
   where
     same : parents ≡ parents_in h.held id
@@ -243,6 +257,18 @@ taken_more ids k d i h l w all one = All-more (λ p. has_mark POPPED h.held p �
 
 pub taken_all : (ids : List ObjectId) (k : ℕ) (h : GraphData) → length ids ≤ k → AllTaken h (take k ids) → AllTaken h ids
 taken_all ids k h l a = subst (AllTaken h) (take_all k ids l) a
+
+-- one more commit that is common, unless it was taken
+pub shares_more : (ids : List ObjectId) (k : ℕ) (d : ObjectId) (i h : GraphData) → k < length ids → Grows i h
+    → All (IsCommonIfLeft i) (take k ids) → IsCommonIfLeft h (get_or ids k d) → All (IsCommonIfLeft h) (take (k + 1) ids)
+shares_more ids k d i h l w all one = All-more (IsCommonIfLeft h) ids k d l
+    (All-weaker (IsCommonIfLeft i) (IsCommonIfLeft h) (λ p m there left. w.marks COMMON p
+    (m (subst (λ o. IsSome (commit_at o p)) w.objects there)
+    (not_true (has_mark POPPED i.held p) (has_mark POPPED h.held p) (w.marks POPPED p) left))) (take k ids) all) one
+
+pub shares_all : (ids : List ObjectId) (k : ℕ) (h : GraphData) → length ids ≤ k → All (IsCommonIfLeft h) (take k ids)
+    → All (IsCommonIfLeft h) ids
+shares_all ids k h l a = subst (All (IsCommonIfLeft h)) (take_all k ids l) a
 
 -- one of some commits wasn't taken, so the line goes on
 pub left_more : (ids : List ObjectId) (k : ℕ) (d : ObjectId) (i h : GraphData) (any waits : Bool) → k < length ids → AddsNone POPPED i h

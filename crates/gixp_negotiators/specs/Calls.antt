@@ -9,12 +9,12 @@ use Rattle.gixp_negotiators.specs.declared.skipping.Skipping.{Skipping}
 use Rattle.gixp_negotiators.specs.Marks.{COMMON, SEEN, has_mark}
 use Rattle.gixp_negotiators.specs.AddedMarks.{Grows, SeesNone, SeesOnly, MarksNoCommon, ListsNone, ListsOnly, PopsNone}
 use Rattle.gixp_negotiators.specs.CommitMarks.{StaysIfSeen, IsMarkedIfThere, IsListedIfNew}
-use Rattle.gixp_negotiators.specs.Offered.{Offers}
+use Rattle.gixp_negotiators.specs.Offered.{Offers, TakesCommon}
 use Rattle.gixp_negotiators.specs.Spread.{is_there, was_seen, WhereNew, HasCommonParents, StaysSpread, Spreads}
 use Rattle.gixp_negotiators.specs.NewlyCommon.{AllRead, AllHeld, MarksThrough, MarksCommonFrom}
 use Rattle.gixp_negotiators.specs.NewlySeen.{SeesCommon, SeesAmong, FindsCommon}
 use Rattle.gixp_negotiators.specs.Passing.{Distances}
-use Rattle.gixp_negotiators.specs.Queued.{FitsSeen, KeepsCount, EndsAtOnce}
+use Rattle.gixp_negotiators.specs.Queued.{FitsSeen, KeepsCount, EndsAtOnce, OffersNone}
 use Rattle.gixp_negotiators.specs.Newest.{KeepsTimed, Picks}
 use Rattle.gixp_negotiators.specs.Dated.{QueuesNew, PicksDated}
 use Rattle.gixp_negotiators.specs.Unread.{KeepsUnread, IsUnreadIfNew}
@@ -74,12 +74,14 @@ pub record LearnsInTurn (n : Consecutive) (g : GraphData) (id : ObjectId) (m : C
   pub spreads : StaysSpread is_there g h
   pub steps : Steps n g m h
 
--- `next_have`: it offers the newest queued commit that isn't common, and reads nothing where all queued commits are common
+-- `next_have`: it offers the newest queued commit that isn't common; each other commit that it takes is common. Where
+-- all queued commits are common, it offers, reads and takes nothing
 pub record OffersInTurn (n : Consecutive) (g : GraphData) (have : Option ObjectId) (m : Consecutive) (h : GraphData) : Type 0 where
   pub grows : Grows g h
   pub offers : Offers g have h
   pub picks : Picks n.uncommon (heap_items n.queue.waiting) g have (heap_items m.queue.waiting) h
-  pub ends : EndsAtOnce n.uncommon (heap_items n.queue.waiting) g have h
+  pub takes : TakesCommon g have h
+  pub ends : EndsAtOnce n.uncommon (heap_items n.queue.waiting) n g have m h
   pub unlisted : ListsNone g h
   pub finds : FindsCommon g have h
   pub spreads : StaysSpread is_there g h
@@ -157,13 +159,16 @@ pub record LearnsSkipping (n : Skipping) (g : GraphData) (id : ObjectId) (m : Sk
   pub fits : CountsStill (AllRead n.unread g h) n g m h
 
 -- `next_have`: it offers the newest queued commit, at the distances that are passed on; each newly queued commit
--- wasn't seen before
+-- wasn't seen before. Where all queued commits are common, it offers nothing; where the count is exact too, it reads and
+-- takes nothing
 pub record OffersSkipping (n : Skipping) (g : GraphData) (have : Option ObjectId) (m : Skipping) (h : GraphData) : Type 0 where
   pub grows : Grows g h
   pub offers : Offers g have h
   pub unlisted : ListsNone g h
   pub distances : Distances n.skips.entries g have m.skips.entries h
   pub picks : PicksDated n.uncommon (heap_items n.queue.waiting) g have (heap_items m.queue.waiting) h
+  pub ends : EndsAtOnce n.uncommon (heap_items n.queue.waiting) n g have m h
+  pub offers_none : OffersNone n.uncommon (heap_items n.queue.waiting) g have
   pub queues : QueuesDated n g m
   pub unread : KeepsUnread n.unread g m.unread h
   pub fits : CountsStill (AllHeld n.unread g h) n g m h

@@ -1,5 +1,5 @@
 -- The commit that a negotiator offers as a have (gitprotocol-pack, "Packfile Negotiation").
-use Rattle.std.specs.Prelude.{◌≡◌, ◌+◌, ◌≤◌, true, false, All, Option, Some, None, IsSome}
+use Rattle.std.specs.Prelude.{◌≡◌, ◌⊎◌, ◌+◌, ◌≤◌, true, false, All, Option, Some, None, IsSome}
 use Rattle.std.specs.FinMap as finite
 use Rattle.gixp_hash.specs.declared.object_id.ObjectId.{ObjectId}
 use Rattle.gixp_graph.specs.Object.{commit_at}
@@ -24,3 +24,8 @@ pub record IsOffered (g h : GraphData) (id : ObjectId) : Type 0 where
 abbrev pub Offers : GraphData → Option ObjectId → GraphData → Type 0
 Offers g None h = Unit {0}
 Offers g (Some id) h = IsOffered g h id
+
+-- each commit that is taken from the queue is common, or it is the one that is offered
+abbrev pub TakesCommon : GraphData → Option ObjectId → GraphData → Type 0
+TakesCommon g have h = (id : ObjectId) → has_mark POPPED g.held id ≡ false → has_mark POPPED h.held id ≡ true
+    → (has_mark COMMON h.held id ≡ true) ⊎ (have ≡ Some id)

@@ -1,5 +1,5 @@
 -- How many commits are skipped along a line (git-config, `fetch.negotiationAlgorithm`, "skipping").
-use Rattle.std.specs.Prelude.{◌≡◌, ◌⊎◌, ◌<◌, ◌-◌, All, nat_lt, if◌then◌else◌, List, Bool, true, false, Option, Some, None, IsSome, unwrap_or}
+use Rattle.std.specs.Prelude.{◌≡◌, ◌⊎◌, ◌<◌, ◌-◌, ◌||◌, All, nat_lt, if◌then◌else◌, List, Bool, true, false, Option, Some, None, IsSome, unwrap_or}
 use Rattle.std.specs.List.{list_any}
 use Rattle.std.specs.Map.{lookup}
 use Rattle.std.specs.BTreeMap.{is_at}
@@ -13,7 +13,7 @@ use Rattle.gixp_negotiators.specs.declared.skipping.Legacy.{Legacy}
 use Rattle.gixp_negotiators.specs.declared.skipping.Legacy.TheVariants.{Common, Skips}
 use Rattle.gixp_negotiators.specs.Distance.{distance_after, skip_of}
 use Rattle.gixp_negotiators.specs.Marks.{COMMON, COMMON_REF, POPPED, has_mark}
-use Rattle.gixp_negotiators.specs.AddedMarks.{MarksNoCommon}
+use Rattle.gixp_negotiators.specs.AddedMarks.{MarksNoCommon, PopsOnly}
 
 -- the distances of commits, by id
 abbrev pub Skipped : Type 0
@@ -51,10 +51,15 @@ pub record Hands (legacy : Legacy) (ids : List ObjectId) (h : GraphData) (old ne
 abbrev pub AllTaken : GraphData → List ObjectId → Type 0
 AllTaken h ids = All (λ p. has_mark POPPED h.held p ≡ true) ids
 
--- a commit is taken from the queue. Where it is neither common nor a ref of the server, its parents that weren't
--- taken get the distance that it passes on, and no commit becomes common. No other commit's distance changes. It is
--- offered only where none is left to skip, or as the last of a line, whose parents were all taken. Without an offer, some
--- are left to skip and a parent is queued, or it is common
+-- a commit that the objects have is common, unless it was taken
+abbrev pub IsCommonIfLeft : GraphData → ObjectId → Type 0
+IsCommonIfLeft h id = IsSome (commit_at h.objects id) → has_mark POPPED h.held id ≡ false → has_mark COMMON h.held id ≡ true
+
+-- a commit is taken from the queue, and no other is. Where it is neither common nor a ref of the server, its parents
+-- that weren't taken get the distance that it passes on, and no commit becomes common. No other commit's distance
+-- changes. It is offered only where none is left to skip, or as the last of a line, whose parents were all taken. Without
+-- an offer, some are left to skip and a parent is queued, or it is common. Where it was common or a ref of the server, its
+-- parents that weren't taken become common
 pub record Takes (old : Skipped) (g : GraphData) (id : ObjectId) (is_offered : Bool) (new : Skipped) (h : GraphData) : Type 0 where
   pub hands : IsSome (commit_at g.objects id) → has_mark POPPED g.held id ≡ false → has_mark COMMON h.held id ≡ false
       → has_mark COMMON_REF h.held id ≡ false
@@ -65,6 +70,10 @@ pub record Takes (old : Skipped) (g : GraphData) (id : ObjectId) (is_offered : B
   pub passed : IsSome (commit_at g.objects id) → has_mark POPPED g.held id ≡ false → is_offered ≡ false → has_mark COMMON h.held id ≡ false
       → (0 < (skip_in old id).left) × (AllTaken h (parents_in h.held id) → ⊥)
   pub settles : has_mark COMMON g.held id ≡ false → has_mark COMMON_REF g.held id ≡ false → MarksNoCommon g h
+  pub shares : IsSome (commit_at g.objects id) → has_mark POPPED g.held id ≡ false
+      → (has_mark COMMON g.held id || has_mark COMMON_REF g.held id) ≡ true → All (IsCommonIfLeft h) (parents_in h.held id)
+  pub taken : IsSome (commit_at g.objects id) → has_mark POPPED h.held id ≡ true
+  pub pops : PopsOnly id g h
 
 -- some commits are taken one after another, and none of them is offered
 pub data TakesUnoffered (old : Skipped) (g : GraphData) : Skipped → GraphData → Type 0 where

@@ -44,6 +44,10 @@ KeepsCount Read u ws g v xs h = (lost : ℕ) → FitsSeen lost u ws g → (more 
 abbrev pub AllCommon : GraphData → Type 0
 AllCommon g = (id : ObjectId) → has_mark SEEN g.held id ≡ true → has_mark POPPED g.held id ≡ false → has_mark COMMON g.held id ≡ true
 
--- where all queued commits are common, nothing is offered, and the graph stays the same
-abbrev pub EndsAtOnce : ℕ → List Waiting → GraphData → Option ObjectId → GraphData → Type 0
-EndsAtOnce u ws g have h = Fits 0 u ws g → AllCommon g → (have ≡ None) × (h ≡ g)
+-- where the count is exact and all queued commits are common, nothing is offered, and negotiator and graph stay the same
+abbrev pub EndsAtOnce : {N : Type 0} → ℕ → List Waiting → N → GraphData → Option ObjectId → N → GraphData → Type 0
+EndsAtOnce u ws n g have m h = Fits 0 u ws g → AllCommon g → (have ≡ None) × (m ≡ n) × (h ≡ g)
+
+-- where all queued commits are common, nothing is offered, even if the count is too high
+abbrev pub OffersNone : ℕ → List Waiting → GraphData → Option ObjectId → Type 0
+OffersNone u ws g have = (lost : ℕ) → FitsSeen lost u ws g → AllCommon g → have ≡ None

@@ -1,13 +1,13 @@
 //! Offers each commit that isn't known to be common, the newest first.
 ghost use Rattle.std.specs.Prelude.{◌≡◌, ◌≤◌, ◌<◌, ◌+◌, ◌-◌, ◌⊎◌, ◌∷◌, [], ◌||◌, bit_and, true, false};
-ghost use Rattle.std.specs.Prelude.{IfOk, IfErr, IfSome, IfNone, OnOk, IsTrue, All};
+ghost use Rattle.std.specs.Prelude.{IfOk, IfErr, IfSome, IfNone, None, OnOk, IsTrue, All};
 ghost use Rattle.std.specs.BinaryHeap.{heap_items};
 ghost use Rattle.gixp_graph.specs.GraphData.{parents_in};
 ghost use Rattle.gixp_graph.specs.Negotiation.{IsMemory};
 ghost use Rattle.gixp_negotiators.specs.Marks.{COMMON, COMMON_REF, SEEN, POPPED, has_mark, has_all, left};
-ghost use Rattle.gixp_negotiators.specs.AddedMarks.{SeesNone, SeesOnly, MarksNoCommon, MarksCommonOnly, ListsNone, ListsOnly, PopsNone};
+ghost use Rattle.gixp_negotiators.specs.AddedMarks.{SeesNone, SeesOnly, MarksNoCommon, MarksCommonOnly, ListsNone, ListsOnly, PopsNone, PopsOnly};
 ghost use Rattle.gixp_negotiators.specs.CommitMarks.{StaysIfSeen, IsMarkedIfThere, IsMarkedIfNew, IsListedIfNew};
-ghost use Rattle.gixp_negotiators.specs.Offered.{IsOffered};
+ghost use Rattle.gixp_negotiators.specs.Offered.{IsOffered, TakesCommon};
 ghost use Rattle.gixp_negotiators.specs.Spread.{is_there, IsKnown, WhereOpen, WhereNew, HasCommonParents};
 ghost use Rattle.gixp_negotiators.specs.NewlyCommon.{AllCommonAmong, MarksCommonFrom, MarksCommonWithin, OwesAmong};
 ghost use Rattle.gixp_negotiators.specs.NewlySeen.{SeesCommon, SeesAmong, OpensParents, FindsCommon};
@@ -354,6 +354,8 @@ impl Consecutive {
         ensures spreads { OnOk result (StaysSpread is_there graph.old.graph graph.new.graph) }
         ensures passes { IfOk result (λ offered. offered ≡ false → SeesCommon graph.old.graph graph.new.graph) }
         ensures opens { IfOk result (λ offered. IsTrue offered → OpensParents graph.old.graph first.now.id graph.new.graph) }
+        ensures pops { OnOk result (PopsOnly first.now.id graph.old.graph graph.new.graph) }
+        ensures takes { IfOk result (λ offered. offered ≡ false → TakesCommon graph.old.graph None graph.new.graph) }
         ensures lists { OnOk result (ListsNone graph.old.graph graph.new.graph) }
         ensures looks { LooksUpCommits graph.old graph.new result }
     {
@@ -382,8 +384,9 @@ impl Consecutive {
         ensures spreads { OnOk result (StaysSpread is_there graph.old.graph graph.new.graph) }
         ensures finds { IfOk result (λ have. FindsCommon graph.old.graph have graph.new.graph) }
         ensures lists { OnOk result (ListsNone graph.old.graph graph.new.graph) }
+        ensures takes { IfOk result (λ have. TakesCommon graph.old.graph have graph.new.graph) }
         ensures ends { IfOk result (λ have. EndsAtOnce self.old.uncommon (heap_items self.old.queue.waiting)
-            graph.old.graph have graph.new.graph) }
+            self.old graph.old.graph have self.new graph.new.graph) }
         ensures looks { LooksUpCommits graph.old graph.new result }
     {
         while let Some(first) = self.queue.pop_unless_all_common(self.uncommon) {

@@ -84,6 +84,7 @@ impl Queue {
         ensures newest { IfSome result (IsNewestWaiting (heap_items self.new.waiting)) }
         ensures none { IfNone result ((uncommon ≡ 0) ⊎ (heap_items self.old.waiting ≡ [])) }
         ensures stays { IfNone result (heap_items self.new.waiting ≡ heap_items self.old.waiting) }
+        ensures same { uncommon ≡ 0 → self.new ≡ self.old }
     {
         if uncommon == 0 {
             return None;

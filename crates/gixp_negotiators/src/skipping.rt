@@ -17,7 +17,7 @@ ghost use Rattle.gixp_negotiators.specs.Offered.{IsOffered};
 ghost use Rattle.gixp_negotiators.specs.Spread.{was_seen, BecomesCommon, KeepsSpread, SpreadsFrom, Spreads};
 ghost use Rattle.gixp_negotiators.specs.NewlyCommon.{StaysNewly, AllRead, AllHeld, MarksThrough, MarksCommonAmong};
 ghost use Rattle.gixp_negotiators.specs.Owed.{FitsOwing};
-ghost use Rattle.gixp_negotiators.specs.Queued.{AllCommon};
+ghost use Rattle.gixp_negotiators.specs.Queued.{AllCommon, EndsAtOnce, OffersNone};
 ghost use Rattle.gixp_negotiators.specs.Dated.{IsNewestIn, QueuesNew};
 ghost use Rattle.gixp_negotiators.specs.Unread.{KeepsUnread, IsUnreadIfNew};
 ghost use Rattle.gixp_negotiators.specs.LooksUpCommits.{LooksUpCommits};
@@ -25,7 +25,7 @@ ghost use Rattle.gixp_negotiators.specs.Work.{to_take, to_mark};
 ghost use Rattle.gixp_negotiators.specs.Calls.{FitsSkipping, CountsStill, CountsTaking, CountsAll};
 ghost use Rattle.gixp_negotiators.specs.declared.skipping.Legacy.TheVariants.{Common, Skips};
 ghost use Rattle.gixp_negotiators.specs.Distance.{distance_after, skip_of};
-ghost use Rattle.gixp_negotiators.specs.Passing.{skip_in, HandsOne, Hands, AllTaken, Takes, Distances};
+ghost use Rattle.gixp_negotiators.specs.Passing.{skip_in, HandsOne, Hands, AllTaken, IsCommonIfLeft, Takes, Distances};
 
 use crate::marks::{SEEN_REF, add, claim, has, is_marked, parents_of};
 use crate::queue::{Queue, Waiting};
@@ -258,6 +258,8 @@ impl Skipping {
         ensures queue { self.new.queue ≡ self.old.queue }
         ensures hands { OnOk result (HandsOne legacy id.now self.old.skips.entries self.new.skips.entries) }
         ensures settles { legacy ≢ Common → OnOk result (MarksNoCommon graph.old.graph graph.new.graph) }
+        ensures common { legacy ≡ Common → OnOk result (has_mark SEEN graph.old.graph.held id.now ≡ true
+            → has_mark COMMON graph.new.graph.held id.now ≡ true) }
         ensures unread { self.new.unread ≡ self.old.unread }
         ensures marks { OnOk result (MarksOnlyAsCommon graph.old.graph graph.new.graph) }
         ensures looks { LooksUpCommits graph.old graph.new result }
@@ -290,6 +292,8 @@ impl Skipping {
         ensures hands { OnOk result (Hands legacy (parent.now ∷ []) graph.new.graph self.old.skips.entries self.new.skips.entries) }
         ensures queues { OnOk result (QueuesNew (heap_items self.old.queue.waiting) graph.old.graph (heap_items self.new.queue.waiting)) }
         ensures settles { legacy ≢ Common → OnOk result (MarksNoCommon graph.old.graph graph.new.graph) }
+        ensures common { legacy ≡ Common → OnOk result (AllCommon graph.old.graph → AllCommon graph.new.graph) }
+        ensures shares { legacy ≡ Common → OnOk result (IsCommonIfLeft graph.new.graph parent.now) }
         ensures lists { OnOk result (ListsNone graph.old.graph graph.new.graph) }
         ensures pops { OnOk result (PopsNone graph.old.graph graph.new.graph) }
         ensures unread { OnOk result (KeepsUnread self.old.unread graph.old.graph self.new.unread graph.new.graph) }
@@ -319,6 +323,8 @@ impl Skipping {
         ensures hands { OnOk result (Hands legacy parents.now graph.new.graph self.old.skips.entries self.new.skips.entries) }
         ensures queues { OnOk result (QueuesNew (heap_items self.old.queue.waiting) graph.old.graph (heap_items self.new.queue.waiting)) }
         ensures settles { legacy ≢ Common → OnOk result (MarksNoCommon graph.old.graph graph.new.graph) }
+        ensures common { legacy ≡ Common → OnOk result (AllCommon graph.old.graph → AllCommon graph.new.graph) }
+        ensures shares { legacy ≡ Common → OnOk result (All (IsCommonIfLeft graph.new.graph) parents.now) }
         ensures lists { OnOk result (ListsNone graph.old.graph graph.new.graph) }
         ensures pops { OnOk result (PopsNone graph.old.graph graph.new.graph) }
         ensures unread { OnOk result (KeepsUnread self.old.unread graph.old.graph self.new.unread graph.new.graph) }
@@ -343,6 +349,8 @@ impl Skipping {
         ensures offered { IfOk result (λ offered. IsTrue offered → IsOffered graph.old.graph graph.new.graph first.now.id) }
         ensures takes { IfOk result
             (λ offered. Takes self.old.skips.entries graph.old.graph first.now.id offered self.new.skips.entries graph.new.graph) }
+        ensures common { OnOk result (has_mark COMMON graph.old.graph.held first.now.id ≡ true
+            → AllCommon graph.old.graph → AllCommon graph.new.graph) }
         ensures room { OnOk result (to_take self.new.queue graph.new.graph ≤ to_take self.old.queue graph.old.graph) }
         ensures queues { OnOk result (QueuesNew (heap_items self.old.queue.waiting) graph.old.graph (heap_items self.new.queue.waiting)) }
         ensures lists { OnOk result (ListsNone graph.old.graph graph.new.graph) }
@@ -373,6 +381,10 @@ impl Skipping {
             Distances self.old.skips.entries graph.old.graph have self.new.skips.entries graph.new.graph) }
         ensures none { IfOk result (λ have. IfNone have ((lost : ℕ) → FitsSkipping lost self.old graph.old.graph
             → AllCommon graph.new.graph)) }
+        ensures ends { IfOk result (λ have. EndsAtOnce self.old.uncommon (heap_items self.old.queue.waiting)
+            self.old graph.old.graph have self.new graph.new.graph) }
+        ensures offers_none { IfOk result
+            (λ have. OffersNone self.old.uncommon (heap_items self.old.queue.waiting) graph.old.graph have) }
         ensures fits { OnOk result (CountsStill (AllHeld self.old.unread graph.old.graph graph.new.graph)
             self.old graph.old.graph self.new graph.new.graph) }
         ensures queues { OnOk result (QueuesNew (heap_items self.old.queue.waiting) graph.old.graph (heap_items self.new.queue.waiting)) }

@@ -1,4 +1,4 @@
-use Rattle.std.proofs.Common.{◌≡◌, ◌<◌, ℕ, ⊎_elim, arith, refl, subst}
+use Rattle.std.proofs.Common.{◌≡◌, ◌∙◌, ◌<◌, ℕ, ⊎_elim, Some, None, ap, arith, refl, subst}
 use Rattle.gixp_negotiators.specs.Queued.{Fits}
 use Rattle.std.specs.BinaryHeap.{heap_items}
 use Rattle.gixp_negotiators.proofs.GrowLemmas.{grows_none}
@@ -7,6 +7,7 @@ use Rattle.gixp_negotiators.proofs.FitLemmas.{timed_none, timed_on, timed_popped
 use Rattle.gixp_negotiators.specs.Spread.{is_there}
 use Rattle.gixp_negotiators.proofs.SpreadLemmas.{stays_there, stays_none, stays_on}
 use Rattle.gixp_negotiators.proofs.SeeLemmas.{sees_same, sees_on}
+use Rattle.gixp_negotiators.proofs.TakeLemmas.{takes_none, takes_offered, takes_on}
 use Rattle.gixp_negotiators.proofs.LookedLemmas.{looked_none, looked_on, looked_ok, looked_from}
 use Rattle.gixp_negotiators.proofs.consecutive.Consecutive.next.Goals as goal
 
@@ -19,7 +20,8 @@ loop-first-init g c = record {
   spreads = stays_none is_there stays_there _;
   finds = sees_same _ _ (λ id s. s);
   lists = λ q m. m;
-  rests = λ e. (e, refl);
+  takes = takes_none c.args.graph.now.graph c.args.graph.now.graph (λ q m. m);
+  rests = λ e. (refl, refl);
   looks = looked_none _;
 }
 
@@ -31,7 +33,10 @@ loop-first-preserved g c = record {
   spreads = stays_on is_there stays_there _ _ _ c.loop-first.invariant.looks.grows c.loop-first.invariant.spreads c.in_ok-take.ensures.spreads;
   finds = sees_on _ _ _ c.take.ensures.looks.grows c.loop-first.invariant.finds (c.in_ok-take.ensures.passes c.if-branch.false);
   lists = λ q m. c.loop-first.invariant.lists q (c.in_ok-take.ensures.lists q m);
-  rests = λ e. absurd (goes_on c.loop-first.self.uncommon (c.loop-first.invariant.rests e).0 c.in-Some.ensures.open);
+  takes = takes_on c.args.graph.now.graph c.loop-first.graph.graph c.take.new.graph.graph None c.take.ensures.looks.grows
+      c.loop-first.invariant.takes (c.in_ok-take.ensures.takes c.if-branch.false);
+  rests = λ e. absurd (goes_on c.loop-first.self.uncommon (ap (λ n. n.uncommon) (c.loop-first.invariant.rests e).0 ∙ e)
+      c.in-Some.ensures.open);
   looks = looked_ok (looked_on _ c.loop-first.invariant.looks c.in_ok-take.ensures.looks);
 }
 
@@ -75,10 +80,25 @@ returns-then-branch-clause-lists g c q m = c.loop-first.invariant.lists q (c.in_
 
 pub returns-then-branch-clause-ends : goal.returns-then-branch-clause-ends
 returns-then-branch-clause-ends g c f all = absurd (goes_on c.loop-first.self.uncommon
-    (c.loop-first.invariant.rests (none_counted _ _ _ f all)).0 c.in-Some.ensures.open)
+    (ap (λ n. n.uncommon) (c.loop-first.invariant.rests (none_counted _ _ _ f all)).0 ∙ none_counted _ _ _ f all) c.in-Some.ensures.open)
 
 pub returns-clause-ends : goal.returns-clause-ends
-returns-clause-ends g c f all = (refl, (c.loop-first.invariant.rests (none_counted _ _ _ f all)).1)
+returns-clause-ends g c f all =
+    let none = none_counted _ _ _ f all in
+    let stays = c.loop-first.invariant.rests none in (
+      refl,
+      ap (λ q. record c.loop-first.self { queue = q })
+          (c.pop_unless_all_common.ensures.same (ap (λ n. n.uncommon) stays.0 ∙ none)) ∙ stays.0,
+      stays.1,
+    )
+
+pub returns-then-branch-clause-takes : goal.returns-then-branch-clause-takes
+returns-then-branch-clause-takes g c = takes_on c.args.graph.now.graph c.loop-first.graph.graph c.take.new.graph.graph
+    (Some c.in-Some.first.id) c.take.ensures.looks.grows c.loop-first.invariant.takes
+    (takes_offered c.in-Some.first.id c.loop-first.graph.graph c.take.new.graph.graph c.in_ok-take.ensures.pops)
+
+pub returns-clause-takes : goal.returns-clause-takes
+returns-clause-takes g c = c.loop-first.invariant.takes
 
 pub returns-in_err-take-clause-looks : goal.returns-in_err-take-clause-looks
 returns-in_err-take-clause-looks g c = looked_from _ c.from_residual.ensures.1

@@ -1,6 +1,7 @@
-use Rattle.std.proofs.Common.{◌≡◌}
+use Rattle.std.proofs.Common.{◌≡◌, None}
 use Rattle.gixp_negotiators.specs.AddedMarks.{ListsNone}
 use Rattle.gixp_negotiators.specs.Calls.{Steps}
+use Rattle.gixp_negotiators.specs.Offered.{TakesCommon}
 use Rattle.gixp_negotiators.specs.LooksUpCommits.{LookedUp}
 use Rattle.gixp_negotiators.specs.Work.{to_take}
 use Rattle.gixp_negotiators.specs.Spread.{is_there, StaysSpread}
@@ -13,7 +14,8 @@ invariant-loop-first g l = record {
   spreads : StaysSpread is_there l.fn.graph.graph l.graph.graph;
   finds : SeesCommon l.fn.graph.graph l.graph.graph;
   lists : ListsNone l.fn.graph.graph l.graph.graph;
-  rests : l.fn.self.uncommon ≡ 0 → (l.self.uncommon ≡ 0) × (l.graph.graph ≡ l.fn.graph.graph);
+  takes : TakesCommon l.fn.graph.graph None l.graph.graph;
+  rests : l.fn.self.uncommon ≡ 0 → (l.self ≡ l.fn.self) × (l.graph.graph ≡ l.fn.graph.graph);
   looks : LookedUp l.fn.graph l.graph;
 }
 

@@ -1,4 +1,5 @@
-use Rattle.std.proofs.Common.{◌≡◌, ◌∙◌, ◌-◌, ◌||◌, ap, sym, refl, false}
+use Rattle.std.proofs.Common.{◌≡◌, ◌∙◌, ◌-◌, ◌||◌, Bool, ap, sym, refl, true, false, true≢false}
+use Rattle.std.specs.Prelude.{not}
 use Rattle.gixp_negotiators.specs.Marks.{COMMON, COMMON_REF, POPPED, has_all}
 use Rattle.gixp_negotiators.specs.CommitMarks.{Claims}
 use Rattle.gixp_negotiators.specs.MarkLaws.{not_true}
@@ -8,8 +9,13 @@ use Rattle.gixp_negotiators.proofs.FitLemmas.{timed_on, timed_taken, fits_taken,
 use Rattle.gixp_negotiators.specs.Spread.{is_there}
 use Rattle.gixp_negotiators.proofs.SpreadLemmas.{stays_there, stays_grown, stays_on}
 use Rattle.gixp_negotiators.proofs.SeeLemmas.{sees_same, sees_on, opens_taken, shared_common}
+use Rattle.gixp_negotiators.proofs.TakeLemmas.{pops_none, pops_on, takes_none, takes_one}
 use Rattle.gixp_negotiators.proofs.LookedLemmas.{looked_on, looked_ok, looked_from, looked_failed}
 use Rattle.gixp_negotiators.proofs.consecutive.Consecutive.take.Goals as goal
+
+is_true : (b : Bool) → not b ≡ false → b ≡ true
+is_true true e = refl
+is_true false e = absurd (true≢false e)
 
 pub returns-in_default-clause-keeps : goal.returns-in_default-clause-keeps
 returns-in_default-clause-keeps g c =
@@ -70,6 +76,28 @@ returns-clause-opens g c t =
     (was_mark POPPED 4 _ c.claim.new.graph.graph _ _ k refl ∙ sym four)
     (c.deref.ensures.value ∙ c.in_ok-parents.ensures.parents ∙ sym (c.follow_all.ensures.looks.grows.parents c.args.first.now.id k.held))
     c.in_ok-follow_all.ensures.finds c.in_ok-follow_all.ensures.settles c.in_ok-follow_all.ensures.others
+
+pub returns-in_default-clause-pops : goal.returns-in_default-clause-pops
+returns-in_default-clause-pops g c = pops_none c.args.first.now.id c.args.graph.now.graph c.claim.new.graph.graph
+    (rw c.in_default.is at c.in_ok-flags.ensures.unpopped)
+
+pub returns-clause-pops : goal.returns-clause-pops
+returns-clause-pops g c = pops_on c.args.first.now.id c.args.graph.now.graph c.claim.new.graph.graph c.follow_all.new.graph.graph
+    c.claim.ensures.pops_only c.in_ok-follow_all.ensures.steps.pops
+
+pub returns-in_default-clause-takes : goal.returns-in_default-clause-takes
+returns-in_default-clause-takes g c f = takes_none c.args.graph.now.graph c.claim.new.graph.graph
+    (rw c.in_default.is at c.in_ok-flags.ensures.unpopped)
+
+pub returns-clause-takes : goal.returns-clause-takes
+returns-clause-takes g c f =
+    let k : Claims POPPED c.args.graph.now.graph c.claim.new.graph.graph c.args.first.now.id c.in-Some.flags =
+    rw c.in-Some.is at c.in_ok-flags.ensures.claimed in
+    takes_one c.args.first.now.id c.args.graph.now.graph c.follow_all.new.graph.graph
+    (pops_on c.args.first.now.id c.args.graph.now.graph c.claim.new.graph.graph c.follow_all.new.graph.graph
+    c.claim.ensures.pops_only c.in_ok-follow_all.ensures.steps.pops)
+    (c.follow_all.ensures.looks.grows.marks COMMON c.args.first.now.id (k.had COMMON
+    (sym c.has-is_common.ensures ∙ is_true c.has-is_common.result f)))
 
 pub returns-clause-lists : goal.returns-clause-lists
 returns-clause-lists g c q m = c.claim.ensures.lists refl q (c.in_ok-follow_all.ensures.steps.lists q m)

@@ -1,10 +1,14 @@
-use Rattle.std.proofs.Common.{◌∙◌, refl, sym, ap, subst}
+use Rattle.std.proofs.Common.{◌∙◌, refl, sym, ap, subst, true≢false}
+use Rattle.std.specs.Prelude.{IsSome}
+use Rattle.gixp_graph.specs.Object.{commit_at}
 use Rattle.gixp_negotiators.specs.Marks.{POPPED, has_mark}
 use Rattle.gixp_negotiators.specs.NewlyCommon.{AllRead, AllHeld}
 use Rattle.gixp_negotiators.proofs.FitLemmas.{lacked, counts_all, counts_on}
 use Rattle.gixp_negotiators.proofs.UnreadLemmas.{unread_same, unread_on, read_then}
 use Rattle.gixp_negotiators.specs.Passing.{Skipped, HandsOne}
 use Rattle.gixp_negotiators.proofs.PassingLemmas.{hands_one, hands_taken}
+use Rattle.gixp_negotiators.proofs.GrowLemmas.{grows_none}
+use Rattle.gixp_negotiators.proofs.TakeLemmas.{common_seen}
 use Rattle.gixp_negotiators.proofs.LookedLemmas.{looked_on, looked_ok, looked_from}
 use Rattle.gixp_negotiators.proofs.skipping.Skipping.follow.Goals as goal
 
@@ -38,6 +42,27 @@ returns-clause-left g c w = lacked (has_mark POPPED c.pass.new.graph.graph.held 
 
 pub returns-clause-settles : goal.returns-clause-settles
 returns-clause-settles g c apart q m = c.push.ensures.settles q (c.in_ok-pass.ensures.settles apart q m)
+
+pub returns-then-is_marked-clause-common : goal.returns-then-is_marked-clause-common
+returns-then-is_marked-clause-common g c is all =
+    common_seen c.args.graph.now.graph c.push.new.graph.graph c.push.new.graph.graph c.args.parent.now c.push.ensures.looks.grows
+    (grows_none _) c.push.ensures.sees (λ q m. m)
+    (λ seen left. absurd (true≢false (sym (sym c.is_marked.ensures.value ∙ c.if-is_marked.true) ∙ left))) all
+
+pub returns-clause-common : goal.returns-clause-common
+returns-clause-common g c is all =
+    common_seen c.args.graph.now.graph c.push.new.graph.graph c.pass.new.graph.graph c.args.parent.now c.push.ensures.looks.grows
+    c.pass.ensures.looks.grows c.push.ensures.sees c.in_ok-pass.ensures.marks.sees
+    (λ seen left. c.in_ok-pass.ensures.common is seen) all
+
+pub returns-then-is_marked-clause-shares : goal.returns-then-is_marked-clause-shares
+returns-then-is_marked-clause-shares g c is there left =
+    absurd (true≢false (sym (sym c.is_marked.ensures.value ∙ c.if-is_marked.true) ∙ left))
+
+pub returns-clause-shares : goal.returns-clause-shares
+returns-clause-shares g c is there left = c.in_ok-pass.ensures.common is
+    (c.in_ok-push.ensures.waits (subst (λ o. IsSome (commit_at o c.args.parent.now))
+    (c.pass.ensures.looks.grows.objects ∙ c.push.ensures.looks.grows.objects) there))
 
 pub returns-then-is_marked-clause-lists : goal.returns-then-is_marked-clause-lists
 returns-then-is_marked-clause-lists g c = c.in_ok-push.ensures.lists refl

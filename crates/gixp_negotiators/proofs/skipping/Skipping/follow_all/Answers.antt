@@ -3,7 +3,7 @@ use Rattle.gixp_negotiators.specs.NewlyCommon.{AllHeld}
 use Rattle.gixp_negotiators.proofs.UnreadLemmas.{unread_same, unread_on, held_first, held_then}
 use Rattle.std.proofs.lemmas.List.Elements.{All-nil}
 use Rattle.gixp_negotiators.proofs.FitLemmas.{counts_all, counts_on, queues_same, queues_on}
-use Rattle.gixp_negotiators.proofs.PassingLemmas.{hands_none, hands_step, hands_all, neither_left, neither_right, taken_more, taken_all, left_more, left_all}
+use Rattle.gixp_negotiators.proofs.PassingLemmas.{hands_none, hands_step, hands_all, neither_left, neither_right, taken_more, taken_all, shares_more, shares_all, left_more, left_all}
 use Rattle.gixp_negotiators.proofs.StepLemmas.{marked_more}
 use Rattle.gixp_negotiators.proofs.LookedLemmas.{looked_none, looked_on, looked_ok, looked_from}
 use Rattle.gixp_negotiators.proofs.skipping.Skipping.follow_all.Goals as goal
@@ -13,6 +13,8 @@ loop-parent-init g c =
     record {
       fits = counts_all _ _ _ _ _ _ _ (λ lost f. f);
       settles = λ e q m. m;
+      common = λ e all. all;
+      shares = λ e. All-nil _;
       lists = λ q m. m;
       pops = λ q m. m;
       unread = unread_same _ _ _ _ refl (λ q m. m);
@@ -37,6 +39,9 @@ loop-parent-preserved g c = record {
       c.follow.new.graph.graph c.loop-parent.invariant.looks.grows c.loop-parent.invariant.unread)
       c.loop-parent.invariant.fits c.in_ok-waits.ensures.fits;
   settles = λ e q m. c.loop-parent.invariant.settles e q (c.in_ok-waits.ensures.settles e q m);
+  common = λ e all. c.in_ok-waits.ensures.common e (c.loop-parent.invariant.common e all);
+  shares = λ e. shares_more c.args.parents.now c.loop-parent.parent-index _ c.loop-parent.graph.graph c.follow.new.graph.graph
+      c.loop-parent-test.true c.follow.ensures.looks.grows (c.loop-parent.invariant.shares e) (c.in_ok-waits.ensures.shares e);
   lists = λ q m. c.loop-parent.invariant.lists q (c.in_ok-waits.ensures.lists q m);
   pops = λ q m. c.loop-parent.invariant.pops q (c.in_ok-waits.ensures.pops q m);
   unread =
@@ -71,6 +76,10 @@ returns-clause-hands g c =
 pub returns-clause-taken : goal.returns-clause-taken
 returns-clause-taken g c e = taken_all c.args.parents.now c.loop-parent.parent-index c.loop-parent.graph.graph c.loop-parent-test.false
     (c.loop-parent.invariant.taken e)
+
+pub returns-clause-shares : goal.returns-clause-shares
+returns-clause-shares g c e = shares_all c.args.parents.now c.loop-parent.parent-index c.loop-parent.graph.graph c.loop-parent-test.false
+    (c.loop-parent.invariant.shares e)
 
 pub returns-clause-left : goal.returns-clause-left
 returns-clause-left g c e = left_all c.args.parents.now c.loop-parent.parent-index c.loop-parent.graph.graph c.loop-parent-test.false

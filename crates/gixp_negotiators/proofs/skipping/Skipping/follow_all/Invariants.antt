@@ -8,8 +8,8 @@ use Rattle.gixp_negotiators.specs.Work.{to_take}
 use Rattle.gixp_negotiators.specs.Marks.{SEEN}
 use Rattle.gixp_negotiators.specs.AddedMarks.{MarksNoCommon, ListsNone, PopsNone}
 use Rattle.gixp_negotiators.specs.CommitMarks.{IsMarkedIfThere}
-use Rattle.gixp_negotiators.specs.Passing.{Hands, AllTaken}
-use Rattle.gixp_negotiators.specs.Queued.{KeepsCount}
+use Rattle.gixp_negotiators.specs.Passing.{Hands, AllTaken, IsCommonIfLeft}
+use Rattle.gixp_negotiators.specs.Queued.{KeepsCount, AllCommon}
 use Rattle.gixp_negotiators.specs.Unread.{KeepsUnread}
 use Rattle.gixp_negotiators.specs.Dated.{QueuesNew}
 use Rattle.gixp_negotiators.proofs.skipping.Skipping.follow_all.Given as goal
@@ -19,6 +19,8 @@ invariant-loop-parent g l = record {
   fits : KeepsCount (AllHeld l.fn.self.unread l.fn.graph.graph l.graph.graph) l.fn.self.uncommon (heap_items l.fn.self.queue.waiting)
       l.fn.graph.graph l.self.uncommon (heap_items l.self.queue.waiting) l.graph.graph;
   settles : l.legacy ≢ Common → MarksNoCommon l.fn.graph.graph l.graph.graph;
+  common : l.legacy ≡ Common → AllCommon l.fn.graph.graph → AllCommon l.graph.graph;
+  shares : l.legacy ≡ Common → All (IsCommonIfLeft l.graph.graph) (take l.parent-index l.parents);
   lists : ListsNone l.fn.graph.graph l.graph.graph;
   pops : PopsNone l.fn.graph.graph l.graph.graph;
   unread : KeepsUnread l.fn.self.unread l.fn.graph.graph l.self.unread l.graph.graph;

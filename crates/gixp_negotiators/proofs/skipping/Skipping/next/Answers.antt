@@ -1,4 +1,4 @@
-use Rattle.std.proofs.Common.{⊎_elim, ◌+◌, refl, subst}
+use Rattle.std.proofs.Common.{◌≡◌, ◌∙◌, ◌<◌, ℕ, ⊎_elim, ◌+◌, ap, arith, refl, subst, sym, true≢false}
 use Rattle.gixp_negotiators.specs.NewlyCommon.{AllHeld}
 use Rattle.gixp_negotiators.proofs.UnreadLemmas.{unread_same, unread_on, held_first, held_then}
 use Rattle.gixp_negotiators.specs.Passing.{TakesUnoffered}
@@ -7,13 +7,19 @@ use Rattle.std.specs.BinaryHeap.{heap_items}
 use Rattle.gixp_negotiators.specs.Queued.{Fits}
 use Rattle.gixp_negotiators.proofs.GrowLemmas.{grows_none}
 use Rattle.gixp_negotiators.proofs.StepLemmas.{offered_since}
-use Rattle.gixp_negotiators.proofs.FitLemmas.{queues_same, queues_on, queues_taken, newest_in, seen_popped, counts_all, counts_on, none_open, none_waits}
+use Rattle.gixp_negotiators.proofs.FitLemmas.{queues_same, queues_on, queues_taken, newest_in, seen_popped, counts_all, counts_on, none_open, none_waits, none_counted}
+use Rattle.gixp_negotiators.proofs.TakeLemmas.{first_common}
 use Rattle.gixp_negotiators.proofs.LookedLemmas.{looked_none, looked_on, looked_ok, looked_from}
 use Rattle.gixp_negotiators.proofs.skipping.Skipping.next.Goals as goal
+
+goes_on : (n : ℕ) → n ≡ 0 → 0 < n → ⊥
+goes_on n e l = omega (arith, e, l)
 
 pub loop-first-init : goal.loop-first-init
 loop-first-init g c = record {
   fits = counts_all _ _ _ _ _ _ _ (λ lost f. f);
+  rests = λ e. (refl, refl);
+  common = λ lost f all. all;
   lists = λ q m. m;
   unread = unread_same _ _ _ _ refl (λ q m. m);
   queues = queues_same _ _ _ refl;
@@ -36,6 +42,11 @@ loop-first-preserved g c = record {
       (AllHeld c.loop-first.self.unread c.loop-first.graph.graph c.take.new.graph.graph) _ _ _ _ _ _ _ _ _ (λ e. e) (λ e. e)
       (counts_all _ _ _ _ _ _ _ (λ lost f. seen_popped lost _ _ _ _ c.in-Some.first c.in-Some.ensures.taken f))
       c.in_ok-take.ensures.fits);
+  rests = λ e. absurd (goes_on c.loop-first.self.uncommon (ap (λ n. n.uncommon) (c.loop-first.invariant.rests e).0 ∙ e)
+      c.in-Some.ensures.open);
+  common = λ lost f all. let x = c.loop-first.invariant.fits lost f in let now = c.loop-first.invariant.common lost f all in
+      c.in_ok-take.ensures.common
+      (first_common (lost + x.0) _ _ _ c.loop-first.graph.graph c.in-Some.first c.in-Some.ensures.taken x.1.1 now) now;
   lists = λ q m. c.loop-first.invariant.lists q (c.in_ok-take.ensures.lists q m);
   unread =
       unread_on _ _ _ _ _ _ c.loop-first.invariant.looks.grows c.take.ensures.looks.grows c.loop-first.invariant.unread
@@ -86,6 +97,29 @@ returns-clause-none g c lost f =
     (subst (λ u. Fits (lost + x.0) u (heap_items c.loop-first.self.queue.waiting) c.loop-first.graph.graph) e x.1.1.fits))
     (λ e. none_waits (lost + x.0) _ _ _ e x.1.1.fits)
     (rw c.in_default.is at c.pop_unless_all_common.ensures.none)
+
+pub returns-then-branch-clause-ends : goal.returns-then-branch-clause-ends
+returns-then-branch-clause-ends g c f all = absurd (goes_on c.loop-first.self.uncommon
+    (ap (λ n. n.uncommon) (c.loop-first.invariant.rests (none_counted _ _ _ f all)).0 ∙ none_counted _ _ _ f all) c.in-Some.ensures.open)
+
+pub returns-clause-ends : goal.returns-clause-ends
+returns-clause-ends g c f all =
+    let none = none_counted _ _ _ f all in
+    let stays = c.loop-first.invariant.rests none in (
+      refl,
+      ap (λ q. record c.loop-first.self { queue = q })
+          (c.pop_unless_all_common.ensures.same (ap (λ n. n.uncommon) stays.0 ∙ none)) ∙ stays.0,
+      stays.1,
+    )
+
+pub returns-then-branch-clause-offers_none : goal.returns-then-branch-clause-offers_none
+returns-then-branch-clause-offers_none g c lost f all =
+    let x = c.loop-first.invariant.fits lost f in
+    absurd (true≢false (sym (first_common (lost + x.0) _ _ _ c.loop-first.graph.graph c.in-Some.first c.in-Some.ensures.taken x.1.1
+    (c.loop-first.invariant.common lost f all)) ∙ (c.in_ok-take.ensures.offered c.if-branch.true).uncommon))
+
+pub returns-clause-offers_none : goal.returns-clause-offers_none
+returns-clause-offers_none g c lost f all = refl
 
 pub returns-clause-fits : goal.returns-clause-fits
 returns-clause-fits g c = rw (rw c.in_default.is at c.pop_unless_all_common.ensures.stays) c.loop-first.invariant.fits

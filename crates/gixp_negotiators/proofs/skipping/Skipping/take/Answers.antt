@@ -9,6 +9,7 @@ use Rattle.gixp_negotiators.specs.CommitMarks.{Claims}
 use Rattle.gixp_negotiators.specs.Queued.{open_one}
 use Rattle.gixp_negotiators.proofs.StepLemmas.{offered, parents_marked}
 use Rattle.gixp_negotiators.proofs.FitLemmas.{seen_taken, seen_spent, released, was_mark, counts_all, counts_on, queues_on, queues_same}
+use Rattle.gixp_negotiators.proofs.TakeLemmas.{common_kept}
 use Rattle.gixp_negotiators.proofs.LookedLemmas.{looked_on, looked_ok, looked_from, looked_failed}
 use Rattle.gixp_negotiators.proofs.skipping.Skipping.take.Goals as goal
 
@@ -68,6 +69,7 @@ pub returns-in_default-clause-takes : goal.returns-in_default-clause-takes
 returns-in_default-clause-takes g c =
     takes_none c.args.self.now.skips.entries c.args.graph.now.graph c.claim.new.graph.graph c.args.first.now.id
     (rw c.in_default.is at (c.in_ok-flags.ensures.spent refl)) (rw c.in_default.is at c.in_ok-flags.ensures.kept)
+    c.claim.ensures.looks.grows (rw c.in_default.is at c.in_ok-flags.ensures.unpopped)
 
 pub returns-clause-takes : goal.returns-clause-takes
 returns-clause-takes g c =
@@ -81,7 +83,20 @@ returns-clause-takes g c =
     c.follow_all.new.self.skips.entries) (ap (λ m. m.entries) c.discount.ensures.skips) c.in_ok-any.ensures.hands)
     c.has-is_common.ensures c.legacy_of.ensures.passes c.legacy_of.ensures.grows c.is_offered.ensures.reached c.in_ok-any.any
     c.is_offered.ensures.passed c.in_ok-any.ensures.taken c.is_offered.ensures.last c.in_ok-any.ensures.left
-    (c.claim.ensures.settles refl) c.in_ok-any.ensures.settles
+    (c.claim.ensures.settles refl) c.in_ok-any.ensures.settles c.claim.ensures.pops_only c.in_ok-any.ensures.pops
+    c.legacy_of.ensures.common c.legacy_of.ensures.listed c.in_ok-any.ensures.shares
+
+pub returns-in_default-clause-common : goal.returns-in_default-clause-common
+returns-in_default-clause-common g c e all = common_kept c.args.graph.now.graph c.claim.new.graph.graph c.claim.ensures.looks.grows
+    (rw c.in_default.is at c.in_ok-flags.ensures.absent).0 all
+
+pub returns-clause-common : goal.returns-clause-common
+returns-clause-common g c e all =
+    let k : Claims POPPED c.args.graph.now.graph c.claim.new.graph.graph c.args.first.now.id c.in-Some.flags =
+    rw c.in-Some.is at c.in_ok-flags.ensures.claimed in
+    c.in_ok-any.ensures.common
+    (c.legacy_of.ensures.common (sym (was_mark POPPED 2 _ c.claim.new.graph.graph _ _ k refl) ∙ e))
+    (common_kept c.args.graph.now.graph c.claim.new.graph.graph c.claim.ensures.looks.grows (c.claim.ensures.sees refl) all)
 
 pub returns-clause-looks : goal.returns-clause-looks
 returns-clause-looks g c = looked_ok (looked_on _ c.in_ok-flags.ensures.looks c.in_ok-any.ensures.looks)
