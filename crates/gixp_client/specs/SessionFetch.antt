@@ -1,5 +1,5 @@
 -- What the fetches of a session promise.
-use Rattle.std.specs.Prelude.{◌≡◌, ◌⊎◌, ℕ, false, List, [], Option, None, Result, Ok}
+use Rattle.std.specs.Prelude.{◌≡◌, ◌⊎◌, ℕ, false, List, [], Option, None, Result, Ok, string_bytes}
 use Rattle.gixp_packetline.specs.Reading.{Reading}
 use Rattle.gixp_hash.specs.declared.object_id.ObjectId.{ObjectId}
 use Rattle.gixp_graph.specs.Object.{Objects}
@@ -12,16 +12,18 @@ use Rattle.gixp_fetch.specs.FetchShallow.{shallow_value, is_change}
 use Rattle.gixp_fetch.specs.Mapped.{Knowledge}
 use Rattle.gixp_fetch.specs.declared.options.Outcome.{Outcome}
 use Rattle.gixp_client.specs.Boundaries.{IsLeftBoundary, IsBoundaryAfter}
-use Rattle.gixp_client.specs.ClientCalls.{CheckedNegotiation, session_call, session_knowledge, FetchesInSession}
+use Rattle.gixp_client.specs.ClientCalls.{CheckedNegotiation, session_call, session_knowledge, FetchesInSession, FailsWithoutAccount, MapsInSession, OpensSession}
 use Rattle.gixp_client.specs.ClientError.{IsUnsent}
 use Rattle.gixp_client.specs.Doubted.{doubted}
 use Rattle.gixp_client.specs.ClientNames.{client_feature, named_by, id_features}
 use Rattle.gixp_client.specs.ClientPromise.{IsRunOrIds}
+use Rattle.gixp_client.specs.SessionRefs.{MapFailsInSession}
 use Rattle.gixp_client.specs.SessionStates.{IsRefusedFetch}
 use Rattle.gixp_client.specs.declared.error.Error.{Error}
 use Rattle.gixp_client.specs.declared.fetched.Fetched.{Fetched}
 use Rattle.gixp_client.specs.declared.request.Request.{Request}
 use Rattle.gixp_client.specs.declared.session.Session.{Session}
+use Rattle.gixp_client.specs.declared.state.State.TheVariants.{AtStop}
 
 module _ {N I A C P X T L S : Type 0} (parties : Parties (CheckedNegotiation N) I A ShallowMemory C P X)
     (converts : X → Error → Type 0) (map_of : CheckedNegotiation N → RefMap) (knows : CheckedNegotiation N → Knowledge)
@@ -69,3 +71,26 @@ module _ {N I A C P X T : Type 0} (parties : Parties (CheckedNegotiation N) I A 
       × IsReached objects tips (doubted request.trusts_objects objects refs received.0.mappings.items) reached
       × IsRunOrIds parties converts map_of knows (client_feature agent) [] request (reading transport) received.0
       (session_knowledge request reached refs) boundary consumer (Ok received.1.outcome) end consumer')
+
+module _ {N I A C P X T L S : Type 0} (parties : Parties (CheckedNegotiation N) I A ShallowMemory C P X)
+    (converts : X → Error → Type 0) (map_of : CheckedNegotiation N → RefMap) (knows : CheckedNegotiation N → Knowledge)
+    (reading : T → Reading) where
+  -- the ref map of an open session failed, and the consumer received nothing; or the map was made, and its fetch failed
+  abbrev pub FailsOpened : Request → Objects → LocalRefs → (tips boundary : List ObjectId) → (opened : Session T L P S) → (consumer consumer' : C)
+      → Error → Type 0
+  FailsOpened request objects refs tips boundary opened consumer consumer' e =
+      ((mapped : Session T L P S) × (consumer' ≡ consumer) × MapFailsInSession parties.plain reading request opened mapped e)
+      ⊎ ((map : RefMap) × (mapped : Session T L P S) × (ended : Session T L P S)
+      × MapsInSession request (named_by opened.name) opened.shaken parties.plain (reading opened.transport.inner)
+      (reading mapped.transport.inner) (Ok map)
+      × (mapped.shaken ≡ record opened.shaken { refs = mapped.shaken.refs }) × (mapped.name ≡ opened.name)
+      × FetchFailsInSession parties converts map_of knows reading map request objects refs tips boundary mapped ended consumer consumer' e)
+
+  -- a session with one fetch failed: in its handshake, after which the consumer received nothing, or later
+  abbrev pub FailsOnce : List ℕ → Request → Objects → LocalRefs → (tips boundary : List ObjectId) → T → (consumer consumer' : C) → Error → Type 0
+  FailsOnce agent request objects refs tips boundary transport consumer consumer' e =
+      ((consumer' ≡ consumer) × FailsWithoutAccount parties.plain (reading transport) e)
+      ⊎ ((opened : Session T L P S)
+      × OpensSession [] parties.plain (reading transport) (reading opened.transport.inner) opened.shaken
+      × (string_bytes opened.name.agent ≡ agent) × (opened.name.session_id ≡ None) × (opened.state ≡ AtStop)
+      × FailsOpened request objects refs tips boundary opened consumer consumer' e)

@@ -9,11 +9,12 @@ use Rattle.gixp_refmap.specs.ListingProgress.{listing_calls, ReportsListedMap}
 use Rattle.gixp_refmap.specs.declared.ls_refs.error.Error.{Error as ListError}
 use Rattle.gixp_refmap.specs.declared.refmap.init.Error.{Error as MapError}
 use Rattle.gixp_refmap.specs.declared.refmap.map.RefMap.{RefMap}
-use Rattle.gixp_client.specs.ClientCalls.{ListsInSession}
+use Rattle.gixp_client.specs.ClientCalls.{ListsInSession, MapsInSession, needs_no_list}
 use Rattle.gixp_client.specs.ClientNames.{named_by}
-use Rattle.gixp_client.specs.ListEnds.{IsUnasked, whole_refs}
-use Rattle.gixp_client.specs.SessionStates.{state_after_refusal}
+use Rattle.gixp_client.specs.ListEnds.{IsUnasked, are_whole, is_lossy, whole_map, whole_refs}
+use Rattle.gixp_client.specs.SessionStates.{state_after_map, state_after_refusal}
 use Rattle.gixp_client.specs.declared.error.Error.{Error}
+use Rattle.gixp_client.specs.declared.request.Request.{Request}
 use Rattle.gixp_client.specs.declared.session.Session.{Session}
 
 module _ {T L P S : Type 0} (plain : Bool) (reading : T → Reading) where
@@ -33,6 +34,15 @@ module _ {T L P S : Type 0} (plain : Bool) (reading : T → Reading) where
       ⊎ ((listed : Result (Vec Ref Global) ListError) × AsksForRefs old new listed
       × (whole_refs listed (is_flush (reading new.transport.inner).stopped) new.transport.observer.lost_white_space ≡ Err e)
       × (new.state ≡ state_after_refusal old.shaken.server_protocol_version e) × (new.shaken ≡ old.shaken))
+
+  -- there is no ref map: nothing was sent, or the map couldn't be made of refs up to a flush packet without a lost name
+  abbrev pub MapFailsInSession : Request → (old new : Session T L P S) → Error → Type 0
+  MapFailsInSession request old new e = ((new ≡ old) × IsUnasked old.state old.shaken.capabilities e)
+      ⊎ ((made : Result RefMap MapError) × MapsInSession request (named_by old.name) old.shaken plain (reading old.transport.inner)
+      (reading new.transport.inner) made
+      × (whole_map made (are_whole (needs_no_list request old.shaken) (reading new.transport.inner).stopped)
+      (is_lossy (needs_no_list request old.shaken) new.transport.observer.lost_white_space) ≡ Err e)
+      × (new.state ≡ state_after_map (needs_no_list request old.shaken) old.shaken.server_protocol_version e))
 
 module _ {P : Type 0} (reported : P → ProgressCall → P → Type 0) where
   -- the calls of the progress reporter for the command `ls-refs`; a list that failed before its command was sent makes none

@@ -1,5 +1,5 @@
 //! A session with one fetch.
-ghost use Rattle.std.specs.Prelude.{IfOk};
+ghost use Rattle.std.specs.Prelude.{IfOk, IfErr};
 
 use crate::error::Error;
 use crate::fetched::Fetched;
@@ -44,7 +44,9 @@ pub fn fetch_once<
 ) -> Result<(RefMap, Fetched), Error>
 where
     C::Error: Into<Error>,
-    ensures { IfOk result (⟦<AnyNegotiator as SessionFetch<'a, T, L, Discard, F, R, C>>⟧.succeeds_once agent.now
+    ensures fetched { IfOk result (⟦<AnyNegotiator as SessionFetch<'a, T, L, Discard, F, R, C>>⟧.succeeds_once agent.now
+        repository.entry request.now transport pack.old pack.new) }
+    ensures refused { IfErr result (⟦<AnyNegotiator as SessionFetch<'a, T, L, Discard, F, R, C>>⟧.fails_once agent.now
         repository.entry request.now transport pack.old pack.new) }
 {
     let mut negotiator = request.algorithm.negotiator(alloc);
@@ -85,7 +87,9 @@ pub fn fetch_once_with<
 ) -> Result<(RefMap, Fetched), Error>
 where
     C::Error: Into<Error>,
-    ensures { IfOk result (⟦<N as SessionFetch<'a, T, L, Discard, F, R, C>>⟧.succeeds_once agent.now
+    ensures fetched { IfOk result (⟦<N as SessionFetch<'a, T, L, Discard, F, R, C>>⟧.succeeds_once agent.now
+        repository.entry request.now transport pack.old pack.new) }
+    ensures refused { IfErr result (⟦<N as SessionFetch<'a, T, L, Discard, F, R, C>>⟧.fails_once agent.now
         repository.entry request.now transport pack.old pack.new) }
 {
     let mut session = Session::open(alloc, transport, agent, listener)?;

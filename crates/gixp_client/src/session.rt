@@ -1,10 +1,8 @@
 //! A session with a server.
-ghost use Rattle.std.specs.Prelude.{◌≡◌, ◌≢◌, ◌⊎◌, ◌&&◌, true, false, [], Some, None, Ok, Err, IfOk, IfErr, OnOk, OnErr, MatchResult, is_some, string_bytes, Result};
+ghost use Rattle.std.specs.Prelude.{◌≡◌, ◌≢◌, ◌&&◌, true, false, [], Some, None, Ok, Err, IfOk, IfErr, OnOk, OnErr, MatchResult, is_some, string_bytes, Result};
 ghost use Rattle.std.specs.Option.{option_map};
 ghost use Rattle.gixp_transport.specs.declared.service.Service.TheVariants.{UploadPack};
 ghost use Rattle.gixp_transport.specs.Greeting.{parameters_of};
-ghost use Rattle.gixp_refmap.specs.declared.refmap.init.Error.{Error as MapError};
-ghost use Rattle.gixp_refmap.specs.declared.refmap.map.RefMap.{RefMap as MadeMap};
 ghost use Rattle.gixp_response.specs.Sections.{is_flush};
 ghost use Rattle.gixp_refmap.specs.Mapping.{unknown_format};
 ghost use Rattle.gixp_handshake.specs.HandshakeValues.{refs_value};
@@ -12,9 +10,8 @@ ghost use Rattle.gixp_handshake.specs.ShakeProgress.{ReportsHandshake};
 ghost use Rattle.gixp_client.specs.ClientCalls.{OpensSession, FailsToOpen, FailsWithoutAccount, GivesRefs, MapsInSession, ClosesSession, needs_no_list};
 ghost use Rattle.gixp_client.specs.ClientNames.{is_session_id, named_by};
 ghost use Rattle.gixp_client.specs.Filters.{offers_filter};
-ghost use Rattle.gixp_client.specs.ListEnds.{IsUnasked, are_whole, is_lossy, whole_map};
-ghost use Rattle.gixp_client.specs.SessionRefs.{KeepsListedRefs, ListFailsInSession, ReportsAsked, ReportsMap};
-ghost use Rattle.gixp_client.specs.SessionStates.{state_after_map};
+ghost use Rattle.gixp_client.specs.ListEnds.{IsUnasked, are_whole, is_lossy};
+ghost use Rattle.gixp_client.specs.SessionRefs.{KeepsListedRefs, ListFailsInSession, MapFailsInSession, ReportsAsked, ReportsMap};
 ghost use Rattle.gixp_client.specs.declared.session.Session.{Session as AnySession};
 
 use crate::by_id::{are_ids, seen_refs};
@@ -396,12 +393,7 @@ impl<T: Transport + Drop, L: Listener + Drop, P: NestedProgress + Drop> Session<
             ≡ false) }
         ensures format { OnOk result (unknown_format self.old.shaken.capabilities ≡ None) }
         ensures other { unknown_format self.old.shaken.capabilities ≢ None → self.new ≡ self.old }
-        ensures refused { IfErr result (λ e. ((self.new ≡ self.old) × IsUnasked self.old.state self.old.shaken.capabilities e)
-            ⊎ ((made : Result MadeMap MapError) × MapsInSession request.now (named_by self.old.name)
-            self.old.shaken T.is_plain (T.reading self.old.transport.inner) (T.reading self.new.transport.inner) made
-            × (whole_map made (are_whole (needs_no_list request.now self.old.shaken) (T.reading self.new.transport.inner).stopped)
-            (is_lossy (needs_no_list request.now self.old.shaken) self.new.transport.observer.lost_white_space) ≡ Err e)
-            × (self.new.state ≡ state_after_map (needs_no_list request.now self.old.shaken) self.old.shaken.server_protocol_version e))) }
+        ensures refused { IfErr result (MapFailsInSession T.is_plain T.reading request.now self.old self.new) }
         ensures stays { OnOk result (self.new.state ≡ self.old.state) }
         ensures report { IfOk result (λ m. ReportsMap P.reported (needs_no_list request.now self.old.shaken) self.old.progress
             (Ok m) self.new.progress) }

@@ -2,7 +2,7 @@
 ghost use Rattle.std.specs.Prelude.{ℕ, List};
 ghost use Rattle.gixp_refmap.specs.declared.refmap.map.RefMap.{RefMap};
 ghost use Rattle.gixp_fetch.specs.Fetch.{parties_of};
-ghost use Rattle.gixp_client.specs.SessionFetch.{FetchSucceedsInSession, FetchFailsInSession, FetchesOnce};
+ghost use Rattle.gixp_client.specs.SessionFetch.{FetchSucceedsInSession, FetchFailsInSession, FetchesOnce, FailsOnce};
 ghost use Rattle.gixp_client.specs.declared.error.Error.{Error as SessionError};
 ghost use Rattle.gixp_client.specs.declared.fetched.Fetched.{Fetched};
 ghost use Rattle.gixp_client.specs.declared.repository.Repository.{Repository};
@@ -43,6 +43,9 @@ pub trait SessionFetch<
     /// A session with one fetch: the agent, the repository, the request; the transport; the consumer before and after it; the map
     /// and its result.
     ghost succeeds_once: { List ℕ → Repository F R → Request → T → C → C → RefMap × Fetched → Type 0 };
+
+    /// Such a session that failed, in the same order, with its error.
+    ghost fails_once: { List ℕ → Repository F R → Request → T → C → C → SessionError → Type 0 };
 }
 
 impl<
@@ -81,4 +84,12 @@ where
         ⟦<SessionNegotiation<'a, Reached<'a, F>, R, N> as NegotiatesMap>⟧.map_of ⟦<SessionNegotiation<'a, Reached<'a, F>, R, N> as NegotiatesMap>⟧.knows
         T.reading agent request (F.contents repository.objects.now) (R.refs repository.refs.now) (R.targets repository.refs.now) repository.boundary.now
         transport pack pack' received };
+
+    ghost fails_once = { λ agent repository request transport pack pack' e. FailsOnce {L = L} {S = P.SubProgress}
+        (parties_of ⟦<SessionNegotiation<'a, Reached<'a, F>, R, N> as Negotiate>⟧.calls ⟦<ShallowMemory as ShallowStore>⟧.calls
+        ⟦<NeverInterrupt as Interrupt>⟧.polls C.consumes T.is_plain)
+        ⟦<C::Error as Into<Error>>⟧.converts
+        ⟦<SessionNegotiation<'a, Reached<'a, F>, R, N> as NegotiatesMap>⟧.map_of ⟦<SessionNegotiation<'a, Reached<'a, F>, R, N> as NegotiatesMap>⟧.knows
+        T.reading agent request (F.contents repository.objects.now) (R.refs repository.refs.now) (R.targets repository.refs.now) repository.boundary.now
+        transport pack pack' e };
 }

@@ -2,8 +2,8 @@ use Rattle.std.proofs.Common.{inl, inr}
 use Rattle.gixp_client.proofs.PromiseLemmas.{named_run}
 use Rattle.gixp_client.proofs.once.fetch_once_with.Goals as goal
 
-pub returns : goal.returns
-returns g c = elim c.in_ok-fetched.ensures.fetched [
+pub returns-clause-fetched : goal.returns-clause-fetched
+returns-clause-fetched g c = elim c.in_ok-fetched.ensures.fetched [
   | inl h ↦ inl (h.0, h.1, h.3)
   | inr f ↦ inr (
     f.1.reached,
