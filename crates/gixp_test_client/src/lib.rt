@@ -25,4 +25,6 @@ mod servers;
 #[cfg(test)]
 mod sessions;
 #[cfg(test)]
+mod unreached;
+#[cfg(test)]
 mod unreadable;
