@@ -2,6 +2,7 @@
 
 The server refuses a capability that it doesn't offer, and a `want` line after a line of a depth."""
 import contextlib
+import itertools
 import pathlib
 import shlex
 import sys
@@ -18,6 +19,8 @@ WITHOUT = {
     "both": f"multi_ack_detailed {BANDS}", "all": f"multi_ack_detailed multi_ack {BANDS} include-tag agent thin-pack ofs-delta no-progress",
     "include-tag": "include-tag", "side-band-64k": "side-band-64k", "nothing": "",
 }
+# git's errors for a server that closes its connection
+HANG_UPS = ("fatal: Could not read from remote repository.", "fatal: the remote end hung up unexpectedly")
 # the versions that a client requests, and that the server then speaks
 VERSIONS = {"version 0": ("0", "0"), "version 1": ("1", "1"), "version 0 in place of 2": ("2", "0"), "version 0 in place of 1": ("1", "0")}
 
@@ -127,11 +130,25 @@ def few_objects(name, t, without):
     t.check(name, status == 0 and is_clean(t, by_us)[0] and int(found["in-pack"]) <= int(whole) + 4, f"{status} {err} {packs} {whole}")
 
 
+def one_write(t):
+    """A hook for the server: it passes on a pack in one write."""
+    hook, said = t.folder("hook"), t.folder("pack")
+    hook.write_text(f'#!/bin/sh\n"$@" > "{said}-$$" && cat "{said}-$$"\n')
+    hook.chmod(0o755)
+    return hook
+
+
+def is_found_by_us(err):
+    """Whether the helper found it. git would find a cut pack or missing objects too, and the server prints its progress."""
+    return any(line.startswith("git-remote-gixp: ") or line in HANG_UPS for line in err.splitlines())
+
+
 def cut(name, t, without, action):
     """A server that dies: in its list, after it, in its acknowledgements, in the pack. Nothing is kept."""
     server, sent = served(t), t.folder("sent")
-    # threads make packs of different sizes
+    # threads make packs of different sizes, and a pack in several writes has more packets
     t.git("config", "pack.threads", "1", at=server)
+    t.git("config", "--global", "uploadpack.packObjectsHook", one_write(t))
     more, _ = plain(without, SENT=sent)
     whole = t.folder("whole")
     t.run("git", "clone", "-q", f"gixp::ssh://host{server}", whole, more=more)
@@ -155,7 +172,8 @@ def cut(name, t, without, action):
             before = t.git("count-objects", "-v", at=by_us), t.git("for-each-ref", at=by_us)
             status, out, err = t.run("git", "fetch", "-q", f"gixp::ssh://host{server}", "main:refs/x/cut", at=by_us, more=cut)
             is_same = before == (t.git("count-objects", "-v", at=by_us), t.git("for-each-ref", at=by_us))
-        t.check(f"{name} at {most} of {first}, {last}", status not in (0, -1) and err and is_same and leaves_nothing(t), f"{status} {err}")
+        t.check(f"{name} at {most} of {first}, {last}",
+                status not in (0, -1) and is_found_by_us(err) and is_same and leaves_nothing(t), f"{status} {is_same} {err}")
 
 
 def requests(name, t):
@@ -172,6 +190,29 @@ def requests(name, t):
         wanted = ["multi_ack_detailed"] if "multi_ack_detailed" not in lacking else [] if "multi_ack" in lacking else ["multi_ack"]
         t.check(f"{name}: {without}", status == 0 and kinds == sorted(kinds, key=["want", "shallow", "deepen"].index)
                 and acknowledges == wanted and not set(lacking) & set(words), f"{status} {err} {lines}")
+
+
+def lines_of_fetch(t, server, client, without, to):
+    """The first words of the lines of a fetch into a shallow repository, with a depth and a filter."""
+    request = t.folder("request")
+    more, asked = plain(without, REQUEST=request)
+    t.git("clone", "-q", "--bare", "--depth=2", "--no-single-branch", f"file://{server}", client)
+    # git may fail after its request: it takes one acknowledgement from a server without `multi_ack`
+    t.run("git", "-c", f"protocol.version={asked}", "fetch", "-q", "--shallow-since=1700000900", "--shallow-exclude=light",
+          "--filter=blob:none", to, "+refs/heads/*:refs/x/*", at=client, more={"GIXP_VERSION": asked, **more})
+    return [line.split()[0] for line in request.read_text().split("\n\n")[0].splitlines()]
+
+
+def orders(name, t):
+    """The lines of the boundary, of a depth and of a filter come after all wants, in git's order."""
+    for without in WITHOUT:
+        server = served(t)
+        sent = [lines_of_fetch(t, server, t.folder(who), without, f"{front}ssh://host{server}")
+                for who, front in (("git", ""), ("us", "gixp::"))]
+        # git repeats the want of a commit with several names
+        by_git, by_us = ([word for word, _ in itertools.groupby(words)] for words in sent)
+        is_whole = sorted(by_git) == ["deepen-not", "deepen-since", "filter", "shallow", "want"] and sent[1].count("want") > 1
+        t.check(f"{name}: {without}", is_whole and by_us == by_git, f"git {sent[0]}, ours {sent[1]}")
 
 
 @contextlib.contextmanager
@@ -217,3 +258,4 @@ def try_plain(t):
         for action in ("clone", "fetch"):
             t.case(f"plain: {action} without {without} from a server that dies", cut, without, action)
     t.case("plain: requests", requests)
+    t.case("plain: the order of a request's lines", orders)

@@ -58,12 +58,12 @@ class Server:
         self.git = subprocess.Popen(["git", "upload-pack", path], stdin=subprocess.PIPE, stdout=subprocess.PIPE, env=environment)
 
     def tell(self, said):
-        """Sends bytes. Dies after the last of them that it may send."""
+        """Sends bytes. Dies after the last of them that it may send, without an error: over a socket a client gets no exit status."""
         self.taken.write(said[:self.left])
         self.taken.flush()
         self.left, self.sent = self.left - len(said), self.sent + len(said)
         if self.left <= 0:
-            self.end(1)
+            self.end(0)
 
     def end(self, status):
         self.git.kill()
