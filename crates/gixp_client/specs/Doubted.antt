@@ -21,8 +21,8 @@ doubted true objects refs ms = []
 doubted false objects refs ms = filter_map (doubted_id objects refs) ms
 
 -- the repository couldn't be read, which is read only if its objects aren't trusted
-abbrev pub IsUnread : (trusts : Bool) → Error → Type 0
-IsUnread trusts (UnreadObjects e) = trusts ≡ false
-IsUnread trusts (UnreadRefs e) = trusts ≡ false
-IsUnread trusts Memory = ⊤
-IsUnread trusts _ = ⊥
+abbrev pub IsReadFailure : (trusts : Bool) → Error → Type 0
+IsReadFailure trusts (UnreadObjects e) = trusts ≡ false
+IsReadFailure trusts (UnreadRefs e) = trusts ≡ false
+IsReadFailure trusts Memory = ⊤
+IsReadFailure trusts _ = ⊥

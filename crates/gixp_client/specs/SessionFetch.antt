@@ -5,7 +5,7 @@ use Rattle.gixp_hash.specs.declared.object_id.ObjectId.{ObjectId}
 use Rattle.gixp_graph.specs.Object.{Objects}
 use Rattle.gixp_negotiate.specs.Marking.{LocalRefs}
 use Rattle.gixp_refmap.specs.declared.refmap.map.RefMap.{RefMap}
-use Rattle.gixp_reachable.specs.Reached.{IsReached}
+use Rattle.gixp_reachable.specs.Reached.{ShowsReached}
 use Rattle.gixp_shallow.specs.declared.store.memory.ShallowMemory.{ShallowMemory}
 use Rattle.gixp_fetch.specs.Fetch.{Parties}
 use Rattle.gixp_fetch.specs.FetchShallow.{shallow_value, is_change}
@@ -34,7 +34,7 @@ module _ {N I A C P X T L S : Type 0} (parties : Parties (CheckedNegotiation N) 
       (old new : Session T L P S) (consumer consumer' : C) (report : Result (Option Outcome) Error) : Type 0 where
     -- the objects that the fetch takes as complete
     pub reached : Objects
-    pub reaches : IsReached objects tips (doubted request.trusts_objects objects refs map.mappings.items) reached
+    pub reaches : ShowsReached objects tips (doubted request.trusts_objects objects refs map.mappings.items) reached
     pub call : FetchesInSession parties converts map_of knows
         (session_call old.shaken (named_by old.name) (id_features old.shaken.capabilities old.name.session_id) request) map
         (session_knowledge request reached refs) boundary boundary' (reading old.transport.inner) consumer report
@@ -68,7 +68,7 @@ module _ {N I A C P X T : Type 0} (parties : Parties (CheckedNegotiation N) I A 
   FetchesOnce agent request objects refs tips boundary transport consumer consumer' received =
       ((received.0.mappings.items ≡ []) × (received.1.outcome ≡ None) × (consumer' ≡ consumer))
       ⊎ ((reached : Objects) × (end : Reading)
-      × IsReached objects tips (doubted request.trusts_objects objects refs received.0.mappings.items) reached
+      × ShowsReached objects tips (doubted request.trusts_objects objects refs received.0.mappings.items) reached
       × IsRunOrIds parties converts map_of knows (client_feature agent) [] request (reading transport) received.0
       (session_knowledge request reached refs) boundary consumer (Ok received.1.outcome) end consumer')
 

@@ -1,8 +1,8 @@
 //! Which objects of the repository a fetch takes as complete.
 ghost use Rattle.std.specs.Prelude.{◌≡◌, IfOk, IfErr};
 ghost use Rattle.std.specs.List.{filter_map};
-ghost use Rattle.gixp_client.specs.Doubted.{doubted_id, doubted, IsUnread};
-ghost use Rattle.gixp_reachable.specs.Reached.{IsReached};
+ghost use Rattle.gixp_client.specs.Doubted.{doubted_id, doubted, IsReadFailure};
+ghost use Rattle.gixp_reachable.specs.Reached.{ShowsReached};
 
 use crate::error::Error;
 use gixp_graph::{Find, RefStore};
@@ -53,10 +53,10 @@ pub(crate) fn reached<'a, F: Find, R: RefStore>(
     map: &RefMap,
     trusts: bool,
 ) -> Result<Reached<'a, F>, Error>
-    ensures shown { IfOk result (λ r. IsReached (F.contents objects.now) (R.targets refs.old)
+    ensures shown { IfOk result (λ r. ShowsReached (F.contents objects.now) (R.targets refs.old)
         (doubted trusts (F.contents objects.now) (R.refs refs.old) map.now.mappings.items) (⟦<Reached<'a, F> as Find>⟧.contents r)) }
     ensures refs { R.refs refs.new ≡ R.refs refs.old }
-    ensures refused { IfErr result (IsUnread trusts) }
+    ensures refused { IfErr result (IsReadFailure trusts) }
 {
     if trusts {
         return Ok(Reached::all(alloc, objects));

@@ -7,7 +7,7 @@ ghost use Rattle.gix_protocol.specs.ClientNames.{client_feature};
 ghost use Rattle.gix_protocol.specs.ClientPromise.{IsRunOrIds};
 ghost use Rattle.gix_protocol.specs.Doubted.{doubted};
 ghost use Rattle.gix_protocol.specs.Object.{Objects};
-ghost use Rattle.gix_protocol.specs.Reached.{IsReached};
+ghost use Rattle.gix_protocol.specs.Reached.{ShowsReached};
 
 use gix_protocol::client::{
     Error, Fetched, Repository, Request, SessionNegotiation, Silent, fetch_once,
@@ -32,7 +32,7 @@ pub fn promised_fetch<'a, T: Transport + Drop, W: Write>(
 ) -> Result<(RefMap, Fetched), Error>
     ensures { IfOk result (λ received. ((received.0.mappings.items ≡ []) × (received.1.outcome ≡ None) × (pack.new ≡ pack.old))
         ⊎ ((reached : Objects) × (end : Reading)
-        × IsReached (⟦<StoredObjects as Find>⟧.contents repository.entry.objects.now) (⟦<StoredRefs as RefStore>⟧.targets repository.entry.refs.now)
+        × ShowsReached (⟦<StoredObjects as Find>⟧.contents repository.entry.objects.now) (⟦<StoredRefs as RefStore>⟧.targets repository.entry.refs.now)
         (doubted request.now.trusts_objects (⟦<StoredObjects as Find>⟧.contents repository.entry.objects.now)
         (⟦<StoredRefs as RefStore>⟧.refs repository.entry.refs.now) received.0.mappings.items) reached
         × IsRunOrIds

@@ -30,6 +30,6 @@ HidesUnreached objects tips doubted hidden = (id : ObjectId) → IsTrue (hidden 
 abbrev pub without : Objects → (ObjectId → Bool) → Objects
 without objects hidden = finite.retain_keys objects (λ id. not (hidden id))
 
-abbrev pub IsReached : Objects → (tips doubted : List ObjectId) → Objects → Type 0
-IsReached objects tips doubted reached = (hidden : ObjectId → Bool) × HidesUnreached objects tips doubted hidden
+abbrev pub ShowsReached : Objects → (tips doubted : List ObjectId) → Objects → Type 0
+ShowsReached objects tips doubted reached = (hidden : ObjectId → Bool) × HidesUnreached objects tips doubted hidden
     × (reached ≡ without objects hidden)

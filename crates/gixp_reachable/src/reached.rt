@@ -4,7 +4,7 @@ ghost use Rattle.std.specs.BTreeSet.{contains};
 ghost use Rattle.gixp_hash.specs.ObjectId.{id_cmp};
 ghost use Rattle.gixp_hash.specs.declared.object_id.ObjectId.{ObjectId as Id};
 ghost use Rattle.gixp_graph.specs.GraphData.{is_marked};
-ghost use Rattle.gixp_reachable.specs.Reached.{earlier, oldest_of, without, IsReached};
+ghost use Rattle.gixp_reachable.specs.Reached.{earlier, oldest_of, without, ShowsReached};
 
 use crate::ids::set_of;
 use gixp_graph::{CommitData, Find, Flags, Graph, ObjectError, ObjectKind, Shared};
@@ -56,7 +56,7 @@ fn oldest_of<F: Find>(
 impl<'a, F: Find> Reached<'a, F> {
     /// All objects. No id is in doubt.
     pub fn all(alloc: Global, objects: &'a F) -> Reached<'a, F>
-        ensures { (tips : List Id) → IsReached (F.contents objects.now) tips [] (⟦<Reached<'a, F> as Find>⟧.contents result) }
+        ensures { (tips : List Id) → ShowsReached (F.contents objects.now) tips [] (⟦<Reached<'a, F> as Find>⟧.contents result) }
     {
         Reached {
             objects,
@@ -81,7 +81,7 @@ impl<'a, F: Find> Reached<'a, F> {
         tips: &[ObjectId],
         doubted: &[ObjectId],
     ) -> Result<Reached<'a, F>, ObjectError>
-        ensures { IfOk result (λ r. IsReached (F.contents objects.now) tips.now doubted.now (⟦<Reached<'a, F> as Find>⟧.contents r)) }
+        ensures { IfOk result (λ r. ShowsReached (F.contents objects.now) tips.now doubted.now (⟦<Reached<'a, F> as Find>⟧.contents r)) }
     {
         let oldest = oldest_of(alloc, objects, doubted)?;
         let mut graph = Graph::new(alloc, Shared::new(objects));

@@ -7,7 +7,7 @@ ghost use Rattle.gixp_client.specs.ClientNames.{client_feature};
 ghost use Rattle.gixp_client.specs.ClientPromise.{IsRunOrIds};
 ghost use Rattle.gixp_client.specs.Doubted.{doubted};
 ghost use Rattle.gixp_graph.specs.Object.{Objects};
-ghost use Rattle.gixp_reachable.specs.Reached.{IsReached};
+ghost use Rattle.gixp_reachable.specs.Reached.{ShowsReached};
 
 use crate::fetches::branches;
 use crate::servers::{GREETING, PACK, REFS, server};
@@ -40,7 +40,7 @@ fn fetch_leniently<'a, T: Transport + Drop, W: Write>(
 ) -> Result<(RefMap, Fetched), Error>
     ensures { IfOk result (λ received. ((received.0.mappings.items ≡ []) × (received.1.outcome ≡ None) × (pack.new ≡ pack.old))
         ⊎ ((reached : Objects) × (end : Reading)
-        × IsReached (⟦<StoredObjects as Find>⟧.contents repository.entry.objects.now) (⟦<StoredRefs as RefStore>⟧.targets repository.entry.refs.now)
+        × ShowsReached (⟦<StoredObjects as Find>⟧.contents repository.entry.objects.now) (⟦<StoredRefs as RefStore>⟧.targets repository.entry.refs.now)
         (doubted request.now.trusts_objects (⟦<StoredObjects as Find>⟧.contents repository.entry.objects.now)
         (⟦<StoredRefs as RefStore>⟧.refs repository.entry.refs.now) received.0.mappings.items) reached
         × IsRunOrIds

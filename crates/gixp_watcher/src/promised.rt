@@ -7,7 +7,7 @@ ghost use Rattle.gix_protocol.specs.ClientNames.{client_feature};
 ghost use Rattle.gix_protocol.specs.ClientPromise.{IsRunOrIds};
 ghost use Rattle.gix_protocol.specs.Doubted.{doubted};
 ghost use Rattle.gix_protocol.specs.Object.{Objects};
-ghost use Rattle.gix_protocol.specs.Reached.{IsReached};
+ghost use Rattle.gix_protocol.specs.Reached.{ShowsReached};
 
 use crate::objects::SortedObjects;
 use crate::pack::{LimitedPack, PackTooLarge};
@@ -15,7 +15,9 @@ use crate::refs::SortedRefs;
 use gix_protocol::client::{
     Error, Fetched, Repository, Request, SessionNegotiation, Silent, fetch_once,
 };
-use gix_protocol::fetch::negotiate::{AnyNegotiator, Find, Negotiate, NegotiatesMap, Reached, RefStore};
+use gix_protocol::fetch::negotiate::{
+    AnyNegotiator, Find, Negotiate, NegotiatesMap, Reached, RefStore,
+};
 use gix_protocol::fetch::{ConsumePack, RefMap, ShallowMemory, ShallowStore};
 use gix_protocol::transport::{Discard, Interrupt, NeverInterrupt, Transport};
 use std::alloc::Global;
@@ -33,7 +35,7 @@ pub fn promised_fetch<'a, T: Transport + Drop, W: Write>(
 ) -> Result<(RefMap, Fetched), Error>
     ensures { IfOk result (λ received. ((received.0.mappings.items ≡ []) × (received.1.outcome ≡ None) × (pack.new ≡ pack.old))
         ⊎ ((reached : Objects) × (end : Reading)
-        × IsReached (⟦<SortedObjects as Find>⟧.contents repository.entry.objects.now) (⟦<SortedRefs as RefStore>⟧.targets repository.entry.refs.now)
+        × ShowsReached (⟦<SortedObjects as Find>⟧.contents repository.entry.objects.now) (⟦<SortedRefs as RefStore>⟧.targets repository.entry.refs.now)
         (doubted request.now.trusts_objects (⟦<SortedObjects as Find>⟧.contents repository.entry.objects.now)
         (⟦<SortedRefs as RefStore>⟧.refs repository.entry.refs.now) received.0.mappings.items) reached
         × IsRunOrIds
