@@ -3,6 +3,8 @@ pub mod RunLemmas
 pub mod CloneLemmas
 pub mod ShownLemmas
 pub mod ChangeLemmas
+pub mod DoubtLemmas
+pub mod FailureLemmas
 pub mod MapLemmas
 pub mod SpecLemmas
 pub mod ArgumentLemmas

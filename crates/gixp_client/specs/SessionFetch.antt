@@ -72,7 +72,7 @@ module _ {N I A C P X T : Type 0} (parties : Parties (CheckedNegotiation N) I A 
       × IsRunOrIds parties converts map_of knows (client_feature agent) [] request (reading transport) received.0
       (session_knowledge request reached refs) boundary consumer (Ok received.1.outcome) end consumer')
 
-module _ {N I A C P X T L S : Type 0} (parties : Parties (CheckedNegotiation N) I A ShallowMemory C P X)
+module _ {N I A C P X T : Type 0} (L S : Type 0) (parties : Parties (CheckedNegotiation N) I A ShallowMemory C P X)
     (converts : X → Error → Type 0) (map_of : CheckedNegotiation N → RefMap) (knows : CheckedNegotiation N → Knowledge)
     (reading : T → Reading) where
   -- the ref map of an open session failed, and the consumer received nothing; or the map was made, and its fetch failed

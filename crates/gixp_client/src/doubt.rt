@@ -62,7 +62,7 @@ pub(crate) fn reached<'a, F: Find, R: RefStore>(
         return Ok(Reached::all(alloc, objects));
     }
     let doubted = doubted_ids(alloc, objects, &*refs, &map.mappings)?;
-    if doubted.is_empty() {
+    if doubted.as_slice().is_empty() {
         return Ok(Reached::all(alloc, objects));
     }
     let tips = refs.peeled(alloc)?;

@@ -85,7 +85,7 @@ where
         T.reading agent request (F.contents repository.objects.now) (R.refs repository.refs.now) (R.targets repository.refs.now) repository.boundary.now
         transport pack pack' received };
 
-    ghost fails_once = { λ agent repository request transport pack pack' e. FailsOnce {L = L} {S = P.SubProgress}
+    ghost fails_once = { λ agent repository request transport pack pack' e. FailsOnce L P.SubProgress
         (parties_of ⟦<SessionNegotiation<'a, Reached<'a, F>, R, N> as Negotiate>⟧.calls ⟦<ShallowMemory as ShallowStore>⟧.calls
         ⟦<NeverInterrupt as Interrupt>⟧.polls C.consumes T.is_plain)
         ⟦<C::Error as Into<Error>>⟧.converts
