@@ -4,10 +4,10 @@ use gixp_hash::ObjectId;
 /// The repository that fetches, borrowed for one fetch.
 #[derive(Drop)]
 pub struct Repository<'a, F, R> {
-    /// Its objects. The fetch takes an object as complete, with everything it reaches, only if a ref reaches it: an interrupted fetch
-    /// may have left a commit without its history. An object that the server offers counts as missing, unless the local ref of its
-    /// mapping has its id, or it is a commit that the refs reach through commits that aren't older than the oldest one in doubt. The
-    /// history is read only for that, and only if an offered object is in doubt. `Request::trusts_objects` turns this off.
+    /// Its objects. After an interrupted fetch there may be a commit without its history, which no ref reaches. So an object that the
+    /// server offers counts as missing, although it exists, unless the local ref of its mapping has its id, or the refs reach it as a
+    /// commit. If an object is in doubt, the fetch reads the history down to the oldest commit in doubt. Each other object counts as
+    /// complete, with everything that it reaches. `Request::trusts_objects` turns the check off.
     pub objects: &'a F,
     /// Its refs.
     pub refs: &'a mut R,

@@ -48,9 +48,9 @@ pub struct Request {
     /// Whether the server may send a thin pack, whose deltas may have a base that the pack lacks (gitprotocol-capabilities,
     /// "thin-pack"). Turn it off if nothing adds such bases, as `git index-pack --fix-thin` does. The default is true.
     pub wants_thin_pack: bool,
-    /// Whether every object that exists in the repository counts as complete, with everything that it reaches. If not, an offered
-    /// object counts as missing if no ref of the repository reaches it, as after an interrupted fetch ([`Repository::objects`](
-    /// crate::Repository::objects)). Turn it on if the repository shows only what its refs reach. The default is false.
+    /// Whether every object that exists in the repository counts as complete, with everything that it reaches. If not, the fetch
+    /// checks the offered objects, as [`Repository::objects`](crate::Repository::objects) says. Turn it on if the repository shows
+    /// only what its refs reach. The default is false.
     pub trusts_objects: bool,
     /// The protocols of the URIs that the server may send in place of objects in its pack (gitprotocol-v2, "packfile-uris"). The
     /// transport has to remove the section `packfile-uris` from the response, since a fetch rejects it. The default is none.
