@@ -2,12 +2,12 @@
 use Rattle.std.specs.Prelude.{◌≡◌, true, List, None, Ok, map}
 use Rattle.bstr.specs.Owned.{bstring_bytes}
 use Rattle.bstr.specs.declared.bstring.BString.{BString}
-use Rattle.gix_protocol.specs.Requests.{spelled}
 use Rattle.gix_protocol.specs.Spec.{spec_of}
 use Rattle.gix_protocol.specs.RefSpec.{owned_value_of}
 use Rattle.gix_protocol.specs.RefSpecType.{RefSpec}
 use Rattle.gix_protocol.specs.RequestType.{Request}
 use Rattle.gix_protocol.specs.UriProtocolsType.TheVariants.{Neither}
+use Rattle.gixp_refspec.specs.Spelling.{spelled}
 use Rattle.gixp_negotiators.specs.declared.algorithm.Algorithm.TheVariants.{Consecutive}
 
 -- refspecs are those of the texts, one for each, in their order; a source that is `@` alone means `HEAD`
